@@ -1,0 +1,4 @@
+pub mod Depths
+pub mod Scanning
+pub mod Spelling
+pub mod Uniqueness

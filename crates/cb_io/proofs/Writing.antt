@@ -1,0 +1,41 @@
+-- A piece that is written in several calls.
+use Rattle.std.proofs.Common.{◌≡◌, ℕ, ◌-◌, ◌^◌, ◌<◌, ◌≤◌, List, [], ◌++◌, take, drop, Option, Some, None, refl, sym, ◌∙◌, ap, arith, append_assoc, append-nil, take-append-drop}
+use Rattle.std.specs.Io.KnownBytes.{Appends, Keeps}
+
+-- so far `done` of the bytes was taken, `rest` is left, and no call has failed
+pub record Written (old new : Option (List ℕ)) (before now : ℕ) (bytes rest : List ℕ) : Type 0 where
+  pub done : List ℕ
+  pub whole : bytes ≡ done ++ rest
+  pub taken : Appends old new done
+  pub never_falls : before ≤ now
+  pub unfailed : before < 2 ^ 64 - 1 → now ≤ before
+
+-- what was taken in two calls
+pub Appends-Appends : (old mid new : Option (List ℕ)) (xs ys : List ℕ) → Appends old mid xs → Appends mid new ys → Appends old new (xs ++ ys)
+Appends-Appends None mid new xs ys first second = tt
+Appends-Appends (Some old) None new xs ys first second = absurd first
+Appends-Appends (Some old) (Some mid) None xs ys first second = absurd second
+Appends-Appends (Some old) (Some mid) (Some new) xs ys first second = second ∙ ap (λ m. m ++ ys) first ∙ append_assoc old xs ys
+
+-- nothing more was taken
+pub Appends-Keeps : (old mid new : Option (List ℕ)) (xs : List ℕ) → Appends old mid xs → Keeps mid new → Appends old new xs
+Appends-Keeps None mid new xs first kept = tt
+Appends-Keeps (Some old) None new xs first kept = absurd first
+Appends-Keeps (Some old) (Some mid) None xs first kept = absurd kept
+Appends-Keeps (Some old) (Some mid) (Some new) xs first kept = kept ∙ first
+
+pub written_start : (known : Option (List ℕ)) (faults : ℕ) (bytes : List ℕ) → Written known known faults faults bytes bytes
+written_start None faults bytes = record { done = []; whole = refl; taken = tt; never_falls = omega arith; unfailed = λ below. omega arith }
+written_start (Some taken) faults bytes = record { done = []; whole = refl; taken = sym (append-nil taken); never_falls = omega arith; unfailed = λ below. omega arith }
+
+-- one more call took `count` bytes of the rest, and left is left
+pub written_more : (old mid new : Option (List ℕ)) (before now later count : ℕ) (bytes rest left : List ℕ) → Written old mid before now bytes rest → Appends mid new (take count rest) → left ≡ drop count rest → now ≤ later → (now < 2 ^ 64 - 1 → now < later → ⊥) → Written old new before later bytes left
+written_more old mid new before now later count bytes rest left so_far more is rises none = record {
+  done = so_far.done ++ take count rest;
+  whole = so_far.whole ∙ ap (λ r. so_far.done ++ r) (sym (take-append-drop count rest) ∙ ap (λ r. take count rest ++ r) (sym is)) ∙ sym (append_assoc so_far.done (take count rest) left);
+  taken = Appends-Appends old mid new so_far.done (take count rest) so_far.taken more;
+  never_falls = omega (arith, so_far.never_falls);
+  unfailed = λ below. still below;
+} where
+  still : before < 2 ^ 64 - 1 → later ≤ before
+  still below = let same : now ≤ before = so_far.unfailed below in omega (arith, none (omega arith))

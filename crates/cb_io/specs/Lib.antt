@@ -1,0 +1,6 @@
+pub mod Adapters
+pub mod Calls
+pub mod Faults
+pub mod Folder
+pub mod Memory
+pub mod Sink

@@ -1,0 +1,17 @@
+-- What a sink takes.
+use Rattle.std.specs.Prelude.{◌≡◌, ℕ, ◌<◌, List, ◌++◌, length, Option}
+use Rattle.std.specs.Io.KnownBytes.{Appends}
+
+-- a write of a non-empty piece takes at least one byte
+abbrev pub TakesSome : List ℕ → ℕ → Type 0
+TakesSome bytes count = 0 < length bytes → 0 < count
+
+-- front is less than the whole of bytes, from its beginning
+pub record IsProperPrefix (front bytes : List ℕ) : Type 0 where
+  pub rest : List ℕ
+  pub whole : bytes ≡ front ++ rest
+  pub proper : 0 < length rest
+
+-- known bytes grow by a proper prefix
+abbrev pub AppendsProperPrefix : Option (List ℕ) → Option (List ℕ) → List ℕ → Type 0
+AppendsProperPrefix old new bytes = (front : List ℕ) × Appends old new front × IsProperPrefix front bytes

@@ -1,0 +1,152 @@
+// What the objects do at small inputs, in memory and over real files.
+use crate::{
+    DirFolder, Failed, Folder, FolderError, Found, MemFolder, MemSink, MemSource, Sink, Source,
+    StreamSink, StreamSource, SureFolder, SureSink, SureSource, write_all,
+};
+use cb_plain::{Numbers, OutOfMemory};
+use std::alloc::Global;
+use std::fs;
+use std::test::Fail;
+
+fn call(alloc: Global, number: u32) -> Result<Numbers, OutOfMemory> {
+    let mut failing = Numbers::new(alloc);
+    failing.push(number)?;
+    Ok(failing)
+}
+
+fn two_files(alloc: Global) -> Result<SureFolder, Fail> {
+    let mut files = SureFolder::new(alloc);
+    files.put("a/B.class", Vec::from_slice(alloc, b"abc")?)?;
+    files.put("empty", Vec::new(alloc))?;
+    Ok(files)
+}
+
+fn told(found: &Result<Found, FolderError>) -> Result<&[u8], &'static str> {
+    match found {
+        Ok(Found::Bytes(bytes)) => Ok(bytes.as_slice()),
+        Ok(Found::Absent) => Err("absent"),
+        Ok(Found::TooLong) => Err("too long"),
+        Err(FolderError::Failed) => Err("failed"),
+        Err(FolderError::OutOfMemory) => Err("out of memory"),
+    }
+}
+
+#[test]
+fn a_source_gives_its_most_and_fails_at_a_listed_call(rt: HostRuntime) -> Result<(), Fail> {
+    let bytes = Vec::from_slice(rt.alloc(), b"abcde")?;
+    let mut source = MemSource::new(bytes, 2, call(rt.alloc(), 2)?);
+    let mut buf = [0; 4];
+    for (want, now) in [
+        (Ok(2), b"ab"),
+        (Err(Failed), b"ab"),
+        (Ok(2), b"cd"),
+        (Ok(1), b"ed"),
+        (Ok(0), b"ed"),
+    ] {
+        assert_eq!(rt; source.read(&mut buf), want);
+        assert_eq!(rt; &buf[..2], now.as_slice());
+    }
+    assert_eq!(rt; source.remaining(), b"".as_slice());
+    Ok(())
+}
+
+#[test]
+fn a_sink_keeps_what_it_took_before_a_failed_call(rt: HostRuntime) -> Result<(), Fail> {
+    let mut sink = MemSink::new(rt.alloc(), 1, call(rt.alloc(), 2)?);
+    assert_eq!(rt; write_all(&mut sink, b"42\n"), Err(Failed));
+    assert_eq!(rt; sink.bytes(), b"4".as_slice());
+    let mut lent = &mut sink;
+    assert_eq!(rt; write_all(&mut lent, b"2\n"), Ok(()));
+    assert_eq!(rt; sink.bytes(), b"42\n".as_slice());
+    Ok(())
+}
+
+#[test]
+fn a_folder_in_memory_fails_once_and_keeps_to_the_limit(rt: HostRuntime) -> Result<(), Fail> {
+    let mut folder = MemFolder::new(two_files(rt.alloc())?, call(rt.alloc(), 1)?);
+    for (path, limit, want) in [
+        ("a/B.class", 3, Err("failed")),
+        ("a/B.class", 3, Ok(b"abc".as_slice())),
+        ("a/B.class", 2, Err("too long")),
+        ("empty", 0, Ok(b"".as_slice())),
+        ("a", 3, Err("absent")),
+    ] {
+        let found = folder.read(rt.alloc(), path, limit);
+        assert_eq!(rt; told(&found), want, "at {path}");
+    }
+    Ok(())
+}
+
+#[test]
+fn the_second_file_at_a_path_takes_its_place(rt: HostRuntime) -> Result<(), Fail> {
+    let mut folder = two_files(rt.alloc())?;
+    folder.put("a/B.class", Vec::from_slice(rt.alloc(), b"xy")?)?;
+    for (path, want) in [
+        ("a/B.class", Ok(b"xy".as_slice())),
+        ("empty", Ok(b"".as_slice())),
+    ] {
+        let found = folder.read(rt.alloc(), path, 9);
+        assert_eq!(rt; told(&found), want, "at {path}");
+    }
+    Ok(())
+}
+
+#[test]
+fn sure_objects_move_all_that_they_can(rt: HostRuntime) -> Result<(), Fail> {
+    let mut source = SureSource::new(Vec::from_slice(rt.alloc(), b"abc")?);
+    let mut buf = [0; 2];
+    assert_eq!(rt; source.read(&mut buf), Ok(2));
+    assert_eq!(rt; buf.as_slice(), b"ab".as_slice());
+    assert_eq!(rt; source.remaining(), b"c".as_slice());
+    let mut sink = SureSink::new();
+    assert_eq!(rt; sink.write(b"42\n"), Ok(3));
+    Ok(())
+}
+
+#[test]
+fn a_folder_of_the_system_has_plain_files_alone(rt: HostRuntime) -> Result<(), Fail> {
+    fs::create_dir(&rt, "plain")?;
+    fs::create_dir(&rt, "plain/folder")?;
+    fs::write(&rt, "plain/file", "abc")?;
+    let mut folder = DirFolder::new(&rt);
+    for (path, limit, want) in [
+        ("plain/file", 3, Ok(b"abc".as_slice())),
+        ("plain/file", 2, Err("too long")),
+        ("plain/missing", 3, Err("absent")),
+        ("plain/folder", 3, Err("absent")),
+        ("plain/file/x", 3, Err("absent")),
+        ("plain/file\0", 3, Err("absent")),
+    ] {
+        let found = folder.read(rt.alloc(), path, limit);
+        assert_eq!(rt; told(&found), want, "at {path}");
+    }
+    fs::remove_dir_all(&rt, "plain")?;
+    Ok(())
+}
+
+#[test]
+fn streams_lead_to_real_files(rt: HostRuntime) -> Result<(), Fail> {
+    let mut sink = StreamSink::new(fs::create(&rt, "stream")?);
+    assert_eq!(rt; write_all(&mut sink, b"42\n"), Ok(()));
+    let mut source = StreamSource::new(fs::open(&rt, "stream")?);
+    let mut buf = [0; 4];
+    assert_eq!(rt; source.read(&mut buf), Ok(3));
+    assert_eq!(rt; &buf[..3], b"42\n".as_slice());
+    assert_eq!(rt; source.read(&mut buf), Ok(0));
+    fs::remove_file(&rt, "stream")?;
+    Ok(())
+}
+
+#[test]
+fn streams_that_fail_or_take_nothing_are_faults(rt: HostRuntime) -> Result<(), Fail> {
+    fs::create_dir(&rt, "unread")?;
+    let mut source = StreamSource::new(fs::open(&rt, "unread")?);
+    let mut buf = [0; 4];
+    assert_eq!(rt; source.read(&mut buf), Err(Failed));
+    let mut no_room = [0u8; 0];
+    let mut sink = StreamSink::new(no_room.as_mut_slice());
+    assert_eq!(rt; sink.write(b"4"), Err(Failed));
+    assert_eq!(rt; sink.write(b""), Ok(0));
+    fs::remove_dir(&rt, "unread")?;
+    Ok(())
+}

@@ -1,0 +1,5 @@
+pub mod Answer
+pub mod Execution
+pub mod Grounds
+pub mod OperandStack
+pub mod Words

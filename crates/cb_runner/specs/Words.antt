@@ -1,0 +1,15 @@
+-- The words of the command line, as bytes of their UTF-8.
+use Rattle.std.specs.Prelude.{◌≡◌, ℕ, List, [], ◌∷◌, ◌++◌, Some, slice_get, codes}
+
+-- a word that begins with `-`
+abbrev pub IsOption : List ℕ → Type 0
+IsOption word = slice_get word 0 ≡ Some 45
+
+-- the words are `run FOLDER First` with this folder
+pub record IsRun (folder : List ℕ) (words : List (List ℕ)) : Type 0 where
+  pub words_are : words ≡ codes "run" ∷ folder ∷ codes "First" ∷ []
+  pub no_option : ¬ IsOption folder
+
+-- where the class's file stands
+abbrev pub class_path : List ℕ → List ℕ
+class_path folder = folder ++ codes "/First.class"

@@ -1,0 +1,49 @@
+// How a call ends, and the status that tells it.
+use thiserror::Error;
+
+/// How a call ended.
+#[derive(Clone, Copy, Debug, PartialEq, Eq)]
+pub enum Cause {
+    /// The program ran to its end.
+    Returned,
+    /// The words are no command.
+    Usage,
+    /// The program was refused before its run.
+    Refused(Refusal),
+    /// A call of the folder failed.
+    FolderFault,
+    /// A call of the sink for what the program prints failed.
+    OutputFault,
+    /// No memory was to be had. Nothing was printed.
+    OutOfMemory,
+}
+
+/// Why a program was refused.
+#[derive(Clone, Copy, Debug, PartialEq, Eq, Error)]
+pub enum Refusal {
+    /// The class has no file.
+    #[error("E1 missing class First")]
+    MissingClass,
+    /// The class has a file that isn't of the first form, or has more than 1,048,576 bytes.
+    #[error("E4 unsupported not yet in class First")]
+    NotYet,
+}
+
+impl Cause {
+    ghost use Rattle.std.specs.Prelude.{◌≡◌};
+    ghost use Rattle.cb_runner.specs.Answer.{status_of};
+
+    /// The exit status of the program.
+    pub fn status(self) -> u8
+        ensures { result ≡ status_of self }
+    {
+        match self {
+            Cause::Returned => 0,
+            Cause::OutOfMemory => 119,
+            Cause::Usage => 120,
+            Cause::Refused(_) => 121,
+            Cause::FolderFault => 124,
+            Cause::OutputFault => 126,
+        }
+    }
+}
