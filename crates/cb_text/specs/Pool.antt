@@ -1,0 +1,105 @@
+-- The constant pool (JVMS §4.1, §4.4).
+use Rattle.std.specs.Prelude.{◌≡◌, ℕ, zero, suc, ◌+◌, ◌^◌, ◌<◌, ◌≤◌, List, [], ◌∷◌, ◌++◌, length, Option, None, slice_get, IsSome, IsSomeAnd}
+use Rattle.std.specs.Int.{w16, w32, w64, to_be_bytes}
+use Rattle.std.specs.List.{AllByRecursion, flat_map}
+use Rattle.cb_text.specs.declared.constant.Constant.{Constant}
+use Rattle.cb_text.specs.declared.constant.Constant.TheVariants.{Utf8, Integer, Float, Long, Double, Class, String, Fieldref, Methodref, InterfaceMethodref, NameAndType, MethodHandle, MethodType, InvokeDynamic, Gap}
+use Rattle.cb_text.specs.Text.{text_bytes, AreUnits}
+
+abbrev pub u2 : ℕ → List ℕ
+u2 number = to_be_bytes w16 number
+
+-- the bytes of a constant: its tag and its contents (JVMS §4.4.1 to §4.4.10). A gap has none
+abbrev pub constant_bytes : Constant → List ℕ
+constant_bytes (Utf8 units) = 1 ∷ u2 (length (text_bytes units)) ++ text_bytes units
+constant_bytes (Integer number) = 3 ∷ to_be_bytes w32 number
+constant_bytes (Float bits) = 4 ∷ to_be_bytes w32 bits
+constant_bytes (Long number) = 5 ∷ to_be_bytes w64 number
+constant_bytes (Double bits) = 6 ∷ to_be_bytes w64 bits
+constant_bytes (Class name) = 7 ∷ u2 name
+constant_bytes (String text) = 8 ∷ u2 text
+constant_bytes (Fieldref holder member) = 9 ∷ u2 holder ++ u2 member
+constant_bytes (Methodref holder member) = 10 ∷ u2 holder ++ u2 member
+constant_bytes (InterfaceMethodref holder member) = 11 ∷ u2 holder ++ u2 member
+constant_bytes (NameAndType name descriptor) = 12 ∷ u2 name ++ u2 descriptor
+constant_bytes (MethodHandle kind reference) = 15 ∷ kind ∷ u2 reference
+constant_bytes (MethodType descriptor) = 16 ∷ u2 descriptor
+constant_bytes (InvokeDynamic bootstrap member) = 18 ∷ u2 bootstrap ++ u2 member
+constant_bytes Gap = []
+
+-- what fits its bytes: each number its width, and a text a length of two bytes
+abbrev pub Fits : Constant → Type 0
+Fits (Utf8 units) = AreUnits units × (length (text_bytes units) < 2 ^ 16)
+Fits (Integer number) = number < 2 ^ 32
+Fits (Float bits) = bits < 2 ^ 32
+Fits (Long number) = number < 2 ^ 64
+Fits (Double bits) = bits < 2 ^ 64
+Fits (Class name) = name < 2 ^ 16
+Fits (String text) = text < 2 ^ 16
+Fits (Fieldref holder member) = (holder < 2 ^ 16) × (member < 2 ^ 16)
+Fits (Methodref holder member) = (holder < 2 ^ 16) × (member < 2 ^ 16)
+Fits (InterfaceMethodref holder member) = (holder < 2 ^ 16) × (member < 2 ^ 16)
+Fits (NameAndType name descriptor) = (name < 2 ^ 16) × (descriptor < 2 ^ 16)
+Fits (MethodHandle kind reference) = (kind < 2 ^ 8) × (reference < 2 ^ 16)
+Fits (MethodType descriptor) = descriptor < 2 ^ 16
+Fits (InvokeDynamic bootstrap member) = (bootstrap < 2 ^ 16) × (member < 2 ^ 16)
+Fits Gap = Unit {0}
+
+-- a gap stands behind each Long and Double, which take two indices, and nowhere else (JVMS §4.4.5)
+abbrev mutual
+  pub AreLaidOut : List Constant → Type 0
+  AreLaidOut [] = Unit {0}
+  AreLaidOut (Long number ∷ constants) = AreBehindWide constants
+  AreLaidOut (Double bits ∷ constants) = AreBehindWide constants
+  AreLaidOut (Gap ∷ constants) = ⊥
+  AreLaidOut (constant ∷ constants) = AreLaidOut constants
+
+  pub AreBehindWide : List Constant → Type 0
+  AreBehindWide (Gap ∷ constants) = AreLaidOut constants
+  AreBehindWide constants = ⊥
+
+-- the constant at an index, which count from 1
+abbrev pub constant_at : List Constant → ℕ → Option Constant
+constant_at constants zero = None
+constant_at constants (suc before) = slice_get constants before
+
+-- which constants an index may name
+abbrev pub IsText : Constant → Type 0
+IsText (Utf8 units) = Unit {0}
+IsText other = ⊥
+
+abbrev pub IsClass : Constant → Type 0
+IsClass (Class name) = Unit {0}
+IsClass other = ⊥
+
+abbrev pub IsMember : Constant → Type 0
+IsMember (NameAndType name descriptor) = Unit {0}
+IsMember other = ⊥
+
+abbrev pub Names : List Constant → ℕ → (Constant → Type 0) → Type 0
+Names constants index IsKind = IsSomeAnd (constant_at constants index) IsKind
+
+-- each index of a constant names an entry of the listed tag. That of a method handle is only asked to be in the pool
+abbrev pub HasIndices : List Constant → Constant → Type 0
+HasIndices constants (Class name) = Names constants name IsText
+HasIndices constants (String text) = Names constants text IsText
+HasIndices constants (Fieldref holder member) = Names constants holder IsClass × Names constants member IsMember
+HasIndices constants (Methodref holder member) = Names constants holder IsClass × Names constants member IsMember
+HasIndices constants (InterfaceMethodref holder member) = Names constants holder IsClass × Names constants member IsMember
+HasIndices constants (NameAndType name descriptor) = Names constants name IsText × Names constants descriptor IsText
+HasIndices constants (MethodHandle kind reference) = (1 ≤ kind) × (kind ≤ 9) × IsSome (constant_at constants reference)
+HasIndices constants (MethodType descriptor) = Names constants descriptor IsText
+HasIndices constants (InvokeDynamic bootstrap member) = Names constants member IsMember
+HasIndices constants other = Unit {0}
+
+-- the bytes are a pool: the count, which is one more than the constants, and the constants in order
+pub record SpellsPool (bytes : List ℕ) (constants : List Constant) : Type 0 where
+  pub spelled : bytes ≡ u2 (length constants + 1) ++ flat_map constant_bytes constants
+  pub counted : length constants + 1 < 2 ^ 16
+  pub fit : AllByRecursion Fits constants
+  pub laid_out : AreLaidOut constants
+  pub indexed : AllByRecursion (HasIndices constants) constants
+
+-- a pool is a front of the bytes, and ends behind so many
+abbrev pub BeginsWithPool : List ℕ → List Constant → ℕ → Type 0
+BeginsWithPool bytes constants end = (front rest : List ℕ) × SpellsPool front constants × (bytes ≡ front ++ rest) × (end ≡ length front)

@@ -1,0 +1,88 @@
+-- Reading constants from left to right.
+use Rattle.std.specs.Prelude.{◌≡◌, ℕ, ◌+◌, List, [], ◌∷◌, ◌++◌, length, take, drop, Option, Some, None, option_map, option_and_then, nat_lt, ◌==◌, if◌then◌else◌}
+use Rattle.std.specs.Int.{Width, w16, w32, w64, byte_len, from_be_bytes}
+use Rattle.std.specs.List.{AllByRecursion, flat_map}
+use Rattle.cb_text.specs.declared.constant.Constant.{Constant}
+use Rattle.cb_text.specs.declared.constant.Constant.TheVariants.{Utf8, Integer, Float, Long, Double, Class, String, Fieldref, Methodref, InterfaceMethodref, NameAndType, MethodHandle, MethodType, InvokeDynamic, Gap}
+use Rattle.cb_text.specs.declared.pool_fault.PoolFault.{PoolFault}
+use Rattle.cb_text.specs.declared.pool_fault.PoolFault.TheVariants as pool
+use Rattle.cb_text.specs.declared.text.TextFault.{TextFault}
+use Rattle.cb_text.specs.declared.text.TextFault.TheVariants as text
+use Rattle.cb_text.specs.Pool.{u2, Fits, constant_bytes, AreLaidOut, SpellsPool}
+
+-- a pool with a bad text is a bad pool
+abbrev pub pool_fault : TextFault → PoolFault
+pool_fault text.BadText = pool.BadPool
+pool_fault text.OutOfMemory = pool.OutOfMemory
+
+-- the number at the front of some bytes, and what stands behind it
+abbrev pub number_at : Width → List ℕ → Option (ℕ × List ℕ)
+number_at w bytes = if nat_lt (length bytes) (byte_len w) then None else Some (from_be_bytes w (take (byte_len w) bytes), drop (byte_len w) bytes)
+
+-- a constant of one number
+abbrev pub one_at : Width → (ℕ → Constant) → List ℕ → Option (Constant × List ℕ)
+one_at w make bytes = option_map (λ read. (make read.0, read.1)) (number_at w bytes)
+
+-- a constant of two indices
+abbrev pub pair_at : (ℕ → ℕ → Constant) → List ℕ → Option (Constant × List ℕ)
+pair_at make bytes = option_and_then (λ one. option_map (λ other. (make one.0 other.0, other.1)) (number_at w16 one.1)) (number_at w16 bytes)
+
+-- a method handle
+abbrev pub handle_at : List ℕ → Option (Constant × List ℕ)
+handle_at [] = None
+handle_at (kind ∷ bytes) = option_map (λ read. (MethodHandle kind read.0, read.1)) (number_at w16 bytes)
+
+-- a constant of indices alone, by its tag
+unfoldable pub indices_at : ℕ → List ℕ → Option (Constant × List ℕ)
+indices_at tag bytes =
+    if tag == 7 then one_at w16 Class bytes
+    else if tag == 8 then one_at w16 String bytes
+    else if tag == 9 then pair_at Fieldref bytes
+    else if tag == 10 then pair_at Methodref bytes
+    else if tag == 11 then pair_at InterfaceMethodref bytes
+    else if tag == 12 then pair_at NameAndType bytes
+    else if tag == 16 then one_at w16 MethodType bytes
+    else if tag == 18 then pair_at InvokeDynamic bytes
+    else None
+
+-- a constant of numbers, by its tag
+unfoldable pub numbers_at : ℕ → List ℕ → Option (Constant × List ℕ)
+numbers_at tag bytes =
+    if tag == 3 then one_at w32 Integer bytes
+    else if tag == 4 then one_at w32 Float bytes
+    else if tag == 5 then one_at w64 Long bytes
+    else if tag == 6 then one_at w64 Double bytes
+    else if tag == 15 then handle_at bytes
+    else indices_at tag bytes
+
+-- it has a tag, and numbers behind it
+abbrev pub HasNumbers : Constant → Type 0
+HasNumbers (Utf8 units) = ⊥
+HasNumbers Gap = ⊥
+HasNumbers other = Unit {0}
+
+-- it has bytes
+abbrev pub HasBytes : Constant → Type 0
+HasBytes Gap = ⊥
+HasBytes other = Unit {0}
+
+-- it takes two indices
+abbrev pub IsWide : Constant → Type 0
+IsWide (Long number) = Unit {0}
+IsWide (Double bits) = Unit {0}
+IsWide other = ⊥
+
+-- so many constants stand at the front of some bytes
+pub record StandsBefore (count : ℕ) (constants : List Constant) (rest bytes : List ℕ) : Type 0 where
+  pub counted : length constants ≡ count
+  pub fit : AllByRecursion Fits constants
+  pub laid_out : AreLaidOut constants
+  pub spelled : bytes ≡ flat_map constant_bytes constants ++ rest
+
+-- the bytes of a pool, from its count on
+abbrev pub pool_bytes : List Constant → List ℕ
+pool_bytes constants = u2 (length constants + 1) ++ flat_map constant_bytes constants
+
+-- the constants are those of a pool
+abbrev pub IsPool : List Constant → Type 0
+IsPool constants = SpellsPool (pool_bytes constants) constants

@@ -1,0 +1,29 @@
+//! Text and constants of class files: modified UTF-8 and the constant pool, read exactly by their grammars and
+//! written back (JVMS §4.4).
+//!
+//! `specs/` has the grammars: the spelling of a text, the bytes of a constant, and what a pool is. No clause says
+//! that memory is to be had: that no call always gives up is shown by tests alone.
+#![tactic(auto)]
+
+mod constant;
+mod constants;
+mod contents;
+mod indices;
+mod list;
+mod memory;
+mod next_constant;
+mod numbers;
+mod pool;
+mod pool_fault;
+#[cfg(test)]
+mod tests;
+mod text;
+mod unit;
+mod writing;
+
+pub use constant::Constant;
+pub use list::{List, Units};
+pub use memory::OutOfMemory;
+pub use pool::{Pool, read_pool};
+pub use pool_fault::PoolFault;
+pub use text::{TextFault, decode_modified, encode_modified, one_spelling};

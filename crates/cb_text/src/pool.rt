@@ -1,0 +1,97 @@
+// The constant pool (JVMS §4.1, §4.4).
+ghost use Rattle.std.specs.Prelude.{◌≡◌, ◌↔◌, ◌+◌, ℕ, List, length, IfOk, IsErrOf, MatchResult, option_copied};
+ghost use Rattle.cb_text.specs.declared.constant.Constant.{Constant as AnyConstant};
+ghost use Rattle.cb_text.specs.Pool.{BeginsWithPool, SpellsPool, constant_at};
+ghost use Rattle.cb_text.specs.Reading.{IsPool};
+
+use crate::constants::constants_of;
+use crate::indices::{are_indexed, entry_at};
+use crate::numbers::u2_at;
+use crate::writing::push_constant;
+use crate::{Constant, OutOfMemory, PoolFault};
+use std::alloc::Global;
+use std::marker::Model;
+
+/// A constant pool that some bytes spell. Contracts see it as its constants in order, the first of which has the
+/// index 1.
+#[derive(Debug, Drop)]
+pub struct Pool {
+    constants: Vec<Constant>,
+}
+
+impl Model for Pool {
+    ghost use Rattle.std.specs.Prelude.{List};
+    ghost use Rattle.cb_text.specs.declared.constant.Constant.{Constant as AnyConstant};
+    ghost use Rattle.cb_text.specs.Reading.{IsPool};
+
+    ghost Value = { List AnyConstant };
+
+    ghost view = { λ pool. pool.constants.items };
+
+    ghost invariant = { λ pool. IsPool pool.constants.items };
+}
+
+impl Pool {
+    /// The number that stands in the file as `constant_pool_count`, one more than the greatest index (JVMS §4.1).
+    pub fn len(&self) -> u16
+        ensures { result ≡ length self.now + 1 }
+    {
+        self.constants.len() as u16 + 1
+    }
+
+    /// The constant at an index, which count from 1, or `None` where the number is no index of the pool. The index
+    /// behind a `Long` or `Double` has a `Gap`. Takes constant time.
+    pub fn get(&self, index: u16) -> Option<&Constant>
+        ensures { option_copied result ≡ constant_at self.now index }
+    {
+        entry_at(&self.constants, index)
+    }
+
+    /// The bytes of the pool, from its count on. `OutOfMemory` where no memory was to be had. Takes time in the
+    /// number of bytes.
+    pub fn encode(&self, alloc: Global) -> Result<Vec<u8>, OutOfMemory>
+        ensures { IfOk result (λ bytes. SpellsPool bytes.items self.now) }
+    {
+        let mut out = Vec::new(alloc);
+        out.extend_from_slice(&self.len().to_be_bytes())?;
+        for constant in &self.constants {
+            push_constant(alloc, &mut out, constant)?;
+        }
+        Ok(out)
+    }
+}
+
+/// The constant pool at the front of the bytes, and how many bytes it takes (JVMS §4.4). `BadPool` where no pool is
+/// a front of them, `OutOfMemory` where no memory was to be had. Takes time in the number of bytes.
+pub fn read_pool(alloc: Global, bytes: &[u8]) -> Result<(Pool, usize), PoolFault>
+    ensures pool { IfOk result (λ read. BeginsWithPool bytes.now read.0 read.1) }
+    ensures exact { (constants : List AnyConstant) (end : ℕ) → BeginsWithPool bytes.now constants end
+        → MatchResult result (λ read. (read.0 ≡ constants) × (read.1 ≡ end))
+        (λ fault. fault ≡ PoolFault.OutOfMemory) }
+    ensures bad { IsErrOf result PoolFault.BadPool ↔ ((¬ IsErrOf result PoolFault.OutOfMemory)
+        × ((constants : List AnyConstant) (end : ℕ) → BeginsWithPool bytes.now constants end → ⊥)) }
+{
+    let (constants, end) = pool_at(alloc, bytes)?;
+    Ok((Pool { constants }, end))
+}
+
+/// The constants of the pool at the front of the bytes, and how many bytes it takes.
+fn pool_at(alloc: Global, bytes: &[u8]) -> Result<(Vec<Constant>, usize), PoolFault>
+    ensures pool { IfOk result (λ read. IsPool read.0.items × BeginsWithPool bytes.now read.0.items read.1) }
+    ensures exact { (constants : List AnyConstant) (end : ℕ) → BeginsWithPool bytes.now constants end
+        → MatchResult result (λ read. (read.0.items ≡ constants) × (read.1 ≡ end))
+        (λ fault. fault ≡ PoolFault.OutOfMemory) }
+{
+    let Some((count, rest)) = u2_at(bytes) else {
+        return Err(PoolFault::BadPool);
+    };
+    let Some(length) = count.checked_sub(1) else {
+        return Err(PoolFault::BadPool);
+    };
+    let (constants, rest) = constants_of(alloc, usize::from(length), rest)?;
+    if !are_indexed(&constants) {
+        return Err(PoolFault::BadPool);
+    }
+    let end = bytes.len() - rest.len();
+    Ok((constants, end))
+}
