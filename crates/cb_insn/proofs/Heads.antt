@@ -1,0 +1,238 @@
+-- The opcode at the front of an instruction.
+use Rattle.std.proofs.Common.{◌≡◌, ℕ, suc, ◌+◌, ◌≤◌, pos, Bool, true, false, List, [], ◌∷◌, ◌++◌, length, take, map, nat_lt, nat_eq, cond, Option, Some, None, refl, sym, ◌∙◌, ap, subst, arith, length-append}
+use Rattle.std.specs.List.{AllByRecursion}
+use Rattle.std.proofs.lemmas.Bool.Decides.{nat_tests}
+use Rattle.cb_insn.specs.declared.form.Form.{Form}
+use Rattle.cb_insn.specs.declared.form.Form.TheVariants as forms
+use Rattle.cb_insn.specs.declared.insn.Insn.{Insn}
+use Rattle.cb_insn.specs.declared.insn.Operand.{Operand}
+use Rattle.cb_insn.specs.Forms.{form_of, wide_form_of, wide_opcode, widened}
+use Rattle.cb_insn.specs.Grammar.{SpellsIn, SpellsBehind, SpellsInsn, SpellsOperand, targets_of}
+use Rattle.cb_insn.specs.Faults.{Whole, IsCut, IsBadOperand, reading_at, reading_in, reading_plain, reading_wide, reading_behind_wide, operand_length, is_bad, form_offsets, operand_offsets, targets_at}
+use Rattle.cb_insn.specs.Reads.{HasHead, IsRead, operand_of, operand_targets, targets_in}
+use Rattle.cb_insn.proofs.NumberBytes.{IsBytes}
+use Rattle.cb_insn.proofs.Spelling.{IsWithin}
+use Rattle.cb_insn.proofs.Fronts.{Fronts, fronts}
+use Rattle.cb_insn.proofs.Backs.{backs}
+use Rattle.cb_insn.proofs.Walking.{whole_in}
+
+abbrev pub before : Bool → ℕ
+before false = 1
+before true = 2
+
+same_number : (m n : ℕ) → nat_eq m n ≡ true → m ≡ n
+same_number m n is = grind (arith, nat_tests)
+
+-- an instruction is whole by its opcode and its form
+pub record Headed (pc : ℕ) (bytes : List ℕ) (size : ℕ) : Type 0 where
+  pub wide : Bool
+  pub opcode : ℕ
+  pub form : Form
+  pub behind : List ℕ
+  pub head : HasHead wide opcode form behind bytes
+  pub sized : before wide + operand_length pc form behind ≡ size
+  pub there : operand_length pc form behind ≤ length behind
+  pub good : is_bad pc form behind ≡ false
+
+pub headed : (pc : ℕ) (bytes : List ℕ) (size : ℕ) → reading_at pc bytes ≡ Whole size → Headed pc bytes size
+headed pc [] size is = cc
+headed pc (opcode ∷ behind) size is = by_wide (nat_eq opcode wide_opcode) refl behind is where
+  plain : (behind : List ℕ) (form : Option Form) → form_of opcode ≡ form → reading_plain pc form behind ≡ Whole size → Headed pc (opcode ∷ behind) size
+  plain behind None has is = cc
+  plain behind (Some form) has is = let whole = whole_in 1 pc form behind size is in record {
+    wide = false;
+    opcode = opcode;
+    form = form;
+    behind = behind;
+    head = (refl, has);
+    sized = whole.0;
+    there = whole.1;
+    good = whole.2;
+  }
+
+  wide_head : opcode ≡ wide_opcode → (next : ℕ) (behind : List ℕ) (form : Option Form) → wide_form_of next ≡ form → reading_wide pc form behind ≡ Whole size → Headed pc (opcode ∷ next ∷ behind) size
+  wide_head is_wide next behind None has is = cc
+  wide_head is_wide next behind (Some form) has is = let whole = whole_in 2 pc form behind size is in record {
+    wide = true;
+    opcode = next;
+    form = form;
+    behind = behind;
+    head = (ap (λ b. b ∷ next ∷ behind) is_wide, has);
+    sized = whole.0;
+    there = whole.1;
+    good = whole.2;
+  }
+
+  behind_wide : opcode ≡ wide_opcode → (behind : List ℕ) → reading_behind_wide pc behind ≡ Whole size → Headed pc (opcode ∷ behind) size
+  behind_wide is_wide [] is = cc
+  behind_wide is_wide (next ∷ behind) is = wide_head is_wide next behind (wide_form_of next) refl is
+
+  by_wide : (is_wide : Bool) → nat_eq opcode wide_opcode ≡ is_wide → (bytes : List ℕ) → cond is_wide (reading_behind_wide pc bytes) (reading_plain pc (form_of opcode) bytes) ≡ Whole size → Headed pc (opcode ∷ bytes) size
+  by_wide true tested bytes is = behind_wide (same_number opcode wide_opcode tested) bytes is
+  by_wide false tested bytes is = plain bytes (form_of opcode) refl is
+
+-- `wide` has no form of its own
+not_wide : (opcode : ℕ) (form : Form) → form_of opcode ≡ Some form → nat_eq opcode wide_opcode ≡ false
+not_wide opcode form has = by_test (nat_eq opcode wide_opcode) refl where
+  by_test : (tested : Bool) → nat_eq opcode wide_opcode ≡ tested → tested ≡ false
+  by_test false is = refl
+  by_test true is = let none : None ≡ Some form = ap form_of (sym (same_number opcode wide_opcode is)) ∙ has in cc
+
+whole_of : (before pc : ℕ) (form : Form) (behind : List ℕ) → operand_length pc form behind ≤ length behind → is_bad pc form behind ≡ false → reading_in before pc form behind ≡ Whole (before + operand_length pc form behind)
+whole_of before pc form behind there good =
+    let enough : nat_lt (length behind) (operand_length pc form behind) ≡ false = not_less (length behind) (operand_length pc form behind) there in
+    ap (λ test. cond test IsCut (cond (is_bad pc form behind) IsBadOperand (Whole (before + operand_length pc form behind)))) enough
+    ∙ ap (λ test. cond test IsBadOperand (Whole (before + operand_length pc form behind))) good
+  where
+    not_less : (m n : ℕ) → n ≤ m → nat_lt m n ≡ false
+    not_less m n order = grind (arith, nat_tests)
+
+pub head_reads : (pc : ℕ) (wide : Bool) (opcode : ℕ) (form : Form) (behind bytes : List ℕ) → HasHead wide opcode form behind bytes → operand_length pc form behind ≤ length behind → is_bad pc form behind ≡ false → reading_at pc bytes ≡ Whole (before wide + operand_length pc form behind)
+head_reads pc false opcode form behind bytes (is, has) there good =
+    ap (reading_at pc) is ∙ ap (λ test. cond test (reading_behind_wide pc behind) (reading_plain pc (form_of opcode) behind)) (not_wide opcode form has) ∙ ap (λ f. reading_plain pc f behind) has ∙ whole_of 1 pc form behind there good
+head_reads pc true opcode form behind bytes (is, has) there good =
+    ap (reading_at pc) is ∙ ap (λ f. reading_wide pc f behind) has ∙ whole_of 2 pc form behind there good
+
+-- `wide` stands before no branch
+no_wide_offset : (pc opcode : ℕ) (form : Form) (behind : List ℕ) → wide_form_of opcode ≡ Some form → operand_offsets pc form behind ≡ []
+no_wide_offset pc opcode form behind has = by_form (form_of opcode) has where
+  local : Some forms.WideLocal ≡ Some form → operand_offsets pc form behind ≡ []
+  local is = let same : forms.WideLocal ≡ form = cc in ap (λ f. operand_offsets pc f behind) (sym same)
+
+  increase : Some forms.WideIncrease ≡ Some form → operand_offsets pc form behind ≡ []
+  increase is = let same : forms.WideIncrease ≡ form = cc in ap (λ f. operand_offsets pc f behind) (sym same)
+
+  by_plain : (plain : Form) → widened plain ≡ Some form → operand_offsets pc form behind ≡ []
+  by_plain forms.Local has = local has
+  by_plain forms.Increase has = increase has
+  by_plain other has = cc
+
+  by_form : (plain : Option Form) → (elim plain as (λ _. Option Form) [ Some f ↦ widened f | None ↦ None ]) ≡ Some form → operand_offsets pc form behind ≡ []
+  by_form None has = cc
+  by_form (Some plain) has = by_plain plain has
+
+pub head_targets : (pc : ℕ) (wide : Bool) (opcode : ℕ) (form : Form) (behind bytes : List ℕ) → HasHead wide opcode form behind bytes → targets_at pc bytes ≡ operand_targets pc form behind
+head_targets pc false opcode form behind bytes (is, has) = ap (targets_at pc) is ∙ ap (λ f. targets_in pc (form_offsets pc f behind)) has
+head_targets pc true opcode form behind bytes (is, has) = ap (targets_at pc) is ∙ ap (targets_in pc) (sym (no_wide_offset pc opcode form behind has))
+
+-- there is one at most
+pub head_same : (wide other_wide : Bool) (opcode other : ℕ) (form other_form : Form) (behind rest bytes : List ℕ) → HasHead wide opcode form behind bytes → HasHead other_wide other other_form rest bytes → (wide ≡ other_wide) × (opcode ≡ other) × (form ≡ other_form) × (behind ≡ rest)
+head_same false false opcode other form other_form behind rest bytes (is, has) (is_too, has_too) =
+    let same : opcode ∷ behind ≡ other ∷ rest = sym is ∙ is_too in
+    let same_opcode : opcode ≡ other = cc in
+    let same_form : Some form ≡ Some other_form = sym has ∙ ap form_of same_opcode ∙ has_too in
+    (refl, same_opcode, cc, cc)
+head_same true true opcode other form other_form behind rest bytes (is, has) (is_too, has_too) =
+    let same : wide_opcode ∷ opcode ∷ behind ≡ wide_opcode ∷ other ∷ rest = sym is ∙ is_too in
+    let same_opcode : opcode ≡ other = cc in
+    let same_form : Some form ≡ Some other_form = sym has ∙ ap wide_form_of same_opcode ∙ has_too in
+    (refl, same_opcode, cc, cc)
+head_same false true opcode other form other_form behind rest bytes (is, has) (is_too, has_too) =
+    let same : opcode ∷ behind ≡ wide_opcode ∷ other ∷ rest = sym is ∙ is_too in
+    let is_wide : opcode ≡ wide_opcode = cc in
+    let none : None ≡ Some form = ap form_of (sym is_wide) ∙ has in
+    cc
+head_same true false opcode other form other_form behind rest bytes (is, has) (is_too, has_too) =
+    let same : wide_opcode ∷ opcode ∷ behind ≡ other ∷ rest = sym is ∙ is_too in
+    let is_wide : wide_opcode ≡ other = cc in
+    let none : None ≡ Some other_form = ap form_of is_wide ∙ has_too in
+    cc
+
+insn_same : (one other : Insn) → one.wide ≡ other.wide → one.opcode ≡ other.opcode → one.operand ≡ other.operand → one ≡ other
+insn_same one other wide opcode operand =
+    ap (λ w. record { opcode = one.opcode; wide = w; operand = one.operand }) wide
+    ∙ ap (λ o. record { opcode = o; wide = other.wide; operand = one.operand }) opcode
+    ∙ ap (λ o. record { opcode = other.opcode; wide = other.wide; operand = o }) operand
+
+pub read_same : (pc : ℕ) (one other : Insn) (bytes : List ℕ) → IsRead pc one bytes → IsRead pc other bytes → one ≡ other
+read_same pc one other bytes read read_too =
+    let same = head_same one.wide other.wide one.opcode other.opcode read.form read_too.form read.behind read_too.behind bytes read.head read_too.head in
+    insn_same one other same.0 same.1 (read.operand ∙ ap (λ f. operand_of pc f read.behind) same.2 ∙ ap (operand_of pc read_too.form) same.3 ∙ sym read_too.operand)
+
+-- what is spelled at the front is read
+pub record FrontReads (pc : ℕ) (insn : Insn) (size : ℕ) (bytes : List ℕ) : Type 0 where
+  pub read : IsRead pc insn bytes
+  pub whole : reading_at pc bytes ≡ Whole size
+  pub targets : targets_at pc bytes ≡ map pos (targets_of insn.operand)
+
+front_reads : (pc : ℕ) (insn : Insn) (form : Form) (behind spelled bytes : List ℕ) (size : ℕ) → HasHead insn.wide insn.opcode form behind bytes → Fronts pc form insn.operand spelled behind → length spelled ≤ length behind → before insn.wide + length spelled ≡ size → FrontReads pc insn size bytes
+front_reads pc insn form behind spelled bytes size head parts there sized = record {
+  read = record { form = form; behind = behind; head = head; operand = sym parts.same };
+  whole = head_reads pc insn.wide insn.opcode form behind bytes head (omega (arith, parts.size)) parts.good ∙ ap Whole (ap (λ n. before insn.wide + n) parts.size ∙ sized);
+  targets = head_targets pc insn.wide insn.opcode form behind bytes head ∙ parts.targets;
+}
+
+counted : (head behind all : ℕ) → head + behind ≡ all → head + behind ≡ all
+counted head behind all is = is
+
+pub spelled_reads : (pc : ℕ) (insn : Insn) (first rest : List ℕ) → SpellsInsn pc insn first → FrontReads pc insn (length first) (first ++ rest)
+spelled_reads pc insn first rest spells = by_wide insn.wide refl spells where
+  plain : insn.wide ≡ false → (behind : List ℕ) → first ≡ insn.opcode ∷ behind → (form : Option Form) → form_of insn.opcode ≡ form → SpellsIn pc form insn.operand behind → FrontReads pc insn (length first) (first ++ rest)
+  plain is_plain behind is None has spells = absurd spells
+  plain is_plain behind is (Some form) has spells =
+      front_reads pc insn form (behind ++ rest) behind (first ++ rest) (length first)
+      (subst (λ w. HasHead w insn.opcode form (behind ++ rest) (first ++ rest)) (sym is_plain) (ap (λ b. b ++ rest) is, has))
+      (fronts pc form insn.operand behind rest spells) (omega (arith, length-append behind rest)) (ap (λ w. before w + length behind) is_plain ∙ counted 1 (length behind) (length first) (omega (arith, ap length is)))
+
+  widely : insn.wide ≡ true → (behind : List ℕ) → first ≡ wide_opcode ∷ insn.opcode ∷ behind → (form : Option Form) → wide_form_of insn.opcode ≡ form → SpellsIn pc form insn.operand behind → FrontReads pc insn (length first) (first ++ rest)
+  widely is_wide behind is None has spells = absurd spells
+  widely is_wide behind is (Some form) has spells =
+      front_reads pc insn form (behind ++ rest) behind (first ++ rest) (length first)
+      (subst (λ w. HasHead w insn.opcode form (behind ++ rest) (first ++ rest)) (sym is_wide) (ap (λ b. b ++ rest) is, has))
+      (fronts pc form insn.operand behind rest spells) (omega (arith, length-append behind rest)) (ap (λ w. before w + length behind) is_wide ∙ counted 2 (length behind) (length first) (omega (arith, ap length is)))
+
+  by_wide : (wide : Bool) → insn.wide ≡ wide → SpellsBehind pc wide insn.opcode insn.operand first → FrontReads pc insn (length first) (first ++ rest)
+  by_wide false is (behind, is_first, spells) = plain is behind is_first (form_of insn.opcode) refl spells
+  by_wide true is (behind, is_first, spells) = widely is behind is_first (wide_form_of insn.opcode) refl spells
+
+next_taken : (byte size : ℕ) (behind : List ℕ) → take (1 + size) (byte ∷ behind) ≡ byte ∷ take size behind
+next_taken byte size behind = let same : 1 + size ≡ suc size = omega arith in ap (λ n. take n (byte ∷ behind)) same
+
+two_taken : (byte next size : ℕ) (behind : List ℕ) → take (2 + size) (byte ∷ next ∷ behind) ≡ byte ∷ next ∷ take size behind
+two_taken byte next size behind = let same : 2 + size ≡ suc (suc size) = omega arith in ap (λ n. take n (byte ∷ next ∷ behind)) same
+
+whole_size_same : (m n : ℕ) → Whole m ≡ Whole n → m ≡ n
+whole_size_same m n is = cc
+
+behind_bytes : (wide : Bool) (opcode : ℕ) (form : Form) (behind bytes : List ℕ) → HasHead wide opcode form behind bytes → IsBytes bytes → IsBytes behind
+behind_bytes false opcode form behind bytes (is, has) are = λ i. subst IsBytes is are (suc i)
+behind_bytes true opcode form behind bytes (is, has) are = λ i. subst IsBytes is are (suc (suc i))
+
+-- and what is read is spelled at the front
+spells_behind : (pc : ℕ) (wide : Bool) (opcode : ℕ) (form : Form) (operand : Operand) (behind bytes : List ℕ) (size : ℕ) → HasHead wide opcode form behind bytes → SpellsOperand pc form operand (take size behind) → SpellsBehind pc wide opcode operand (take (before wide + size) bytes)
+spells_behind pc false opcode form operand behind bytes size (is, has) spells =
+    (take size behind, ap (take (1 + size)) is ∙ next_taken opcode size behind, subst (λ f. SpellsIn pc f operand (take size behind)) (sym has) spells)
+spells_behind pc true opcode form operand behind bytes size (is, has) spells =
+    (take size behind, ap (take (2 + size)) is ∙ two_taken wide_opcode opcode size behind, subst (λ f. SpellsIn pc f operand (take size behind)) (sym has) spells)
+
+pub reads_spelled : (pc : ℕ) (insn : Insn) (bytes : List ℕ) (size : ℕ) → IsRead pc insn bytes → reading_at pc bytes ≡ Whole size → IsBytes bytes → AllByRecursion IsWithin (targets_at pc bytes) → SpellsInsn pc insn (take size bytes)
+reads_spelled pc insn bytes size read whole are within =
+    let parts = headed pc bytes size whole in
+    let same = head_same parts.wide insn.wide parts.opcode insn.opcode parts.form read.form parts.behind read.behind bytes parts.head read.head in
+    let there : operand_length pc read.form read.behind ≤ length read.behind = subst (λ b. operand_length pc read.form b ≤ length b) same.3 (subst (λ f. operand_length pc f parts.behind ≤ length parts.behind) same.2 parts.there) in
+    let good : is_bad pc read.form read.behind ≡ false = subst (λ b. is_bad pc read.form b ≡ false) same.3 (subst (λ f. is_bad pc f parts.behind ≡ false) same.2 parts.good) in
+    let sized : before insn.wide + operand_length pc read.form read.behind ≡ size = whole_size_same _ size (sym (head_reads pc insn.wide insn.opcode read.form read.behind bytes read.head there good) ∙ whole) in
+    let spelled = backs pc read.form read.behind (behind_bytes insn.wide insn.opcode read.form read.behind bytes read.head are) there good (subst (AllByRecursion IsWithin) (head_targets pc insn.wide insn.opcode read.form read.behind bytes read.head) within) in
+    subst (λ n. SpellsInsn pc insn (take n bytes)) sized (spells_behind pc insn.wide insn.opcode read.form insn.operand read.behind bytes (operand_length pc read.form read.behind) read.head (subst (λ o. SpellsOperand pc read.form o (take (operand_length pc read.form read.behind) read.behind)) (sym read.operand) spelled))
+
+-- no head stands where the opcode behind `wide` has no form there
+pub no_wide_head : (bytes : List ℕ) (next : ℕ) (rest : List ℕ) → bytes ≡ wide_opcode ∷ next ∷ rest → wide_form_of next ≡ None → (wide : Bool) (opcode : ℕ) (form : Form) (behind : List ℕ) → HasHead wide opcode form behind bytes → ⊥
+no_wide_head bytes next rest is_wide none false opcode form behind (is, has) =
+    let same : opcode ∷ behind ≡ wide_opcode ∷ next ∷ rest = sym is ∙ is_wide in
+    let same_opcode : opcode ≡ wide_opcode = cc in
+    let both : None ≡ Some form = ap form_of (sym same_opcode) ∙ has in
+    cc
+no_wide_head bytes next rest is_wide none true opcode form behind (is, has) =
+    let same : wide_opcode ∷ opcode ∷ behind ≡ wide_opcode ∷ next ∷ rest = sym is ∙ is_wide in
+    let same_opcode : next ≡ opcode = cc in
+    let both : None ≡ Some form = sym none ∙ ap wide_form_of same_opcode ∙ has in
+    cc
+
+-- a whole instruction is so by its head
+pub head_whole : (pc : ℕ) (wide : Bool) (opcode : ℕ) (form : Form) (behind bytes : List ℕ) (size : ℕ) → reading_at pc bytes ≡ Whole size → HasHead wide opcode form behind bytes → (operand_length pc form behind ≤ length behind) × (is_bad pc form behind ≡ false) × (reading_at pc bytes ≡ Whole (before wide + operand_length pc form behind))
+head_whole pc wide opcode form behind bytes size whole head =
+    let parts = headed pc bytes size whole in
+    let same = head_same parts.wide wide parts.opcode opcode parts.form form parts.behind behind bytes parts.head head in
+    let there : operand_length pc form behind ≤ length behind = subst (λ b. operand_length pc form b ≤ length b) same.3 (subst (λ f. operand_length pc f parts.behind ≤ length parts.behind) same.2 parts.there) in
+    let good : is_bad pc form behind ≡ false = subst (λ b. is_bad pc form b ≡ false) same.3 (subst (λ f. is_bad pc f parts.behind ≡ false) same.2 parts.good) in
+    (there, good, head_reads pc wide opcode form behind bytes head there good)

@@ -1,0 +1,14 @@
+pub mod Counts
+pub mod NumberBytes
+pub mod Marks
+pub mod Walking
+pub mod Spelling
+pub mod Fronts
+pub mod Backs
+pub mod Heads
+pub mod Codes
+pub mod Building
+pub mod Plains
+pub mod Pushes
+pub mod Sizes
+pub mod Placing

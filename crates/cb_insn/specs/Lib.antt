@@ -1,0 +1,7 @@
+pub mod Faults
+pub mod Forms
+pub mod Grammar
+pub mod Readings
+pub mod Reads
+pub mod Plain
+pub mod Places

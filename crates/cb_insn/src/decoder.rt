@@ -1,0 +1,57 @@
+// The reader of code.
+ghost use Rattle.std.specs.Prelude.{◌≡◌, ◌^◌, ◌<◌, ◌↔◌, ℕ, length, IfOk, IsErrOf, MatchResult};
+ghost use Rattle.cb_insn.specs.Faults.{IsPlace, HasFault, HasBadTarget, IsCut, IsBadOpcode, IsBadOperand};
+ghost use Rattle.cb_insn.specs.Grammar.{SpellsCode};
+ghost use Rattle.cb_insn.specs.Reads.{MarksPlaces, Stands};
+
+use crate::instruction::instruction_at;
+use crate::numbers::after;
+use crate::starts::starts;
+use crate::{Code, InsnFault, List};
+use std::alloc::Global;
+
+/// The instructions that some bytes spell, each with its place, or why they spell none: the first place that has
+/// a fault, or where there is none the first that has a target in no instruction's place (JVMS §4.7.3, §4.9.1,
+/// chapter 6). Takes time in the number of bytes.
+pub fn decode(alloc: Global, bytes: &[u8]) -> Result<Code, InsnFault>
+    requires { length bytes.now < 2 ^ 32 }
+    ensures code { IfOk result (λ code. SpellsCode code bytes.now) }
+    ensures exact { (code : _) → SpellsCode code bytes.now
+        → MatchResult result (λ found. found ≡ code) (λ fault. fault ≡ InsnFault.OutOfMemory) }
+    ensures cut { (pc : ℕ) → IsErrOf result (InsnFault.Cut pc)
+        ↔ ((¬ IsErrOf result InsnFault.OutOfMemory) × HasFault bytes.now pc IsCut) }
+    ensures bad_opcode { (pc : ℕ) → IsErrOf result (InsnFault.BadOpcode pc)
+        ↔ ((¬ IsErrOf result InsnFault.OutOfMemory) × HasFault bytes.now pc IsBadOpcode) }
+    ensures bad_operand { (pc : ℕ) → IsErrOf result (InsnFault.BadOperand pc)
+        ↔ ((¬ IsErrOf result InsnFault.OutOfMemory) × HasFault bytes.now pc IsBadOperand) }
+    ensures bad_target { (pc : ℕ) → IsErrOf result (InsnFault.BadTarget pc)
+        ↔ ((¬ IsErrOf result InsnFault.OutOfMemory) × HasBadTarget bytes.now pc) }
+{
+    decode_or_fault(alloc, bytes)
+}
+
+/// The code, or a fault that stands in the bytes.
+fn decode_or_fault(alloc: Global, bytes: &[u8]) -> Result<Code, InsnFault>
+    requires { length bytes.now < 2 ^ 32 }
+    ensures { MatchResult result (λ code. SpellsCode code bytes.now) (Stands bytes.now) }
+{
+    let starts = starts(alloc, bytes)?;
+    instructions(alloc, bytes, starts.as_slice())
+}
+
+/// The instructions of code that has no fault but in its targets, by the marks of their places.
+fn instructions(alloc: Global, bytes: &[u8], starts: &[bool]) -> Result<Code, InsnFault>
+    requires short { length bytes.now < 2 ^ 32 }
+    requires whole { IsPlace bytes.now (length bytes.now) }
+    requires marks { MarksPlaces starts.now bytes.now }
+    ensures { MatchResult result (λ code. SpellsCode code bytes.now) (Stands bytes.now) }
+{
+    let mut code = List::new(alloc);
+    let mut pc = 0;
+    while pc < bytes.len() {
+        let (insn, size) = instruction_at(alloc, pc, after(bytes, pc), starts)?;
+        code.push((pc as u32, insn))?;
+        pc += size;
+    }
+    Ok(code)
+}

@@ -1,0 +1,95 @@
+// Whether code fits some bytes.
+ghost use Rattle.std.specs.Prelude.{◌<◌, ◌^◌, ◌↔◌, ℕ, List, length, IsTrue};
+ghost use Rattle.std.specs.List.{AllByRecursion};
+ghost use Rattle.cb_insn.specs.Grammar.{SpellsCode, SpellsFrom, targets_of};
+ghost use Rattle.cb_insn.specs.Places.{HasPlace, Rise, places};
+
+use crate::size::insn_size;
+use crate::{Code, Insn, Operand, Pair};
+
+/// Whether some bytes spell the code, fewer than 2^32 (JVMS §4.7.3, §4.9.1, chapter 6). Takes time in the size of the
+/// code, times the logarithm of the number of its instructions for each target.
+pub fn fits(code: &Code) -> bool
+    ensures { IsTrue result ↔ ((bytes : List ℕ) × SpellsCode code.now bytes) }
+{
+    let placed = code.as_slice();
+    are_in_place(placed) && are_reached(placed)
+}
+
+/// Whether the instructions stand one after the other. Takes time in their size.
+fn are_in_place(code: &[(u32, Insn)]) -> bool
+    ensures { IsTrue result ↔ ((bytes : List ℕ) × SpellsFrom 0 code.now bytes × (length bytes < 2 ^ 32)) }
+{
+    let mut pc = 0;
+    let mut rest = code;
+    while let Some(((at, insn), behind)) = rest.split_first() {
+        if *at as usize != pc {
+            return false;
+        }
+        let Some(size) = insn_size(*at, insn) else {
+            return false;
+        };
+        pc += size;
+        rest = behind;
+    }
+    pc < 0x1_0000_0000
+}
+
+/// Whether each target is the place of an instruction.
+fn are_reached(code: &[(u32, Insn)]) -> bool
+    requires { Rise (places code.now) }
+    ensures { IsTrue result
+        ↔ AllByRecursion (λ placed. AllByRecursion (HasPlace code.now) (targets_of placed.1.operand)) code.now }
+{
+    code.iter()
+        .all(|placed| is_reached(code, &placed.1.operand))
+}
+
+/// Whether each target of an operand is.
+fn is_reached(code: &[(u32, Insn)], operand: &Operand) -> bool
+    requires { Rise (places code.now) }
+    ensures { IsTrue result ↔ AllByRecursion (HasPlace code.now) (targets_of operand.now) }
+{
+    match operand {
+        Operand::Branch(target) => has_place(code, *target),
+        Operand::Table {
+            default,
+            targets,
+            ..
+        } => has_place(code, *default) && have_places(code, targets.as_slice()),
+        Operand::Lookup { default, pairs } => {
+            has_place(code, *default) && lead_to_places(code, pairs.as_slice())
+        }
+        _ => true,
+    }
+}
+
+/// Whether each target is.
+fn have_places(code: &[(u32, Insn)], targets: &[u32]) -> bool
+    requires { Rise (places code.now) }
+    ensures { IsTrue result ↔ AllByRecursion (HasPlace code.now) targets.now }
+{
+    targets.iter().all(|target| has_place(code, *target))
+}
+
+/// Whether the target of each pair is.
+fn lead_to_places(code: &[(u32, Insn)], pairs: &[Pair]) -> bool
+    requires { Rise (places code.now) }
+    ensures { IsTrue result ↔ AllByRecursion (λ pair. HasPlace code.now pair.target) pairs.now }
+{
+    pairs.iter().all(|pair| has_place(code, pair.target))
+}
+
+/// Whether an instruction has this place. Takes time in the logarithm of their number.
+#[tactic(auto, unfolding(crate::specs::Places::HasPlace))]
+fn has_place(code: &[(u32, Insn)], pc: u32) -> bool
+    requires { Rise (places code.now) }
+    ensures { IsTrue result ↔ HasPlace code.now pc }
+{
+    let mut rest = code;
+    while rest.len() > 1 {
+        let (low, high) = rest.split_at(rest.len() / 2);
+        rest = if pc < high[0].0 { low } else { high };
+    }
+    !rest.is_empty() && rest[0].0 == pc
+}

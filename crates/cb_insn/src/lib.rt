@@ -1,0 +1,36 @@
+//! The code array of a method, read exactly by its grammar and written back (JVMS §4.7.3, §4.9.1, chapter 6).
+//!
+//! `specs/` has the form of each opcode's operand, the bytes of instructions and of code, and what is wrong with bytes
+//! that spell none. No clause says that memory is to be had: that no call always gives up is shown by tests alone.
+#![tactic(auto)]
+
+mod decoder;
+mod encoder;
+mod fault;
+mod fit;
+mod form;
+mod insn;
+mod instruction;
+mod laws;
+mod list;
+mod memory;
+mod numbers;
+mod operand;
+mod push;
+mod reading;
+mod size;
+mod starts;
+mod switch;
+mod target;
+#[cfg(test)]
+mod tests;
+
+pub use decoder::decode;
+pub use encoder::encode;
+pub use fault::InsnFault;
+pub use fit::fits;
+pub use form::Form;
+pub use insn::{Code, Insn, Operand, Pair, Pairs, Targets};
+pub use laws::one_code;
+pub use list::List;
+pub use memory::OutOfMemory;
