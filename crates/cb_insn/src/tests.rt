@@ -252,6 +252,7 @@ fn a_return_is_read_and_written_at_its_place_alone(rt: HostRuntime) -> Result<()
     let spelled = encoded(rt, &code)?;
     assert_eq!(rt; spelled.as_slice(), b"\xB1".as_slice());
     let mut late = List::new(rt.alloc());
+    assert!(rt; late.is_empty());
     late.push((
         1,
         Insn {
@@ -260,6 +261,8 @@ fn a_return_is_read_and_written_at_its_place_alone(rt: HostRuntime) -> Result<()
             operand: Operand::Nothing,
         },
     ))?;
+    assert_eq!(rt; late.len(), 1);
+    assert_eq!(rt; late.get(0).0, 1);
     assert!(rt; !fits(&late));
     Ok(())
 }
