@@ -8,7 +8,7 @@ pub mod Backs
 pub mod Heads
 pub mod Codes
 pub mod Building
-pub mod Plains
+pub mod Written
 pub mod Pushes
 pub mod Sizes
 pub mod Placing

@@ -8,9 +8,9 @@ use Rattle.cb_insn.specs.declared.insn.Operand.{Operand}
 use Rattle.cb_insn.specs.declared.insn.Operand.TheVariants.{Lookup}
 use Rattle.cb_insn.specs.declared.insn.Pair.{Pair}
 use Rattle.cb_insn.specs.Grammar.{SpellsBehind, SpellsInsn, SpellsFrom, SpellsCode, targets_of}
-use Rattle.cb_insn.specs.Plain.{plain_insn}
+use Rattle.cb_insn.specs.Writing.{insn_bytes}
 use Rattle.cb_insn.specs.Places.{HasPlace, Rise, places}
-use Rattle.cb_insn.proofs.Plains.{plain_insn_spells}
+use Rattle.cb_insn.proofs.Written.{insn_written}
 
 -- an instruction has bytes
 some_bytes : (pc : ℕ) (wide : Bool) (opcode : ℕ) (operand : Operand) (bytes : List ℕ) → SpellsBehind pc wide opcode operand bytes → 0 < length bytes
@@ -117,21 +117,21 @@ walked_end code pc walked = let found = walked.whole [] refl in (found.0, found.
 pub walked_long : (code : List (ℕ × Insn)) (pc : ℕ) → Walked code pc [] → (bytes : List ℕ) → SpellsFrom 0 code bytes → length bytes ≡ pc
 walked_long code pc walked bytes spelled = let found = walked.part bytes spelled in omega (arith, found.2, ap length found.1)
 
-pub walked_more : (code : List (ℕ × Insn)) (pc size : ℕ) (insn : Insn) (rest : List (ℕ × Insn)) → Walked code pc ((pc, insn) ∷ rest) → SpellsInsn pc insn (plain_insn pc insn) → size ≡ length (plain_insn pc insn) → Walked code (pc + size) rest
+pub walked_more : (code : List (ℕ × Insn)) (pc size : ℕ) (insn : Insn) (rest : List (ℕ × Insn)) → Walked code pc ((pc, insn) ∷ rest) → SpellsInsn pc insn (insn_bytes pc insn) → size ≡ length (insn_bytes pc insn) → Walked code (pc + size) rest
 walked_more code pc size insn rest walked spelled is = record {
   whole = λ tail from.
-      let found = walked.whole (plain_insn pc insn ++ tail) (plain_insn pc insn, tail, refl, spelled, refl, subst (λ n. SpellsFrom (pc + n) rest tail) is from) in
-      (found.0, found.1, omega (arith, found.2, is, length-append (plain_insn pc insn) tail));
+      let found = walked.whole (insn_bytes pc insn ++ tail) (insn_bytes pc insn, tail, refl, spelled, refl, subst (λ n. SpellsFrom (pc + n) rest tail) is from) in
+      (found.0, found.1, omega (arith, found.2, is, length-append (insn_bytes pc insn) tail));
   part = λ bytes from. taken bytes (walked.part bytes from);
 } where
   taken : (bytes : List ℕ) → (tail : List ℕ) × SpellsFrom pc ((pc, insn) ∷ rest) tail × (length bytes ≡ pc + length tail) → (tail : List ℕ) × SpellsFrom (pc + size) rest tail × (length bytes ≡ (pc + size) + length tail)
   taken bytes (tail, (first, others, placed, read, apart, from), long) =
-      let same : length first ≡ size = (plain_insn_spells pc insn first read).1 ∙ sym is in
+      let same : length first ≡ size = (insn_written pc insn first read).1 ∙ sym is in
       (others, subst (λ n. SpellsFrom (pc + n) rest others) same from, omega (arith, long, ap length apart, same, length-append first others))
 
-pub walked_next : (code : List (ℕ × Insn)) (pc size : ℕ) (placed : ℕ × Insn) (rest whole : List (ℕ × Insn)) → Walked code pc whole → whole ≡ placed ∷ rest → placed.0 ≡ pc → SpellsInsn placed.0 placed.1 (plain_insn placed.0 placed.1) → size ≡ length (plain_insn placed.0 placed.1) → Walked code (pc + size) rest
+pub walked_next : (code : List (ℕ × Insn)) (pc size : ℕ) (placed : ℕ × Insn) (rest whole : List (ℕ × Insn)) → Walked code pc whole → whole ≡ placed ∷ rest → placed.0 ≡ pc → SpellsInsn placed.0 placed.1 (insn_bytes placed.0 placed.1) → size ≡ length (insn_bytes placed.0 placed.1) → Walked code (pc + size) rest
 walked_next code pc size (at, insn) rest whole walked is here spelled size_is =
-    walked_more code pc size insn rest (subst (Walked code pc) (is ∙ ap (λ p. (p, insn) ∷ rest) here) walked) (subst (λ p. SpellsInsn p insn (plain_insn p insn)) here spelled) (size_is ∙ ap (λ p. length (plain_insn p insn)) here)
+    walked_more code pc size insn rest (subst (Walked code pc) (is ∙ ap (λ p. (p, insn) ∷ rest) here) walked) (subst (λ p. SpellsInsn p insn (insn_bytes p insn)) here spelled) (size_is ∙ ap (λ p. length (insn_bytes p insn)) here)
 
 -- at the end the whole code is spelled, in so many bytes
 pub walked_done : (code : List (ℕ × Insn)) (pc : ℕ) (rest : List (ℕ × Insn)) → Walked code pc rest → length rest ≡ 0 → (pc < 2 ^ 32) ↔ ((bytes : List ℕ) × SpellsFrom 0 code bytes × (length bytes < 2 ^ 32))

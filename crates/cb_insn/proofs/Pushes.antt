@@ -8,7 +8,7 @@ use Rattle.cb_insn.specs.declared.form.Form.TheVariants as forms
 use Rattle.cb_insn.specs.declared.insn.Operand.{Operand}
 use Rattle.cb_insn.specs.declared.insn.Operand.TheVariants.{Table}
 use Rattle.cb_insn.specs.Faults.{padding_length}
-use Rattle.cb_insn.specs.Plain.{plain_operand}
+use Rattle.cb_insn.specs.Writing.{operand_bytes}
 use Rattle.cb_insn.specs.Grammar.{s4, offset, table_bytes}
 use Rattle.cb_insn.proofs.Spelling.{offset_bytes}
 
@@ -28,7 +28,7 @@ table_pushed result pc default low wide targets start one two three end low_fits
       ∙ append_assoc start (s4 (offset pc default)) (s4 low ++ (s4 high ++ offset_bytes pc targets))
 
 -- a table behind its padding
-pub padded_pushed : (pc : ℕ) (form : Form) (operand : Operand) (default : ℕ) (low passed : ℤ) (targets slice start one end : List ℕ) → form ≡ forms.Table → operand ≡ Table default low targets → one ≡ start ++ replicate (padding_length pc) 0 → slice ≡ targets → passed ≡ low → end ≡ one ++ table_bytes pc default passed slice → end ≡ start ++ plain_operand pc form operand
+pub padded_pushed : (pc : ℕ) (form : Form) (operand : Operand) (default : ℕ) (low passed : ℤ) (targets slice start one end : List ℕ) → form ≡ forms.Table → operand ≡ Table default low targets → one ≡ start ++ replicate (padding_length pc) 0 → slice ≡ targets → passed ≡ low → end ≡ one ++ table_bytes pc default passed slice → end ≡ start ++ operand_bytes pc form operand
 padded_pushed pc form operand default low passed targets slice start one end is_form is_operand is_one is_slice is_passed is_end =
     is_end ∙ ap (λ l. one ++ table_bytes pc default l slice) is_passed ∙ ap (λ ts. one ++ table_bytes pc default low ts) is_slice ∙ ap (λ b. b ++ table_bytes pc default low targets) is_one ∙ append_assoc start (replicate (padding_length pc) 0) (table_bytes pc default low targets)
-    ∙ ap (λ o. start ++ plain_operand pc forms.Table o) (sym is_operand) ∙ ap (λ f. start ++ plain_operand pc f operand) (sym is_form)
+    ∙ ap (λ o. start ++ operand_bytes pc forms.Table o) (sym is_operand) ∙ ap (λ f. start ++ operand_bytes pc f operand) (sym is_form)

@@ -8,7 +8,7 @@ use Rattle.cb_insn.specs.declared.insn.Pair.{Pair}
 use Rattle.cb_insn.specs.declared.insn.Operand.TheVariants as operands
 use Rattle.cb_insn.specs.Grammar.{IsPadding, SpellsOperand, KeysRise, offset, table_bytes, lookup_bytes}
 use Rattle.cb_insn.specs.Faults.{padding_length}
-use Rattle.cb_insn.specs.Plain.{plain_operand}
+use Rattle.cb_insn.specs.Writing.{operand_bytes}
 use Rattle.cb_insn.proofs.Spelling.{is_padding, offset_bytes, offsets_length, pair_bytes, pairs_length}
 
 long : (pc : ℕ) (switch : List ℕ) → length (replicate (padding_length pc) 0 ++ switch) ≡ padding_length pc + length switch
@@ -18,7 +18,7 @@ zeros : (pc : ℕ) → IsPadding pc (replicate (padding_length pc) 0)
 zeros pc = is_padding pc (replicate (padding_length pc) 0) (length-replicate (padding_length pc) 0)
 
 pub table_fits : (pc default : ℕ) (low : ℤ) (targets : List ℕ) → 0 < length targets → FitsSigned w32 low → FitsSigned w32 ((low +ℤ pos (length targets)) -ℤ pos 1) → FitsSigned w32 (offset pc default) → AllByRecursion (λ target. FitsSigned w32 (offset pc target)) targets
-    → SpellsOperand pc forms.Table (operands.Table default low targets) (plain_operand pc forms.Table (operands.Table default low targets)) × (padding_length pc + 12 + 4 * length targets ≡ length (plain_operand pc forms.Table (operands.Table default low targets)))
+    → SpellsOperand pc forms.Table (operands.Table default low targets) (operand_bytes pc forms.Table (operands.Table default low targets)) × (padding_length pc + 12 + 4 * length targets ≡ length (operand_bytes pc forms.Table (operands.Table default low targets)))
 table_fits pc default low targets some low_fits high_fits default_fits fit =
     let size : length (table_bytes pc default low targets) ≡ 12 + length (offset_bytes pc targets) = omega arith in
     ((replicate (padding_length pc) 0, zeros pc, refl, some, low_fits, high_fits, default_fits, fit), omega (arith, long pc (table_bytes pc default low targets), size, offsets_length pc targets))
@@ -28,7 +28,7 @@ both pc [] fit = (tt, tt)
 both pc (pair ∷ pairs) ((key, target), fit) = let rest = both pc pairs fit in ((key, rest.0), (target, rest.1))
 
 pub lookup_fits : (pc default : ℕ) (pairs : List Pair) → length pairs < 2 ^ 31 → KeysRise pairs → FitsSigned w32 (offset pc default) → AllByRecursion (λ pair. FitsSigned w32 pair.key × FitsSigned w32 (offset pc pair.target)) pairs
-    → SpellsOperand pc forms.Lookup (operands.Lookup default pairs) (plain_operand pc forms.Lookup (operands.Lookup default pairs)) × (padding_length pc + 8 + 8 * length pairs ≡ length (plain_operand pc forms.Lookup (operands.Lookup default pairs)))
+    → SpellsOperand pc forms.Lookup (operands.Lookup default pairs) (operand_bytes pc forms.Lookup (operands.Lookup default pairs)) × (padding_length pc + 8 + 8 * length pairs ≡ length (operand_bytes pc forms.Lookup (operands.Lookup default pairs)))
 lookup_fits pc default pairs few rise default_fits fit =
     let size : length (lookup_bytes pc default pairs) ≡ 8 + length (pair_bytes pc pairs) = omega arith in
     let parts = both pc pairs fit in

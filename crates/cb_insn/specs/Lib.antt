@@ -3,5 +3,5 @@ pub mod Forms
 pub mod Grammar
 pub mod Readings
 pub mod Reads
-pub mod Plain
+pub mod Writing
 pub mod Places

@@ -1,7 +1,7 @@
 // The writer of code.
 ghost use Rattle.std.specs.Prelude.{◌≡◌, ◌++◌, ℕ, List, IfOk, OnOk};
 ghost use Rattle.cb_insn.specs.Grammar.{SpellsCode, SpellsInsn};
-ghost use Rattle.cb_insn.specs.Plain.{plain_bytes, plain_insn};
+ghost use Rattle.cb_insn.specs.Writing.{code_bytes, insn_bytes};
 
 use crate::form::{WIDE, form_of, wide_form_of};
 use crate::push::push_operand;
@@ -14,7 +14,7 @@ pub fn encode(alloc: Global, code: &Code) -> Result<Vec<u8>, OutOfMemory>
     requires { (bytes : List ℕ) × SpellsCode code.now bytes }
     ensures spelled { IfOk result (λ bytes. SpellsCode code.now bytes.items) }
     ensures read_back { IfOk result (λ bytes. (other : _) → SpellsCode other bytes.items → other ≡ code.now) }
-    ensures plain { IfOk result (λ bytes. bytes.items ≡ plain_bytes code.now) }
+    ensures exact { IfOk result (λ bytes. bytes.items ≡ code_bytes code.now) }
 {
     let mut bytes = Vec::new(alloc);
     for placed in code.as_slice() {
@@ -26,7 +26,7 @@ pub fn encode(alloc: Global, code: &Code) -> Result<Vec<u8>, OutOfMemory>
 /// Writes an instruction at the end. A refused growth may leave a part of it there.
 fn push_insn(bytes: &mut Vec<u8>, pc: u32, insn: &Insn) -> Result<(), OutOfMemory>
     requires { (spelled : List ℕ) × SpellsInsn pc insn.now spelled }
-    ensures { OnOk result (bytes.new.items ≡ bytes.old.items ++ plain_insn pc insn.now) }
+    ensures { OnOk result (bytes.new.items ≡ bytes.old.items ++ insn_bytes pc insn.now) }
 {
     let form = if insn.wide {
         bytes.push(WIDE)?;

@@ -33,14 +33,14 @@ pub(crate) fn operand_at(
         Form::LongBranch => Ok(Operand::Branch(target_at(pc, s4_at(behind), starts)?)),
         Form::Table => table_at(alloc, pc, behind_padding(pc, behind), starts),
         Form::Lookup => lookup_at(alloc, pc, behind_padding(pc, behind), starts),
-        other => Ok(plain_operand(other, behind)),
+        other => Ok(operand_without_target(other, behind)),
     }
 }
 
 /// The operand of an instruction that has no target.
-fn plain_operand(form: Form, behind: &[u8]) -> Operand
+fn operand_without_target(form: Form, behind: &[u8]) -> Operand
     requires there { operand_length 0 form behind.now ≤ length behind.now }
-    requires plain { HasNoTarget form }
+    requires no_target { HasNoTarget form }
     ensures { result ≡ operand_of 0 form behind.now }
 {
     match form {

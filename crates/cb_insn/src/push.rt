@@ -4,7 +4,7 @@ ghost use Rattle.std.specs.Int.{w32};
 ghost use Rattle.std.specs.List.{AllByRecursion, flat_map};
 ghost use Rattle.cb_insn.specs.Faults.{padding_length};
 ghost use Rattle.cb_insn.specs.Grammar.{SpellsOperand, u2, s2, s4, offset, table_bytes, lookup_bytes};
-ghost use Rattle.cb_insn.specs.Plain.{plain_operand};
+ghost use Rattle.cb_insn.specs.Writing.{operand_bytes};
 ghost use Rattle.cb_insn.specs.declared.insn.Operand.TheVariants.{Increase};
 
 use crate::form::Form;
@@ -19,7 +19,7 @@ pub(crate) fn push_operand(
     operand: &Operand,
 ) -> Result<(), OutOfMemory>
     requires { (spelled : List ℕ) × SpellsOperand pc form operand.now spelled }
-    ensures { OnOk result (bytes.new.items ≡ bytes.old.items ++ plain_operand pc form operand.now) }
+    ensures { OnOk result (bytes.new.items ≡ bytes.old.items ++ operand_bytes pc form operand.now) }
 {
     match (form, operand) {
         (Form::Byte, Operand::Number(number)) => bytes.push((*number as i8).cast_unsigned())?,
@@ -170,7 +170,7 @@ fn push_lookup(
 /// Writes a local and a number with a sign, in one byte each or in two.
 fn push_increase(bytes: &mut Vec<u8>, form: Form, local: u16, by: i16) -> Result<(), OutOfMemory>
     requires { (spelled : List ℕ) × SpellsOperand 0 form (Increase local by) spelled }
-    ensures { OnOk result (bytes.new.items ≡ bytes.old.items ++ plain_operand 0 form (Increase local by)) }
+    ensures { OnOk result (bytes.new.items ≡ bytes.old.items ++ operand_bytes 0 form (Increase local by)) }
 {
     if form == Form::Increase {
         bytes.push(local as u8)?;

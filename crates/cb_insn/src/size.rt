@@ -3,7 +3,7 @@ ghost use Rattle.std.specs.Prelude.{◌≡◌, ◌<◌, ◌^◌, ◌↔◌, ℕ,
 ghost use Rattle.std.specs.Int.{w16, w32};
 ghost use Rattle.std.specs.List.{AllByRecursion};
 ghost use Rattle.cb_insn.specs.Grammar.{SpellsInsn, KeysRise, offset};
-ghost use Rattle.cb_insn.specs.Plain.{IsSize, IsUnspelled, plain_insn};
+ghost use Rattle.cb_insn.specs.Writing.{IsSize, IsUnspelled, insn_bytes};
 ghost use Rattle.cb_insn.specs.declared.insn.Operand.TheVariants as operands;
 
 use crate::form::{Form, form_of, wide_form_of};
@@ -12,8 +12,8 @@ use crate::{Insn, Operand, Pair};
 
 /// How many bytes spell an instruction at a place, or `None` where none do. Takes time in their number.
 pub(crate) fn insn_size(pc: u32, insn: &Insn) -> Option<usize>
-    ensures fits { IfSome result (λ size. SpellsInsn pc insn.now (plain_insn pc insn.now)
-        × (size ≡ length (plain_insn pc insn.now))) }
+    ensures fits { IfSome result (λ size. SpellsInsn pc insn.now (insn_bytes pc insn.now)
+        × (size ≡ length (insn_bytes pc insn.now))) }
     ensures bound { IfSome result (λ size. (0 < size) × (size < 2 ^ 41)) }
     ensures none { IsNone result → (bytes : List ℕ) → SpellsInsn pc insn.now bytes → ⊥ }
 {

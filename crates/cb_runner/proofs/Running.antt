@@ -3,12 +3,12 @@ use Rattle.std.proofs.Common.{◌≡◌, ℕ, ℤ, ◌+◌, ◌-◌, ◌^◌, �
 use Rattle.std.specs.Io.KnownBytes.{Appends}
 use Rattle.cb_machine.specs.Expression.{Expression, Constant, Apply, value}
 use Rattle.cb_machine.specs.Printing.{printed}
-use Rattle.cb_classfile.specs.declared.instruction.Instruction.{Instruction}
-use Rattle.cb_classfile.specs.declared.instruction.Instruction.TheVariants.{Operate, PrintLine}
-use Rattle.cb_classfile.specs.Instructions.{IsNext, SpellsCode}
-use Rattle.cb_classfile.specs.FirstForm.{RunsProgram}
-use Rattle.cb_classfile.specs.Program.{code_of_expression, code_of_program, entries_of, greatest_of}
-use Rattle.cb_classfile.proofs.Scanning.{IsOnlyNext}
+use Rattle.cb_first_form.specs.declared.instruction.Instruction.{Instruction}
+use Rattle.cb_first_form.specs.declared.instruction.Instruction.TheVariants.{Operate, PrintLine}
+use Rattle.cb_first_form.specs.Instructions.{IsNext, SpellsCode}
+use Rattle.cb_first_form.specs.FirstForm.{RunsProgram}
+use Rattle.cb_first_form.specs.Program.{code_of_expression, code_of_program, entries_of, greatest_of}
+use Rattle.cb_first_form.proofs.Scanning.{IsOnlyNext}
 use Rattle.cb_io.specs.Sink.{AppendsProperPrefix}
 use Rattle.cb_io.proofs.Writing.{Appends-Appends}
 use Rattle.cb_runner.specs.Execution.{stack_after, text_of}

@@ -3,7 +3,7 @@ use Rattle.std.specs.Prelude.{◌≡◌, ◌⊎◌, ℕ, ◌<◌, ◌≤◌, Lis
 use Rattle.std.specs.FinMap.{get}
 use Rattle.cb_io.specs.Folder.{Files}
 use Rattle.cb_machine.specs.Expression.{Expression}
-use Rattle.cb_classfile.specs.FirstForm.{SpellsProgram}
+use Rattle.cb_first_form.specs.FirstForm.{SpellsProgram}
 use Rattle.cb_runner.specs.declared.cause.Cause.{Cause}
 use Rattle.cb_runner.specs.declared.cause.Cause.TheVariants.{Returned, Usage, Refused, FolderFault, OutputFault, OutOfMemory}
 use Rattle.cb_runner.specs.Words.{IsRun, class_path}

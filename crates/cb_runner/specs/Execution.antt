@@ -2,8 +2,8 @@
 use Rattle.std.specs.Prelude.{ℤ, ℕ, List, [], ◌∷◌, Option, Some, None}
 use Rattle.cb_machine.specs.Arithmetic.{apply}
 use Rattle.cb_machine.specs.Printing.{line}
-use Rattle.cb_classfile.specs.declared.instruction.Instruction.{Instruction}
-use Rattle.cb_classfile.specs.declared.instruction.Instruction.TheVariants.{GetOut, Push, Operate, PrintLine, Return}
+use Rattle.cb_first_form.specs.declared.instruction.Instruction.{Instruction}
+use Rattle.cb_first_form.specs.declared.instruction.Instruction.TheVariants.{GetOut, Push, Operate, PrintLine, Return}
 
 -- the operand stack after an instruction, the topmost value first, or nothing where a value is missing
 abbrev pub stack_after : Instruction → List ℤ → Option (List ℤ)

@@ -2,7 +2,7 @@
 use Rattle.std.specs.Prelude.{◌≡◌, ◌⊎◌, ℕ, ◌<◌, ◌≤◌, List, length, Option, Some, None, IsSomeAnd, Vec, Result, Ok, Err}
 use Rattle.std.specs.declared.alloc.Global.{Global}
 use Rattle.cb_machine.specs.Expression.{Expression}
-use Rattle.cb_classfile.specs.FirstForm.{SpellsProgram}
+use Rattle.cb_first_form.specs.FirstForm.{SpellsProgram}
 use Rattle.cb_runner.specs.declared.cause.Cause.{Cause}
 use Rattle.cb_runner.specs.declared.cause.Cause.TheVariants.{Returned, Usage, Refused, FolderFault, OutputFault, OutOfMemory}
 use Rattle.cb_runner.specs.declared.cause.Refusal.TheVariants.{MissingClass, NotYet}

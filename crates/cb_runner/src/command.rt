@@ -6,7 +6,7 @@ ghost use Rattle.cb_io.specs.Faults.{CountsFaults};
 ghost use Rattle.cb_io.specs.Sink.{AppendsProperPrefix};
 ghost use Rattle.cb_machine.specs.Expression.{Expression};
 ghost use Rattle.cb_machine.specs.Printing.{printed};
-ghost use Rattle.cb_classfile.specs.FirstForm.{SpellsProgram};
+ghost use Rattle.cb_first_form.specs.FirstForm.{SpellsProgram};
 ghost use Rattle.cb_runner.specs.Answer.{NamesNoFile, NamesOtherFile, NamesProgram, IsCutShort, IsBeforeOutput, status_of};
 ghost use Rattle.cb_runner.specs.Grounds.{Grounds, IsBeforeRun, IsProgramFile, ReadsClass, RunsFile};
 ghost use Rattle.cb_runner.specs.Words.{IsRun, class_path};
@@ -15,7 +15,7 @@ use crate::interpreter::interpret;
 use crate::operand_stack::OperandStack;
 use crate::words::folder_of_run;
 use crate::{Cause, Ended, Refusal};
-use cb_classfile::read_first_form;
+use cb_first_form::read_first_form;
 use cb_io::{Failed, Folder, FolderError, Found, Sink, Source};
 use std::alloc::Global;
 

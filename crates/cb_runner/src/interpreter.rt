@@ -3,13 +3,13 @@ ghost use Rattle.std.specs.Prelude.{◌≡◌, ◌≤◌, List, [], length, IsEr
 ghost use Rattle.std.specs.Io.KnownBytes.{Appends};
 ghost use Rattle.cb_io.specs.Faults.{CountsFaults};
 ghost use Rattle.cb_io.specs.Sink.{AppendsProperPrefix};
-ghost use Rattle.cb_classfile.specs.FirstForm.{RunsProgram};
+ghost use Rattle.cb_first_form.specs.FirstForm.{RunsProgram};
 ghost use Rattle.cb_machine.specs.Expression.{Expression};
 ghost use Rattle.cb_machine.specs.Printing.{line, printed};
 ghost use Rattle.cb_runner.specs.Execution.{stack_after, text_of};
 
 use crate::operand_stack::OperandStack;
-use cb_classfile::{Instruction, next_instruction};
+use cb_first_form::{Instruction, next_instruction};
 use cb_io::{Failed, Sink, write_all};
 use itoa::Buffer;
 

@@ -6,3 +6,4 @@ pub mod Places
 pub mod Pooling
 pub mod ReadAgain
 pub mod Spelling
+pub mod OnePool

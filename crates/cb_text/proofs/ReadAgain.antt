@@ -40,7 +40,7 @@ numbers_again (InvokeDynamic bootstrap member) tag bytes rest has fit spelled = 
 numbers_again Gap tag bytes rest has fit spelled = absurd has
 
 -- what has bytes is a text or has numbers
-text_or_numbers : (constant : Constant) → HasBytes constant → ((units : List ℕ) × (constant ≡ Utf8 units)) ⊎ HasNumbers constant
+pub text_or_numbers : (constant : Constant) → HasBytes constant → ((units : List ℕ) × (constant ≡ Utf8 units)) ⊎ HasNumbers constant
 text_or_numbers (Utf8 units) has = inl (units, refl)
 text_or_numbers Gap has = absurd has
 text_or_numbers constant has = inr has

@@ -1,5 +1,5 @@
 -- The spelling of a unit and of a text at the front of some bytes.
-use Rattle.std.proofs.Common.{◌≡◌, ℕ, ◌^◌, ◌<◌, List, [], ◌∷◌, ◌++◌, length, refl, sym, ◌∙◌, ap, arith, append_assoc, length-append}
+use Rattle.std.proofs.Common.{◌≡◌, ℕ, suc, ◌^◌, ◌<◌, List, [], ◌∷◌, ◌++◌, length, get_or, refl, sym, ◌∙◌, ap, arith, append_assoc, length-append}
 use Rattle.std.proofs.lemmas.List.{append-nil}
 use Rattle.cb_text.specs.Text.{unit_bytes, text_bytes, AreUnits}
 
@@ -33,3 +33,8 @@ pub text_same : (one other : List ℕ) → AreUnits one → AreUnits other → t
 text_same one other fit others_fit same =
     let behind = text_front one other [] fit others_fit (sym same ∙ sym (append-nil (text_bytes one))) in
     sym (behind.2 ∙ ap (λ tail. one ++ tail) (no_text behind.0 behind.3) ∙ append-nil one)
+
+-- numbers below 65536 at each place are units
+pub are_units : (units : List ℕ) → ((i : ℕ) → get_or units i 0 < 2 ^ 16) → AreUnits units
+are_units [] below = tt
+are_units (unit ∷ units) below = (below 0, are_units units (λ i. below (suc i)))

@@ -24,6 +24,6 @@ mod writing;
 pub use constant::Constant;
 pub use list::{List, Units};
 pub use memory::OutOfMemory;
-pub use pool::{Pool, read_pool};
+pub use pool::{Pool, one_pool, read_pool};
 pub use pool_fault::PoolFault;
 pub use text::{TextFault, decode_modified, encode_modified, one_spelling};

@@ -75,6 +75,12 @@ pub fn read_pool(alloc: Global, bytes: &[u8]) -> Result<(Pool, usize), PoolFault
     Ok((Pool { constants }, end))
 }
 
+/// At most one pool is a front of some bytes.
+pub fn one_pool()
+    ensures { (bytes : List ℕ) (one other : List AnyConstant) (end last : ℕ)
+        → BeginsWithPool bytes one end → BeginsWithPool bytes other last → (one ≡ other) × (end ≡ last) }
+{}
+
 /// The constants of the pool at the front of the bytes, and how many bytes it takes.
 fn pool_at(alloc: Global, bytes: &[u8]) -> Result<(Vec<Constant>, usize), PoolFault>
     ensures pool { IfOk result (λ read. IsPool read.0.items × BeginsWithPool bytes.now read.0.items read.1) }

@@ -62,6 +62,8 @@ pub fn decode_modified(alloc: Global, bytes: &[u8]) -> Result<Units, TextFault>
 /// where no memory was to be had. Takes time in the number of units.
 pub fn encode_modified(alloc: Global, units: &[u16]) -> Result<Vec<u8>, OutOfMemory>
     ensures spelled { IfOk result (λ bytes. bytes.items ≡ text_bytes units.now) }
+    ensures read_back { IfOk result (λ bytes. (other : List ℕ) → AreUnits other
+        → bytes.items ≡ text_bytes other → other ≡ units.now) }
 {
     let mut bytes = Vec::new(alloc);
     for unit in units {

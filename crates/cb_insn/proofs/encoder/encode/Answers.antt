@@ -2,9 +2,9 @@ use Rattle.std.proofs.Common.{All, sym, ◌∙◌, ap, subst}
 use Rattle.std.proofs.lemmas.List.{take_all}
 use Rattle.std.proofs.lemmas.List.Elements.{All-get_or}
 use Rattle.cb_insn.specs.Grammar.{SpellsCode}
-use Rattle.cb_insn.specs.Plain.{plain_bytes}
+use Rattle.cb_insn.specs.Writing.{code_bytes}
 use Rattle.cb_insn.proofs.Codes.{one_code_spelled}
-use Rattle.cb_insn.proofs.Plains.{IsSpelled, each_spelled, plain_code}
+use Rattle.cb_insn.proofs.Written.{IsSpelled, each_spelled, code_written}
 use Rattle.cb_insn.proofs.encoder.encode.Goals as goal
 
 pub push_insn-requires : goal.push_insn-requires
@@ -14,10 +14,10 @@ push_insn-requires c =
 
 pub returns-clause-spelled : goal.returns-clause-spelled
 returns-clause-spelled c =
-    let whole = c.loop-placed.invariant ∙ ap plain_bytes (take_all c.loop-placed.placed-index c.as_slice-placed-items.result.now c.loop-placed-test.false ∙ c.as_slice-placed-items.ensures) in
-    subst (SpellsCode c.args.code.now) (sym whole) (plain_code c.args.code.now c.requires.0 c.requires.1).0
+    let whole = c.loop-placed.invariant ∙ ap code_bytes (take_all c.loop-placed.placed-index c.as_slice-placed-items.result.now c.loop-placed-test.false ∙ c.as_slice-placed-items.ensures) in
+    subst (SpellsCode c.args.code.now) (sym whole) (code_written c.args.code.now c.requires.0 c.requires.1).0
 
 pub returns-clause-read_back : goal.returns-clause-read_back
 returns-clause-read_back c = λ other spells.
-    let whole = c.loop-placed.invariant ∙ ap plain_bytes (take_all c.loop-placed.placed-index c.as_slice-placed-items.result.now c.loop-placed-test.false ∙ c.as_slice-placed-items.ensures) in
-    one_code_spelled _ other c.args.code.now spells (subst (SpellsCode c.args.code.now) (sym whole) (plain_code c.args.code.now c.requires.0 c.requires.1).0)
+    let whole = c.loop-placed.invariant ∙ ap code_bytes (take_all c.loop-placed.placed-index c.as_slice-placed-items.result.now c.loop-placed-test.false ∙ c.as_slice-placed-items.ensures) in
+    one_code_spelled _ other c.args.code.now spells (subst (SpellsCode c.args.code.now) (sym whole) (code_written c.args.code.now c.requires.0 c.requires.1).0)

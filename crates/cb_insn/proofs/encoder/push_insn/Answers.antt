@@ -1,5 +1,5 @@
 use Rattle.std.proofs.Common.{sym, ◌∙◌}
-use Rattle.cb_insn.proofs.Plains.{operand_spelled, wide_operand_spelled}
+use Rattle.cb_insn.proofs.Written.{operand_spelled, wide_operand_spelled}
 use Rattle.cb_insn.proofs.encoder.push_insn.Goals as goal
 use Rattle.cb_insn.proofs.encoder.push_insn.Goals.{then-insn+in_ok-push, else-insn}
 

@@ -1,0 +1,32 @@
+use Rattle.std.proofs.Common.{◌+◌, length, sym, ◌∙◌, ap, arith}
+use Rattle.cb_first_form.specs.Frame.{front, back, attribute_of}
+use Rattle.cb_first_form.proofs.Spelling.{behind_same, before_same}
+use Rattle.cb_first_form.proofs.frame.read_frame.Goals as goal
+use Rattle.cb_first_form.proofs.frame.read_frame.Goals.{then-header-code-via-then-header-code, then-header-code-via-else-header-code+then-header-code-2}
+
+pub returns-in_err-header-clause-only : goal.returns-in_err-header-clause-only
+returns-in_err-header-clause-only c = λ max_stack max_locals code stack_fits locals_fit short file.
+    let attribute = behind_same front _ (attribute_of max_stack max_locals code) (sym c.in_ok-behind_front.ensures ∙ file) in
+    absurd (c.in_err-header.ensures.only (12 + length code) max_stack max_locals (length code) _ (omega arith) stack_fits locals_fit (omega arith) attribute)
+
+pub returns-in_err-code-clause-only : goal.returns-in_err-code-clause-only
+returns-in_err-code-clause-only c = λ max_stack max_locals code stack_fits locals_fit short file.
+    let attribute = behind_same front _ (attribute_of max_stack max_locals code) (sym c.in_ok-behind_front.ensures ∙ file) in
+    let header = c.in_ok-header.ensures.only (12 + length code) max_stack max_locals (length code) _ (omega arith) stack_fits locals_fit (omega arith) attribute in
+    absurd (c.in_err-code.ensures code header.4)
+
+pub returns-then-header-code-clause-only : goal.returns-then-header-code-clause-only
+returns-then-header-code-clause-only c = λ max_stack max_locals code stack_fits locals_fit short file.
+    let attribute = behind_same front _ (attribute_of max_stack max_locals code) (sym c.in_ok-behind_front.ensures ∙ file) in
+    let header = c.in_ok-header.ensures.only (12 + length code) max_stack max_locals (length code) _ (omega arith) stack_fits locals_fit (omega arith) attribute in
+    let same = before_same c.in_ok-code.code.now code back (sym c.in_ok-code.ensures ∙ header.4) in
+    elim c.then-header-code.branch [
+      | then-header-code-via-then-header-code w ↦ omega (arith, ap length same, header.0)
+      | then-header-code-via-else-header-code+then-header-code-2 w ↦ omega (arith, ap length same, header.3)
+    ]
+
+pub returns-clause-only : goal.returns-clause-only
+returns-clause-only c = λ max_stack max_locals code stack_fits locals_fit short file.
+    let attribute = behind_same front _ (attribute_of max_stack max_locals code) (sym c.in_ok-behind_front.ensures ∙ file) in
+    let header = c.in_ok-header.ensures.only (12 + length code) max_stack max_locals (length code) _ (omega arith) stack_fits locals_fit (omega arith) attribute in
+    (header.1, header.2, before_same c.in_ok-code.code.now code back (sym c.in_ok-code.ensures ∙ header.4))
