@@ -82,7 +82,7 @@ fn lead_to_places(code: &[(u32, Insn)], pairs: &[Pair]) -> bool
 
 /// Whether an instruction has this place. Takes time in the logarithm of their number.
 #[tactic(auto, unfolding(crate::specs::Places::HasPlace))]
-fn has_place(code: &[(u32, Insn)], pc: u32) -> bool
+pub(crate) fn has_place(code: &[(u32, Insn)], pc: u32) -> bool
     requires { Rise (places code.now) }
     ensures { IsTrue result ↔ HasPlace code.now pc }
 {

@@ -1,5 +1,5 @@
 // Instructions as the JVMS and `javap` read them.
-use crate::{Code, Insn, InsnFault, List, Operand, Pair, decode, encode, fits};
+use crate::{Code, Insn, InsnFault, List, Operand, Pair, decode, encode, fits, is_place};
 use std::test::Fail;
 
 /// The code that `javac --release 8 -g:none` of JDK 17 wrote for this method, with a `wide iinc` and both switches.
@@ -340,5 +340,22 @@ fn the_code_of_a_real_method_is_read_as_javap_reads_it(rt: HostRuntime) -> Resul
     }
     let spelled = encoded(rt, &code)?;
     assert_eq!(rt; spelled.as_slice(), REAL);
+    Ok(())
+}
+
+#[test]
+fn the_places_of_code_are_those_of_its_instructions(rt: HostRuntime) -> Result<(), Fail> {
+    let code = decode(rt.alloc(), b"\x10\x07\x10\x06\x68\xB1")?;
+    for (pc, want) in [
+        (0, true),
+        (1, false),
+        (2, true),
+        (3, false),
+        (4, true),
+        (5, true),
+        (6, false),
+    ] {
+        assert_eq!(rt; is_place(&code, pc), want, "at {pc}");
+    }
     Ok(())
 }

@@ -1,0 +1,4 @@
+pub mod Descriptors
+pub mod FirstFloating
+pub mod Fronts
+pub mod Names
