@@ -1,2 +1,3 @@
+pub mod Characters
 pub mod Files
 pub mod Writing

@@ -1,6 +1,7 @@
 -- A piece that is written in several calls.
-use Rattle.std.proofs.Common.{◌≡◌, ℕ, ◌-◌, ◌^◌, ◌<◌, ◌≤◌, List, [], ◌++◌, take, drop, Option, Some, None, refl, sym, ◌∙◌, ap, arith, append_assoc, append-nil, take-append-drop}
+use Rattle.std.proofs.Common.{◌≡◌, ℕ, ◌-◌, ◌^◌, ◌<◌, ◌≤◌, List, [], ◌++◌, take, drop, Option, Some, None, refl, sym, ◌∙◌, ap, subst, arith, append_assoc, append-nil, length-append, take-append-drop}
 use Rattle.std.specs.Io.KnownBytes.{Appends, Keeps}
+use Rattle.cb_io.specs.Sink.{AppendsProperPrefix}
 
 -- so far `done` of the bytes was taken, `rest` is left, and no call has failed
 pub record Written (old new : Option (List ℕ)) (before now : ℕ) (bytes rest : List ℕ) : Type 0 where
@@ -39,3 +40,32 @@ written_more old mid new before now later count bytes rest left so_far more is r
 } where
   still : before < 2 ^ 64 - 1 → later ≤ before
   still below = let same : now ≤ before = so_far.unfailed below in omega (arith, none (omega arith))
+
+-- a whole piece at the front of the rest was taken, and left is left
+pub written_piece : (old mid new : Option (List ℕ)) (before now later : ℕ) (bytes rest piece left : List ℕ) → Written old mid before now bytes rest → rest ≡ piece ++ left → Appends mid new piece → now ≤ later → (now < 2 ^ 64 - 1 → now < later → ⊥) → Written old new before later bytes left
+written_piece old mid new before now later bytes rest piece left so_far is more rises none = record {
+  done = so_far.done ++ piece;
+  whole = so_far.whole ∙ ap (λ r. so_far.done ++ r) is ∙ sym (append_assoc so_far.done piece left);
+  taken = Appends-Appends old mid new so_far.done piece so_far.taken more;
+  never_falls = omega (arith, so_far.never_falls);
+  unfailed = λ below. still below;
+} where
+  still : before < 2 ^ 64 - 1 → later ≤ before
+  still below = let same : now ≤ before = so_far.unfailed below in omega (arith, none (omega arith))
+
+-- of the piece at the front of the rest just a part was taken
+pub written_part : (old mid new : Option (List ℕ)) (before now : ℕ) (bytes rest piece left : List ℕ) → Written old mid before now bytes rest → rest ≡ piece ++ left → AppendsProperPrefix mid new piece → AppendsProperPrefix old new bytes
+written_part old mid new before now bytes rest piece left so_far is (front, more, prefix) = (
+  so_far.done ++ front,
+  Appends-Appends old mid new so_far.done front so_far.taken more,
+  record {
+    rest = prefix.rest ++ left;
+    whole = so_far.whole ∙ ap (λ r. so_far.done ++ r) (is ∙ ap (λ p. p ++ left) prefix.whole ∙ append_assoc front prefix.rest left) ∙ sym (append_assoc so_far.done front (prefix.rest ++ left));
+    proper = omega (arith, prefix.proper, length-append prefix.rest left);
+  },
+)
+
+-- nothing is left
+pub written_all : (old new : Option (List ℕ)) (before now : ℕ) (bytes rest : List ℕ) → Written old new before now bytes rest → rest ≡ [] → Appends old new bytes
+written_all old new before now bytes rest so_far none =
+    subst (λ bytes. Appends old new bytes) (sym (so_far.whole ∙ ap (λ r. so_far.done ++ r) none ∙ append-nil so_far.done)) so_far.taken

@@ -4,3 +4,4 @@ pub mod Faults
 pub mod Folder
 pub mod Memory
 pub mod Sink
+pub mod Utf8

@@ -26,6 +26,7 @@ mod sure_sink;
 mod sure_source;
 #[cfg(test)]
 mod tests;
+mod utf8;
 
 pub use dir_folder::DirFolder;
 pub use failed::Failed;
@@ -40,3 +41,4 @@ pub use stream_source::StreamSource;
 pub use sure_folder::SureFolder;
 pub use sure_sink::SureSink;
 pub use sure_source::SureSource;
+pub use utf8::utf8_of;

@@ -1,7 +1,7 @@
 // What the objects do at small inputs, in memory and over real files.
 use crate::{
     DirFolder, Failed, Folder, FolderError, Found, MemFolder, MemSink, MemSource, Sink, Source,
-    StreamSink, StreamSource, SureFolder, SureSink, SureSource, write_all,
+    StreamSink, StreamSource, SureFolder, SureSink, SureSource, utf8_of, write_all,
 };
 use cb_plain::{Numbers, OutOfMemory};
 use std::alloc::Global;
@@ -148,5 +148,34 @@ fn streams_that_fail_or_take_nothing_are_faults(rt: HostRuntime) -> Result<(), F
     assert_eq!(rt; sink.write(b"4"), Err(Failed));
     assert_eq!(rt; sink.write(b""), Ok(0));
     fs::remove_dir(&rt, "unread")?;
+    Ok(())
+}
+
+#[test]
+fn units_are_written_as_utf_8(rt: HostRuntime) -> Result<(), Fail> {
+    for (units, want) in [
+        ([0x24, 0xA2].as_slice(), b"$\xC2\xA2".as_slice()),
+        (&[0x20AC], b"\xE2\x82\xAC"),
+        (&[0, 0xFFFF], b"\0\xEF\xBF\xBF"),
+        // U+10437, and the least and the greatest pair.
+        (&[0xD801, 0xDC37], b"\xF0\x90\x90\xB7"),
+        (&[0xD800, 0xDC00], b"\xF0\x90\x80\x80"),
+        (&[0xDBFF, 0xDFFF], b"\xF4\x8F\xBF\xBF"),
+        // Surrogates without their partners.
+        (&[0xD800], b"?"),
+        (&[0xDC00, 0xD800], b"??"),
+        (
+            &[0xD800, 0x41, 0xD800, 0xD800, 0xDC00],
+            b"?A?\xF0\x90\x80\x80",
+        ),
+        (&[], b""),
+    ] {
+        let mut sink = MemSink::new(rt.alloc(), 3, Numbers::new(rt.alloc()));
+        assert_eq!(rt; utf8_of(units, &mut sink), Ok(()));
+        assert_eq!(rt; sink.bytes(), want, "at {units:?}");
+    }
+    let mut sink = MemSink::new(rt.alloc(), 1, call(rt.alloc(), 3)?);
+    assert_eq!(rt; utf8_of(&[0x41, 0xA2, 0x42], &mut sink), Err(Failed));
+    assert_eq!(rt; sink.bytes(), b"A\xC2".as_slice());
     Ok(())
 }

@@ -1,0 +1,40 @@
+-- Attributes (JVMS §4.7). Those that no rule asks for are skipped by their length.
+use Rattle.std.specs.Prelude.{◌≡◌, ℕ, ◌^◌, ◌<◌, ◌≤◌, Bool, false, List, [], ◌∷◌, ◌++◌, length, Option, Some, None, IsSome, if◌then◌else◌, nat_eq}
+use Rattle.std.specs.Cmp.Lexicographic.{pointwise}
+use Rattle.cb_text.specs.declared.constant.Constant.{Constant}
+use Rattle.cb_classfile.specs.declared.attribute.Occurrence.{Occurrence}
+use Rattle.cb_classfile.specs.declared.attribute.Occurrence.TheVariants.{Never, Once, Again}
+use Rattle.cb_classfile.specs.Pool.{text_at}
+use Rattle.cb_classfile.specs.Tables.{u2, u4, SpellsTable}
+
+-- the index of an attribute's name, and its contents
+abbrev pub Attribute : Type 0
+Attribute = ℕ × List ℕ
+
+-- an attribute_info: the index of a text, the length of the contents, and the contents
+pub record SpellsAttribute (pool : List Constant) (bytes : List ℕ) (attribute : Attribute) : Type 0 where
+  pub spelled : bytes ≡ u2 attribute.0 ++ u4 (length attribute.1) ++ attribute.1
+  pub named : IsSome (text_at pool attribute.0)
+  pub index_fits : attribute.0 < 2 ^ 16
+  pub length_fits : length attribute.1 < 2 ^ 32
+
+abbrev pub SpellsAttributes : List Constant → List ℕ → List Attribute → Type 0
+SpellsAttributes pool bytes attributes = SpellsTable (SpellsAttribute pool) bytes attributes
+
+-- whether an index names this text
+abbrev pub is_text : List ℕ → Option (List ℕ) → Bool
+is_text name None = false
+is_text name (Some text) = pointwise nat_eq text name
+
+-- the contents of the attributes of a name, in order
+abbrev pub contents_named : List Constant → List ℕ → List Attribute → List (List ℕ)
+contents_named pool name [] = []
+contents_named pool name (attribute ∷ attributes) =
+    if is_text name (text_at pool attribute.0) then attribute.1 ∷ contents_named pool name attributes
+    else contents_named pool name attributes
+
+-- what is told of these contents: that there are none, one or more
+abbrev pub IsTold : Occurrence → List (List ℕ) → Type 0
+IsTold Never contents = contents ≡ []
+IsTold (Once one) contents = contents ≡ one.now ∷ []
+IsTold Again contents = 2 ≤ length contents

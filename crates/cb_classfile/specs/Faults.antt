@@ -1,0 +1,24 @@
+-- What a fault of a part means for the whole.
+use Rattle.cb_insn.specs.declared.fault.InsnFault.{InsnFault}
+use Rattle.cb_insn.specs.declared.fault.InsnFault.TheVariants as insn
+use Rattle.cb_text.specs.declared.pool_fault.PoolFault.{PoolFault}
+use Rattle.cb_text.specs.declared.pool_fault.PoolFault.TheVariants as pool
+use Rattle.cb_classfile.specs.declared.fault.ClassFault.{ClassFault}
+use Rattle.cb_classfile.specs.declared.fault.ClassFault.TheVariants as class
+use Rattle.cb_classfile.specs.declared.fault.Fault.{Fault}
+use Rattle.cb_classfile.specs.declared.fault.Fault.TheVariants.{Malformed, OutOfMemory}
+
+-- bad code is a bad class file
+abbrev pub insn_fault : InsnFault → Fault
+insn_fault insn.OutOfMemory = OutOfMemory
+insn_fault fault = Malformed
+
+-- and so is a bad pool
+abbrev pub pool_fault : PoolFault → Fault
+pool_fault pool.OutOfMemory = OutOfMemory
+pool_fault pool.BadPool = Malformed
+
+-- a bad part is a bad whole
+abbrev pub class_fault : Fault → ClassFault
+class_fault Malformed = class.Malformed
+class_fault OutOfMemory = class.OutOfMemory

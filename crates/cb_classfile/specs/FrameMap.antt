@@ -1,0 +1,71 @@
+-- The attribute StackMapTable (JVMS §4.7.4).
+use Rattle.std.specs.Prelude.{◌≡◌, ℕ, ◌+◌, ◌-◌, ◌^◌, ◌<◌, List, [], ◌∷◌, ◌++◌, IsSome, nat_lt, if◌then◌else◌}
+use Rattle.cb_text.specs.declared.constant.Constant.{Constant}
+use Rattle.cb_classfile.specs.declared.frame_map.MapFrame.{MapFrame}
+use Rattle.cb_classfile.specs.declared.map_type.MapType.{MapType}
+use Rattle.cb_classfile.specs.declared.map_type.MapType.TheVariants.{Top, Integer, Float, Double, Long, Null, UninitializedThis, Object, Uninitialized}
+use Rattle.cb_classfile.specs.declared.frame_form.FrameForm.{FrameForm}
+use Rattle.cb_classfile.specs.declared.frame_form.FrameForm.TheVariants as forms
+use Rattle.cb_classfile.specs.Pool.{class_at}
+use Rattle.cb_classfile.specs.Tables.{u2, SpellsCount, SpellsTable}
+
+-- a verification_type_info, by its tag
+abbrev pub SpellsType : List Constant → List ℕ → MapType → Type 0
+SpellsType pool bytes Top = bytes ≡ 0 ∷ []
+SpellsType pool bytes Integer = bytes ≡ 1 ∷ []
+SpellsType pool bytes Float = bytes ≡ 2 ∷ []
+SpellsType pool bytes Double = bytes ≡ 3 ∷ []
+SpellsType pool bytes Long = bytes ≡ 4 ∷ []
+SpellsType pool bytes Null = bytes ≡ 5 ∷ []
+SpellsType pool bytes UninitializedThis = bytes ≡ 6 ∷ []
+SpellsType pool bytes (Object class) = IsSome (class_at pool class) × (class < 2 ^ 16) × (bytes ≡ 7 ∷ u2 class)
+SpellsType pool bytes (Uninitialized place) = (place < 2 ^ 16) × (bytes ≡ 8 ∷ u2 place)
+
+-- the form of a frame, by its kind. Those from 128 to 246 are reserved
+abbrev pub form_of_frame : ℕ → FrameForm
+form_of_frame kind =
+    if nat_lt kind 64 then forms.Same
+    else if nat_lt kind 128 then forms.SameOneItem
+    else if nat_lt kind 247 then forms.Reserved
+    else if nat_lt kind 248 then forms.SameOneItemExtended
+    else if nat_lt kind 251 then forms.Chop
+    else if nat_lt kind 252 then forms.SameExtended
+    else if nat_lt kind 255 then forms.Append
+    else forms.Full
+
+-- the delta of a frame: the kind gives it, or it stands behind the kind
+abbrev pub SpellsDelta : FrameForm → ℕ → List ℕ → ℕ → Type 0
+SpellsDelta forms.Same kind bytes delta = (delta ≡ kind) × (bytes ≡ [])
+SpellsDelta forms.SameOneItem kind bytes delta = (delta + 64 ≡ kind) × (bytes ≡ [])
+SpellsDelta forms.Reserved kind bytes delta = ⊥
+SpellsDelta form kind bytes delta = (delta < 2 ^ 16) × (bytes ≡ u2 delta)
+
+-- its locals: as many as the kind says are appended, or all stand in a table
+abbrev pub SpellsLocals : List Constant → FrameForm → ℕ → List ℕ → List MapType → Type 0
+SpellsLocals pool forms.Append kind bytes locals = SpellsCount (SpellsType pool) (kind - 251) bytes locals
+SpellsLocals pool forms.Full kind bytes locals = SpellsTable (SpellsType pool) bytes locals
+SpellsLocals pool form kind bytes locals = (locals ≡ []) × (bytes ≡ [])
+
+-- its stack: one item, or a table
+abbrev pub SpellsStack : List Constant → FrameForm → List ℕ → List MapType → Type 0
+SpellsStack pool forms.SameOneItem bytes stack = SpellsCount (SpellsType pool) 1 bytes stack
+SpellsStack pool forms.SameOneItemExtended bytes stack = SpellsCount (SpellsType pool) 1 bytes stack
+SpellsStack pool forms.Full bytes stack = SpellsTable (SpellsType pool) bytes stack
+SpellsStack pool form bytes stack = (stack ≡ []) × (bytes ≡ [])
+
+-- a stack_map_frame: its kind, and the parts that its form has
+pub record SpellsFrame (pool : List Constant) (bytes : List ℕ) (frame : MapFrame) : Type 0 where
+  pub delta : List ℕ
+  pub locals : List ℕ
+  pub stack : List ℕ
+  pub spelled : bytes ≡ frame.kind ∷ delta ++ locals ++ stack
+  pub fits : frame.kind < 2 ^ 8
+  pub delta_spelled : SpellsDelta (form_of_frame frame.kind) frame.kind delta frame.delta
+  pub locals_spelled : SpellsLocals pool (form_of_frame frame.kind) frame.kind locals frame.locals
+  pub stack_spelled : SpellsStack pool (form_of_frame frame.kind) stack frame.stack
+
+-- the frames of code, by the contents of its attributes StackMapTable, of which there is at most one
+abbrev pub SpellsFrames : List Constant → List (List ℕ) → List MapFrame → Type 0
+SpellsFrames pool [] frames = frames ≡ []
+SpellsFrames pool (contents ∷ []) frames = SpellsTable (SpellsFrame pool) contents frames
+SpellsFrames pool contents frames = ⊥

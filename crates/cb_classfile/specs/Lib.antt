@@ -1,0 +1,12 @@
+pub mod Answers
+pub mod Attributes
+pub mod Class
+pub mod Code
+pub mod Faults
+pub mod Flags
+pub mod FrameMap
+pub mod Members
+pub mod Pool
+pub mod Profile
+pub mod Tables
+pub mod Texts

@@ -1,0 +1,94 @@
+-- Fields and methods (JVMS §4.5, §4.6, §4.7.2).
+use Rattle.std.specs.Prelude.{◌≡◌, ◌⊎◌, ◌↔◌, ℕ, ◌+◌, ◌^◌, ◌<◌, ◌≤◌, List, [], ◌∷◌, ◌++◌, Option, Some, None, IsSome, IsSomeAnd, codes}
+use Rattle.cb_text.specs.declared.constant.Constant.{Constant}
+use Rattle.cb_text.specs.declared.constant.Constant.TheVariants as constants
+use Rattle.cb_text.specs.Pool.{constant_at}
+use Rattle.cb_names.specs.Descriptors.{IsMethodDescriptor}
+use Rattle.cb_classfile.specs.declared.body.Body.{Body}
+use Rattle.cb_classfile.specs.declared.field.Field.{Field}
+use Rattle.cb_classfile.specs.declared.method.Method.{Method}
+use Rattle.cb_classfile.specs.Attributes.{Attribute, SpellsAttributes, contents_named}
+use Rattle.cb_classfile.specs.Code.{SpellsBody}
+use Rattle.cb_classfile.specs.Flags.{acc_static, acc_native, acc_abstract, HasFlag}
+use Rattle.cb_classfile.specs.Pool.{text_at, HasText, NamesField, NamesMethod}
+use Rattle.cb_classfile.specs.Tables.{u2}
+
+-- the types whose values are ints
+abbrev pub IsNarrow : List ℕ → Type 0
+IsNarrow descriptor = (descriptor ≡ codes "I") ⊎ (descriptor ≡ codes "S") ⊎ (descriptor ≡ codes "C") ⊎ (descriptor ≡ codes "B") ⊎ (descriptor ≡ codes "Z")
+
+-- the constant may be the value of a field of this descriptor (JVMS table 4.7.2-A)
+abbrev pub IsValueOf : List ℕ → Constant → Type 0
+IsValueOf descriptor (constants.Long number) = descriptor ≡ codes "J"
+IsValueOf descriptor (constants.Float bits) = descriptor ≡ codes "F"
+IsValueOf descriptor (constants.Double bits) = descriptor ≡ codes "D"
+IsValueOf descriptor (constants.Integer number) = IsNarrow descriptor
+IsValueOf descriptor (constants.String text) = descriptor ≡ codes "Ljava/lang/String;"
+IsValueOf descriptor other = ⊥
+
+-- the contents of an attribute ConstantValue
+pub record SpellsValue (pool : List Constant) (descriptor : ℕ) (contents : List ℕ) (index : ℕ) : Type 0 where
+  pub spelled : contents ≡ u2 index
+  pub fits : index < 2 ^ 16
+  pub value : IsSomeAnd (constant_at pool index) (λ constant. HasText pool descriptor (λ text. IsValueOf text constant))
+
+-- a field's constant, by the contents of its attributes ConstantValue, of which there is at most one
+abbrev pub SpellsConstant : List Constant → ℕ → List (List ℕ) → Option ℕ → Type 0
+SpellsConstant pool descriptor [] None = Unit {0}
+SpellsConstant pool descriptor (contents ∷ []) (Some index) = SpellsValue pool descriptor contents index
+SpellsConstant pool descriptor contents constant = ⊥
+
+-- a field_info
+pub record SpellsField (pool : List Constant) (bytes : List ℕ) (field : Field) : Type 0 where
+  pub attributes : List ℕ
+  pub attribute_list : List Attribute
+  pub spelled : bytes ≡ u2 field.flags.0 ++ u2 field.name ++ u2 field.descriptor ++ attributes
+  pub flags_fit : field.flags.0 < 2 ^ 16
+  pub name_fits : field.name < 2 ^ 16
+  pub descriptor_fits : field.descriptor < 2 ^ 16
+  pub named : NamesField pool field.name field.descriptor
+  pub attributes_spelled : SpellsAttributes pool attributes attribute_list
+  pub constant : SpellsConstant pool field.descriptor (contents_named pool (codes "ConstantValue") attribute_list) field.constant
+
+-- a method's body, by the contents of its attributes Code, of which there is at most one
+abbrev pub SpellsCodeOf : List Constant → List (List ℕ) → Option Body → Type 0
+SpellsCodeOf pool [] None = Unit {0}
+SpellsCodeOf pool (contents ∷ []) (Some body) = SpellsBody pool contents body
+SpellsCodeOf pool contents body = ⊥
+
+-- the words of the parameters and of `this`, which a static method hasn't, are at most 255 (JVMS §4.3.3)
+abbrev pub HasFewWords : ℕ → List ℕ → Type 0
+HasFewWords flags text = (words : ℕ) × IsMethodDescriptor text words × (HasFlag flags acc_static ⊎ (words + 1 ≤ 255))
+
+-- it has code exactly where it is neither abstract nor native (JVMS §4.7.3)
+abbrev pub HasCodeWhereAsked : Method → Type 0
+HasCodeWhereAsked method = IsSome method.body ↔ ((¬ HasFlag method.flags.0 acc_abstract) × (¬ HasFlag method.flags.0 acc_native))
+
+-- a static method and a constructor aren't abstract (JVMS §4.6)
+abbrev pub MayBeAbstract : List Constant → Method → Type 0
+MayBeAbstract pool method = (¬ HasFlag method.flags.0 acc_static) × (¬ (text_at pool method.name ≡ Some (codes "<init>")))
+
+-- a class initialiser is static, takes and gives nothing and has code. This is a rule of this machine: JVMS §2.9 takes
+-- other methods of the name for no initialisers
+abbrev pub IsInitialiser : List Constant → Method → Type 0
+IsInitialiser pool method = HasFlag method.flags.0 acc_static × (text_at pool method.descriptor ≡ Some (codes "()V")) × IsSome method.body
+
+-- what is asked of a method beyond its names and its code
+pub record IsMethod (pool : List Constant) (method : Method) : Type 0 where
+  pub words : HasText pool method.descriptor (HasFewWords method.flags.0)
+  pub code : HasCodeWhereAsked method
+  pub abstract_method : HasFlag method.flags.0 acc_abstract → MayBeAbstract pool method
+  pub initialiser : text_at pool method.name ≡ Some (codes "<clinit>") → IsInitialiser pool method
+
+-- a method_info
+pub record SpellsMethod (pool : List Constant) (bytes : List ℕ) (method : Method) : Type 0 where
+  pub attributes : List ℕ
+  pub attribute_list : List Attribute
+  pub spelled : bytes ≡ u2 method.flags.0 ++ u2 method.name ++ u2 method.descriptor ++ attributes
+  pub flags_fit : method.flags.0 < 2 ^ 16
+  pub name_fits : method.name < 2 ^ 16
+  pub descriptor_fits : method.descriptor < 2 ^ 16
+  pub named : NamesMethod pool method.name method.descriptor
+  pub attributes_spelled : SpellsAttributes pool attributes attribute_list
+  pub body : SpellsCodeOf pool (contents_named pool (codes "Code") attribute_list) method.body
+  pub rules : IsMethod pool method

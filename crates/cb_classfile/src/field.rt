@@ -1,0 +1,114 @@
+// Fields (JVMS §4.5).
+ghost use Rattle.std.specs.Prelude.{◌≡◌, ℕ, IsSomeAnd, IfOk, IsOkAnd, MatchOption, IsTrue, ◌↔◌, Option as Maybe, List as Items};
+ghost use Rattle.cb_classfile.specs.Members.{SpellsConstant, SpellsValue, IsValueOf, IsNarrow};
+ghost use Rattle.cb_classfile.specs.Attributes.{IsTold};
+ghost use Rattle.cb_classfile.specs.Pool.{HasText};
+
+use crate::FieldFlags;
+use crate::ascii::has_text;
+use crate::attribute::{Occurrence, attributes_named};
+use crate::constants::Constants;
+use crate::fault::Fault;
+use crate::numbers::{triple_at, u2_at};
+use crate::table::Entry;
+use cb_plain::List;
+use cb_text::Constant;
+use std::alloc::Global;
+
+/// A field (JVMS §4.5). Its indices are those of the constant pool.
+#[derive(Debug, Drop)]
+pub struct Field {
+    /// The access flags.
+    pub flags: FieldFlags,
+    /// The index of the name.
+    pub name: u16,
+    /// The index of the descriptor.
+    pub descriptor: u16,
+    /// The index of the value that its attribute `ConstantValue` names, if it has one (§4.7.2).
+    pub constant: Option<u16>,
+}
+
+/// The fields of a class.
+pub type Fields = List<Field>;
+
+impl Entry for Field {
+    ghost use Rattle.cb_classfile.specs.Members.{SpellsField};
+
+    ghost spells = { SpellsField };
+
+    fn read<'a>(
+        _: Global,
+        constants: &Constants<'_>,
+        bytes: &'a [u8],
+    ) -> Result<(Field, &'a [u8]), Fault> {
+        let (flags, name, descriptor, rest) = triple_at(bytes)?;
+        if !constants.names_field(name, descriptor) {
+            return Err(Fault::Malformed);
+        }
+        let (occurrence, rest) = attributes_named(constants, b"ConstantValue", rest)?;
+        let constant = constant_of(constants, descriptor, occurrence)?;
+        let field = Field {
+            flags: FieldFlags(flags),
+            name,
+            descriptor,
+            constant,
+        };
+        Ok((field, rest))
+    }
+}
+
+/// The index in the attribute `ConstantValue` of a field, if it has one.
+fn constant_of(
+    constants: &Constants<'_>,
+    descriptor: u16,
+    occurrence: Occurrence<'_>,
+) -> Result<Option<u16>, Fault>
+    ensures found { IfOk result (λ constant. (contents : Items (Items ℕ)) → IsTold occurrence.entry contents
+        → SpellsConstant constants.now descriptor contents constant) }
+    ensures only { (contents : Items (Items ℕ)) (constant : Maybe ℕ) → IsTold occurrence.entry contents
+        → SpellsConstant constants.now descriptor contents constant → IsOkAnd result (λ read. read ≡ constant) }
+{
+    match occurrence {
+        Occurrence::Never => Ok(None),
+        Occurrence::Once(contents) => Ok(Some(value_of(constants, descriptor, contents)?)),
+        Occurrence::Again => Err(Fault::Malformed),
+    }
+}
+
+/// The index in the contents of an attribute `ConstantValue`.
+fn value_of(constants: &Constants<'_>, descriptor: u16, contents: &[u8]) -> Result<u16, Fault>
+    ensures found { IfOk result (λ index. SpellsValue constants.now descriptor contents.now index) }
+    ensures only { (index : ℕ) → SpellsValue constants.now descriptor contents.now index
+        → IsOkAnd result (λ read. read ≡ index) }
+{
+    let (index, rest) = u2_at(contents)?;
+    match (rest, constants.constant(index)) {
+        ([], Some(constant)) if is_value_of(constants, descriptor, constant) => Ok(index),
+        _ => Err(Fault::Malformed),
+    }
+}
+
+/// Whether the constant may be the value of a field of this descriptor.
+fn is_value_of(constants: &Constants<'_>, descriptor: u16, constant: &Constant) -> bool
+    ensures { IsTrue result ↔ HasText constants.now descriptor (λ text. IsValueOf text constant.now) }
+{
+    match constant {
+        Constant::Long(_) => has_text(constants, descriptor, b"J"),
+        Constant::Float(_) => has_text(constants, descriptor, b"F"),
+        Constant::Double(_) => has_text(constants, descriptor, b"D"),
+        Constant::Integer(_) => is_narrow(constants, descriptor),
+        Constant::String(_) => has_text(constants, descriptor, b"Ljava/lang/String;"),
+        _ => false,
+    }
+}
+
+/// Whether the descriptor is that of a type whose values are ints.
+fn is_narrow(constants: &Constants<'_>, descriptor: u16) -> bool
+    ensures { IsTrue result ↔ HasText constants.now descriptor IsNarrow }
+{
+    has_text(constants, descriptor, b"I")
+        || has_text(constants, descriptor, b"S")
+        || has_text(constants, descriptor, b"C")
+        || has_text(constants, descriptor, b"B")
+        || has_text(constants, descriptor, b"Z")
+}

@@ -1,0 +1,286 @@
+// What this machine leaves out of class files, in the order in which it is looked for.
+ghost use Rattle.std.specs.Prelude.{◌≡◌, ◌++◌, map, option_and_then};
+ghost use Rattle.cb_text.specs.Pool.{constant_at};
+ghost use Rattle.cb_classfile.specs.Pool.{text_at};
+ghost use Rattle.cb_classfile.specs.Profile.{first_of, feature_of, is_float, is_double, opcode_item, operand_item, insn_item, type_item, frame_item, body_items, class_item, constant_item, descriptor_item_at, is_finalizer, method_item, unsupported};
+
+use crate::ascii::has_text;
+use crate::constants::Constants;
+use crate::{Body, ClassFile, Feature, Field, MapFrame, MapType, Method, MethodFlags};
+use bitflags::Flags;
+use cb_insn::{Insn, Operand};
+use cb_names::Floating;
+use cb_text::Constant;
+
+/// `[`, with which the name of an array type begins (JVMS §4.4.1).
+const BRACKET: u16 = b'[' as u16;
+
+/// `java/lang/ref/`, with which the names of the classes of reference objects begin.
+const REFERENCES: &[u16] = &[
+    0x6A, 0x61, 0x76, 0x61, 0x2F, 0x6C, 0x61, 0x6E, 0x67, 0x2F, 0x72, 0x65, 0x66, 0x2F,
+];
+
+/// The first item of a class that this machine leaves out, if there is one: in its pool by index, in its fields'
+/// descriptors, and in its methods. Takes time in the number of constants, fields, frame types and instructions, and
+/// no memory.
+pub(crate) fn unsupported(constants: &Constants<'_>, class: &ClassFile) -> Option<Feature>
+    requires { class.now.pool ≡ constants.now }
+    ensures { result ≡ unsupported class.now }
+{
+    match item_outside_methods(constants, class) {
+        Some(item) => Some(item),
+        None => methods_item(constants, class.methods.as_slice()),
+    }
+}
+
+/// The first item of the constants and the fields.
+fn item_outside_methods(constants: &Constants<'_>, class: &ClassFile) -> Option<Feature>
+    ensures { result ≡ first_of (map (constant_item constants.now) constants.now
+        ++ map (λ field. descriptor_item_at constants.now field.descriptor) class.now.fields) }
+{
+    match constants_item(constants) {
+        Some(item) => Some(item),
+        None => fields_item(constants, class.fields.as_slice()),
+    }
+}
+
+/// The first item of the constants.
+fn constants_item(constants: &Constants<'_>) -> Option<Feature>
+    ensures { result ≡ first_of (map (constant_item constants.now) constants.now) }
+{
+    for index in 1..constants.len() {
+        let item = item_at(constants, index);
+        if item.is_some() {
+            return item;
+        }
+    }
+    None
+}
+
+/// The item of the constant at an index, if there is one.
+fn item_at(constants: &Constants<'_>, index: u16) -> Option<Feature>
+    ensures { result ≡ option_and_then (constant_item constants.now) (constant_at constants.now index) }
+{
+    constant_item(constants, constants.constant(index)?)
+}
+
+/// The item of a constant.
+fn constant_item(constants: &Constants<'_>, constant: &Constant) -> Option<Feature>
+    ensures { result ≡ constant_item constants.now constant.now }
+{
+    match constant {
+        Constant::Float(_) => Some(Feature::Float),
+        Constant::Double(_) => Some(Feature::Double),
+        Constant::MethodHandle(..) => Some(Feature::MethodHandle),
+        Constant::MethodType(_) => Some(Feature::MethodType),
+        Constant::InvokeDynamic(..) => Some(Feature::InvokeDynamic),
+        Constant::Class(name) => class_item(constants, *name),
+        Constant::NameAndType(_, descriptor) => descriptor_item(constants, *descriptor),
+        _ => None,
+    }
+}
+
+/// The item of the class whose name is the text at an index.
+fn class_item(constants: &Constants<'_>, name: u16) -> Option<Feature>
+    ensures { result ≡ option_and_then class_item (text_at constants.now name) }
+{
+    let text = constants.text(name)?;
+    if text.first() == Some(&BRACKET) {
+        descriptor_item(constants, name)
+    } else if text.starts_with(REFERENCES) {
+        Some(Feature::LangRef)
+    } else {
+        None
+    }
+}
+
+/// The first floating-point type in the descriptor at an index.
+fn descriptor_item(constants: &Constants<'_>, descriptor: u16) -> Option<Feature>
+    ensures { result ≡ descriptor_item_at constants.now descriptor }
+{
+    constants.floating(descriptor).map(feature_of)
+}
+
+/// A floating-point type as an item.
+fn feature_of(floating: Floating) -> Feature
+    ensures { result ≡ feature_of floating }
+{
+    match floating {
+        Floating::Float => Feature::Float,
+        Floating::Double => Feature::Double,
+    }
+}
+
+/// The first item of the fields' descriptors.
+fn fields_item(constants: &Constants<'_>, fields: &[Field]) -> Option<Feature>
+    ensures { result ≡ first_of (map (λ field. descriptor_item_at constants.now field.descriptor) fields.now) }
+{
+    for field in fields {
+        let item = descriptor_item(constants, field.descriptor);
+        if item.is_some() {
+            return item;
+        }
+    }
+    None
+}
+
+/// The first item of the methods.
+fn methods_item(constants: &Constants<'_>, methods: &[Method]) -> Option<Feature>
+    ensures { result ≡ first_of (map (method_item constants.now) methods.now) }
+{
+    for method in methods {
+        let item = method_item(constants, method);
+        if item.is_some() {
+            return item;
+        }
+    }
+    None
+}
+
+/// The first item of a method: of its flags, its name, its descriptor and its body.
+fn method_item(constants: &Constants<'_>, method: &Method) -> Option<Feature>
+    ensures { result ≡ method_item constants.now method.now }
+{
+    if method.flags.contains(MethodFlags::SYNCHRONIZED) {
+        return Some(Feature::Synchronized);
+    }
+    if method.flags.contains(MethodFlags::NATIVE) {
+        return Some(Feature::Native);
+    }
+    if is_finalizer(constants, method) {
+        return Some(Feature::Finalize);
+    }
+    descriptor_item(constants, method.descriptor).or_else(|| body_item(&method.body))
+}
+
+/// Whether the method is named `finalize`, and takes and gives nothing.
+fn is_finalizer(constants: &Constants<'_>, method: &Method) -> bool
+    ensures { result ≡ is_finalizer constants.now method.now }
+{
+    has_text(constants, method.name, b"finalize") && has_text(constants, method.descriptor, b"()V")
+}
+
+/// The first item of a body: of its frames, and of its instructions by place.
+#[tactic(auto, using(crate::proofs::First::first_of_both))]
+fn body_item(body: &Option<Body>) -> Option<Feature>
+    ensures { result ≡ first_of (body_items body.now) }
+{
+    let body = body.as_ref()?;
+    frames_item(body.frames.as_slice()).or_else(|| code_item(body.code.as_slice()))
+}
+
+/// The first item of the frames.
+fn frames_item(frames: &[MapFrame]) -> Option<Feature>
+    ensures { result ≡ first_of (map frame_item frames.now) }
+{
+    for frame in frames {
+        let item = frame_item(frame);
+        if item.is_some() {
+            return item;
+        }
+    }
+    None
+}
+
+/// The first item of a frame: of its locals, and of its stack.
+#[tactic(auto, using(crate::proofs::First::first_of_each))]
+fn frame_item(frame: &MapFrame) -> Option<Feature>
+    ensures { result ≡ frame_item frame.now }
+{
+    types_item(frame.locals.as_slice()).or_else(|| types_item(frame.stack.as_slice()))
+}
+
+/// The first item of the types.
+fn types_item(types: &[MapType]) -> Option<Feature>
+    ensures { result ≡ first_of (map type_item types.now) }
+{
+    for kind in types {
+        let item = type_item(*kind);
+        if item.is_some() {
+            return item;
+        }
+    }
+    None
+}
+
+/// The item of a type.
+fn type_item(kind: MapType) -> Option<Feature>
+    ensures { result ≡ type_item kind }
+{
+    match kind {
+        MapType::Float => Some(Feature::Float),
+        MapType::Double => Some(Feature::Double),
+        _ => None,
+    }
+}
+
+/// The first item of the instructions.
+fn code_item(code: &[(u32, Insn)]) -> Option<Feature>
+    ensures { result ≡ first_of (map (λ placed. insn_item placed.1) code.now) }
+{
+    for placed in code {
+        let item = insn_item(&placed.1);
+        if item.is_some() {
+            return item;
+        }
+    }
+    None
+}
+
+/// The item of an instruction.
+fn insn_item(insn: &Insn) -> Option<Feature>
+    ensures { result ≡ insn_item insn.now }
+{
+    opcode_item(insn.opcode).or_else(|| operand_item(&insn.operand))
+}
+
+/// The item of an opcode: a floating-point type, a subroutine, `invokedynamic` or a monitor.
+fn opcode_item(opcode: u8) -> Option<Feature>
+    ensures { result ≡ opcode_item opcode }
+{
+    if is_float(opcode) {
+        return Some(Feature::Float);
+    }
+    if is_double(opcode) {
+        return Some(Feature::Double);
+    }
+    match opcode {
+        0xA8..=0xA9 | 0xC9 => Some(Feature::Jsr),
+        0xBA => Some(Feature::InvokeDynamic),
+        0xC2..=0xC3 => Some(Feature::Monitor),
+        _ => None,
+    }
+}
+
+/// Whether the instruction has an operand or a result of type float.
+fn is_float(opcode: u8) -> bool
+    ensures { result ≡ is_float opcode }
+{
+    matches!(
+        opcode,
+        0x0B..=0x0D | 0x17 | 0x22..=0x25 | 0x30 | 0x38 | 0x43..=0x46 | 0x51 | 0x62 | 0x66 | 0x6A | 0x6E | 0x72 | 0x76
+            | 0x86 | 0x89 | 0x8B..=0x8D | 0x90 | 0x95..=0x96 | 0xAE
+    )
+}
+
+/// Whether the instruction has none, and one of type double.
+fn is_double(opcode: u8) -> bool
+    ensures { result ≡ is_double opcode }
+{
+    matches!(
+        opcode,
+        0x0E..=0x0F | 0x18 | 0x26..=0x29 | 0x31 | 0x39 | 0x47..=0x4A | 0x52 | 0x63 | 0x67 | 0x6B | 0x6F | 0x73 | 0x77
+            | 0x87 | 0x8A | 0x8E..=0x8F | 0x97..=0x98 | 0xAF
+    )
+}
+
+/// The item of a new array, by its code (JVMS table 6.5.newarray-A).
+fn operand_item(operand: &Operand) -> Option<Feature>
+    ensures { result ≡ operand_item operand.now }
+{
+    match operand {
+        Operand::ArrayCode(6) => Some(Feature::Float),
+        Operand::ArrayCode(7) => Some(Feature::Double),
+        _ => None,
+    }
+}

@@ -1,0 +1,79 @@
+// Tables: the number of their entries, and the entries, one after the other (JVMS §4).
+ghost use Rattle.std.specs.Prelude.{◌≡◌, ◌^◌, ◌<◌, ℕ, List as Items, IfOk, MatchResult};
+ghost use Rattle.cb_text.specs.declared.constant.Constant.{Constant as AnyConstant};
+ghost use Rattle.cb_classfile.specs.Tables.{BeginsWith, SpellsCount, SpellsTable};
+
+use crate::constants::Constants;
+use crate::fault::Fault;
+use crate::numbers::u2_at;
+use cb_plain::List;
+use std::alloc::Global;
+
+/// What stands in tables.
+pub(crate) trait Entry: Sized {
+    /// The bytes that spell an entry, where the pool has these constants.
+    ghost spells: { Items AnyConstant → Items ℕ → Self → Type 0 };
+
+    /// The entry at the front, and what stands behind it.
+    fn read<'a>(
+        alloc: Global,
+        constants: &Constants<'_>,
+        bytes: &'a [u8],
+    ) -> Result<(Self, &'a [u8]), Fault>
+        ensures found { IfOk result (λ read. BeginsWith (spells constants.now) bytes.now read.0 read.1.now) }
+        ensures only { (entry : Self) (rest : Items ℕ) → BeginsWith (spells constants.now) bytes.now entry rest
+            → MatchResult result (λ read. (read.0 ≡ entry) × (read.1.now ≡ rest)) (λ fault. fault ≡ Fault.OutOfMemory) };
+}
+
+/// So many entries at the front, and what stands behind them.
+pub(crate) fn entries<'a, T: Entry + Drop>(
+    alloc: Global,
+    constants: &Constants<'_>,
+    count: u16,
+    bytes: &'a [u8],
+) -> Result<(List<T>, &'a [u8]), Fault>
+    ensures found { IfOk result (λ read. BeginsWith (SpellsCount (T.spells constants.now) count) bytes.now read.0 read.1.now) }
+    ensures only { (entries : Items T) (rest : Items ℕ) → BeginsWith (SpellsCount (T.spells constants.now) count) bytes.now entries rest
+        → MatchResult result (λ read. (read.0 ≡ entries) × (read.1.now ≡ rest)) (λ fault. fault ≡ Fault.OutOfMemory) }
+{
+    let mut entries = List::new(alloc);
+    let mut rest = bytes;
+    for _ in 0..count {
+        let (entry, after) = T::read(alloc, constants, rest)?;
+        entries.push(entry)?;
+        rest = after;
+    }
+    Ok((entries, rest))
+}
+
+/// The table at the front, and what stands behind it.
+pub(crate) fn table<'a, T: Entry + Drop>(
+    alloc: Global,
+    constants: &Constants<'_>,
+    bytes: &'a [u8],
+) -> Result<(List<T>, &'a [u8]), Fault>
+    ensures found { IfOk result (λ read. BeginsWith (SpellsTable (T.spells constants.now)) bytes.now read.0 read.1.now) }
+    ensures only { (entries : Items T) (rest : Items ℕ) → BeginsWith (SpellsTable (T.spells constants.now)) bytes.now entries rest
+        → MatchResult result (λ read. (read.0 ≡ entries) × (read.1.now ≡ rest)) (λ fault. fault ≡ Fault.OutOfMemory) }
+{
+    let (count, rest) = u2_at(bytes)?;
+    let (entries, rest) = entries(alloc, constants, count, rest)?;
+    Ok((entries, rest))
+}
+
+/// The table that the bytes are, as a whole.
+pub(crate) fn whole_table<T: Entry + Drop>(
+    alloc: Global,
+    constants: &Constants<'_>,
+    bytes: &[u8],
+) -> Result<List<T>, Fault>
+    ensures found { IfOk result (λ entries. SpellsTable (T.spells constants.now) bytes.now entries) }
+    ensures only { (entries : Items T) → SpellsTable (T.spells constants.now) bytes.now entries
+        → MatchResult result (λ read. read ≡ entries) (λ fault. fault ≡ Fault.OutOfMemory) }
+{
+    let (entries, rest) = table(alloc, constants, bytes)?;
+    match rest {
+        [] => Ok(entries),
+        _ => Err(Fault::Malformed),
+    }
+}
