@@ -7,7 +7,7 @@ mod left_out;
 mod real_classes;
 mod spelled;
 
-use crate::{ClassFlags, MapType, read_class};
+use described::check_record;
 use files::{
     BEHIND_POOL, BODY, CONSTANTS, FIELDS, FRAMES, HANDLERS, INSNS, METHODS, POOL, SE_8, answer,
     check,
@@ -23,21 +23,16 @@ const CONTENTS: &str = "0005 01 0001 41 07 0001 01 0010 6A6176612F6C616E672F4F62
 fn a_class_without_members_is_read_as_a_whole_alone(rt: HostRuntime) -> Result<(), Fail> {
     let bytes = spelled(rt.alloc(), &[SE_8, CONTENTS])?;
     assert_eq!(rt; bytes.len(), 53);
-    let class = read_class(rt.alloc(), &bytes)?;
-    assert_eq!(rt; (class.minor, class.major), (0, 52));
-    assert_eq!(rt; class.pool.len(), 5);
-    assert_eq!(rt; class.flags, ClassFlags::PUBLIC | ClassFlags::SUPER);
-    assert_eq!(rt; (class.this_class, class.super_class), (2, 4));
-    assert!(rt; class.interfaces.is_empty());
-    assert!(rt; class.fields.is_empty());
-    assert!(rt; class.methods.is_empty());
+    let record = "
+        version 52.0 pool 5
+        class 0021 A java/lang/Object
+    ";
+    check_record(&rt, rt.alloc(), &bytes, record)?;
     for length in 0..53 {
         let cut = bytes.get(..length).ok_or("no such length")?;
         let found = answer(rt.alloc(), cut)?;
         assert_eq!(rt; found.as_str(), "malformed", "of {length} bytes");
     }
-    let longer = spelled(rt.alloc(), &[SE_8, CONTENTS, "00"])?;
-    assert_eq!(rt; answer(rt.alloc(), &longer)?.as_str(), "malformed");
     Ok(())
 }
 
@@ -300,46 +295,27 @@ fn frames_of_each_form_have_their_parts(rt: HostRuntime) -> Result<(), Fail> {
         "00, 3F, 40 00, 7F 05, F7 0102 04, F8 0000, F9 FFFF, FA 0001, FB 0203, FC 0004 06, FD 0005 00 07 0002, \
         FE 0006 01 08 0304 05, FF 0007 (01, 07 0018) (04), FF 0008 () ()";
     let bytes = spelled(rt.alloc(), &[SE_8, POOL, FRAMES.0, frames, FRAMES.1])?;
-    let class = read_class(rt.alloc(), &bytes)?;
-    let method = class.methods.as_slice().first().ok_or("no method")?;
-    let body = method.body.as_ref().ok_or("no body")?;
-    let want = [
-        (0, 0, [].as_slice(), [].as_slice()),
-        (63, 63, &[], &[]),
-        (64, 0, &[], &[MapType::Top]),
-        (127, 63, &[], &[MapType::Null]),
-        (247, 0x102, &[], &[MapType::Long]),
-        (248, 0, &[], &[]),
-        (249, 0xFFFF, &[], &[]),
-        (250, 1, &[], &[]),
-        (251, 0x203, &[], &[]),
-        (252, 4, &[MapType::UninitializedThis], &[]),
-        (253, 5, &[MapType::Top, MapType::Object(2)], &[]),
-        (
-            254,
-            6,
-            &[
-                MapType::Integer,
-                MapType::Uninitialized(0x304),
-                MapType::Null,
-            ],
-            &[],
-        ),
-        (
-            255,
-            7,
-            &[MapType::Integer, MapType::Object(0x18)],
-            &[MapType::Long],
-        ),
-        (255, 8, &[], &[]),
-    ];
-    assert_eq!(rt; body.frames.len(), want.len());
-    for (frame, (kind, delta, locals, stack)) in body.frames.as_slice().iter().zip(want) {
-        assert_eq!(rt; (frame.kind, frame.delta), (kind, delta));
-        assert_eq!(rt; frame.locals.as_slice(), locals, "at kind {kind}");
-        assert_eq!(rt; frame.stack.as_slice(), stack, "at kind {kind}");
-    }
-    Ok(())
+    let record = "
+        version 52.0 pool 45
+        class 0021 A java/lang/Object
+        method 0009 f ()V
+        code 2 2: 0 B1,
+        frame 0 0 [ ] [ ]
+        frame 63 63 [ ] [ ]
+        frame 64 0 [ ] [ Top ]
+        frame 127 63 [ ] [ Null ]
+        frame 247 258 [ ] [ Long ]
+        frame 248 0 [ ] [ ]
+        frame 249 65535 [ ] [ ]
+        frame 250 1 [ ] [ ]
+        frame 251 515 [ ] [ ]
+        frame 252 4 [ UninitializedThis ] [ ]
+        frame 253 5 [ Top class A ] [ ]
+        frame 254 6 [ int Uninitialized(772) Null ] [ ]
+        frame 255 7 [ int class [I ] [ Long ]
+        frame 255 8 [ ] [ ]
+    ";
+    check_record(&rt, rt.alloc(), &bytes, record)
 }
 
 #[test]

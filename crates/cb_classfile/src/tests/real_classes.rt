@@ -1,9 +1,6 @@
 // Real classes, as `javap -v -p` prints them.
-use super::described::described;
+use super::described::check_record;
 use super::files::answer;
-use crate::read_class;
-use std::alloc::Global;
-use std::process::Abort;
 use std::test::Fail;
 
 /// What `javac --release 8 -g:none` of JDK 17 wrote for this class.
@@ -185,30 +182,15 @@ const TASK: &[u8] =
     \x00\x00\x00\x0D\x00\x00\x00\x00\x00\x00\x00\x01\xB1\x00\x00\x00\x00\x00\x02\x00\x10\x00\x00\x00\x0C\x00\x01\x00\
     \x11\x00\x03\x00\x18\x00\x19\x00\x18\x00\x1C\x00\x00\x00\x0A\x00\x01\x00\x1D\x00\x1F\x00!\x00\x19";
 
-/// Reads a class and compares its record. Without its last byte and with one more it is none.
-fn check_record(rt: &impl Abort, alloc: Global, bytes: &[u8], record: &str) -> Result<(), Fail> {
-    let class = read_class(alloc, bytes)?;
-    let found = described(alloc, &class)?;
-    assert_eq!(rt; found.lines().count(), record.trim().lines().count());
-    for (found, want) in found.lines().zip(record.trim().lines()) {
-        assert_eq!(rt; found, want.trim());
-    }
-    let cut = bytes.split_last().ok_or("no byte")?.1;
-    assert_eq!(rt; answer(alloc, cut)?.as_str(), "malformed");
-    let mut longer = bytes.to_vec(alloc)?;
-    longer.push(0)?;
-    assert_eq!(rt; answer(alloc, &longer)?.as_str(), "malformed");
-    Ok(())
-}
-
 #[test]
 fn a_class_that_prints_hello(rt: HostRuntime) -> Result<(), Fail> {
     let record = "
+        version 52.0 pool 25
         class 0020 Hello java/lang/Object
         method 0000 <init> ()V
-        code 1 1: 0 2A, 1 B7 #1, 4 B1,
+        code 1 1: 0 2A, 1 B7 1, 4 B1,
         method 0009 main ([Ljava/lang/String;)V
-        code 2 1: 0 B2 #7, 3 12 #13, 5 B6 #15, 8 B1,
+        code 2 1: 0 B2 7, 3 12 13, 5 B6 15, 8 B1,
     ";
     check_record(&rt, rt.alloc(), HELLO, record)
 }
@@ -216,15 +198,15 @@ fn a_class_that_prints_hello(rt: HostRuntime) -> Result<(), Fail> {
 #[test]
 fn a_class_with_nested_handlers_and_switches(rt: HostRuntime) -> Result<(), Fail> {
     let record = "
+        version 52.0 pool 30
         class 0020 Nested java/lang/Object
         method 0000 <init> ()V
-        code 1 1: 0 2A, 1 B7 #1, 4 B1,
+        code 1 1: 0 2A, 1 B7 1, 4 B1,
         method 0008 work (I[Ljava/lang/String;)I
-        code 2 5: 0 03, 1 3D, 2 1A, 3 AA 56 1: 32 38 56 48, 32 2B, 33 BE, 34 3D, 35 A7 56, 38 2B, 39 1A, 40 32, \
-        41 B6 #7, 44 3D, 45 A7 56, 48 BB #13, 51 59, 52 B7 #15, 55 BF, 56 A7 62, 59 4E, 60 02, 61 3D, 62 1C, \
-        63 AB 99 -1000: 88 70000: 96, 88 1A, 89 3E, 90 1C, 91 1A, 92 60, 93 3D, 94 1D, 95 AC, 96 84 2 1, 99 1C, \
-        100 1A, 101 60, 102 3D, 103 A7 115, 106 3A 4, 108 1C, 109 1A, 110 60, 111 3D, 112 19 4, 114 BF, 115 1C, \
-        116 AC,
+        code 2 5: 0 03, 1 3D, 2 1A, 3 AA 56 1 32 38 56 48, 32 2B, 33 BE, 34 3D, 35 A7 56, 38 2B, 39 1A, 40 32, \
+        41 B6 7, 44 3D, 45 A7 56, 48 BB 13, 51 59, 52 B7 15, 55 BF, 56 A7 62, 59 4E, 60 02, 61 3D, 62 1C, \
+        63 AB 99 -1000 88 70000 96, 88 1A, 89 3E, 90 1C, 91 1A, 92 60, 93 3D, 94 1D, 95 AC, 96 84 2 1, 99 1C, 100 1A, \
+        101 60, 102 3D, 103 A7 115, 106 3A 4, 108 1C, 109 1A, 110 60, 111 3D, 112 19 4, 114 BF, 115 1C, 116 AC,
         handler 2 56 59 java/lang/NullPointerException
         handler 2 56 59 java/lang/ArrayIndexOutOfBoundsException
         handler 2 90 106 any
@@ -248,15 +230,16 @@ fn a_class_with_nested_handlers_and_switches(rt: HostRuntime) -> Result<(), Fail
 #[test]
 fn an_interface_with_default_methods(rt: HostRuntime) -> Result<(), Fail> {
     let record = "
+        version 52.0 pool 31
         class 0600 Shape java/lang/Object
         implements java/lang/Cloneable
         implements java/lang/Comparable
-        field 0019 LIMIT I #26
+        field 0019 LIMIT I 26
         method 0401 area ()J
         method 0001 compareTo (LShape;)I
-        code 4 2: 0 2A, 1 B9 #1 1, 6 2B, 7 B9 #1 1, 12 B8 #7, 15 AC,
+        code 4 2: 0 2A, 1 B9 1 1, 6 2B, 7 B9 1 1, 12 B8 7, 15 AC,
         method 1041 compareTo (Ljava/lang/Object;)I
-        code 2 2: 0 2A, 1 2B, 2 C0 #2, 5 B9 #13 2, 10 AC,
+        code 2 2: 0 2A, 1 2B, 2 C0 2, 5 B9 13 2, 10 AC,
     ";
     check_record(&rt, rt.alloc(), SHAPE, record)
 }
@@ -264,23 +247,24 @@ fn an_interface_with_default_methods(rt: HostRuntime) -> Result<(), Fail> {
 #[test]
 fn an_enum(rt: HostRuntime) -> Result<(), Fail> {
     let record = "
+        version 52.0 pool 45
         class 4030 Suit java/lang/Enum
         field 4019 CLUBS LSuit;
         field 4019 SPADES LSuit;
         field 101A $VALUES [LSuit;
         method 0009 values ()[LSuit;
-        code 1 0: 0 B2 #10, 3 B6 #14, 6 C0 #15, 9 B0,
+        code 1 0: 0 B2 10, 3 B6 14, 6 C0 15, 9 B0,
         method 0009 valueOf (Ljava/lang/String;)LSuit;
-        code 2 1: 0 12 #1, 2 2A, 3 B8 #19, 6 C0 #1, 9 B0,
+        code 2 1: 0 12 1, 2 2A, 3 B8 19, 6 C0 1, 9 B0,
         method 0002 <init> (Ljava/lang/String;I)V
-        code 3 3: 0 2A, 1 2B, 2 1C, 3 B7 #25, 6 B1,
+        code 3 3: 0 2A, 1 2B, 2 1C, 3 B7 25, 6 B1,
         method 0000 isBlack ()Z
         code 1 1: 0 04, 1 AC,
         method 100A $values ()[LSuit;
-        code 4 0: 0 05, 1 BD #1, 4 59, 5 03, 6 B2 #3, 9 53, 10 59, 11 04, 12 B2 #7, 15 53, 16 B0,
+        code 4 0: 0 05, 1 BD 1, 4 59, 5 03, 6 B2 3, 9 53, 10 59, 11 04, 12 B2 7, 15 53, 16 B0,
         method 0008 <clinit> ()V
-        code 4 0: 0 BB #1, 3 59, 4 12 #29, 6 03, 7 B7 #30, 10 B3 #3, 13 BB #1, 16 59, 17 12 #31, 19 04, 20 B7 #30, \
-        23 B3 #7, 26 B8 #32, 29 B3 #10, 32 B1,
+        code 4 0: 0 BB 1, 3 59, 4 12 29, 6 03, 7 B7 30, 10 B3 3, 13 BB 1, 16 59, 17 12 31, 19 04, 20 B7 30, 23 B3 7, \
+        26 B8 32, 29 B3 10, 32 B1,
     ";
     check_record(&rt, rt.alloc(), SUIT, record)
 }
