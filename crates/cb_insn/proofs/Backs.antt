@@ -11,10 +11,10 @@ use Rattle.cb_insn.specs.declared.form.Form.{Form}
 use Rattle.cb_insn.specs.declared.form.Form.TheVariants as forms
 use Rattle.cb_insn.specs.declared.insn.Pair.{Pair}
 use Rattle.cb_insn.specs.Grammar.{u2, s2, s4, offset, table_bytes, lookup_bytes, KeysRise, IsPadding, SpellsOperand}
-use Rattle.cb_insn.specs.Faults.{u2_at, s2_at, s4_at, count_of, padding_length, table_low, table_high, table_length, lookup_count, lookup_length, operand_length, is_bad, keys_at, keys_fall, offsets_at}
-use Rattle.cb_insn.specs.Reads.{target_of, targets_in, pairs_of, operand_of, operand_targets, table_offsets, lookup_offsets}
-use Rattle.cb_insn.proofs.NumberBytes.{IsBytes, drop_bytes, u2_below, u2_back, s2_back, s2_fits, s4_back, s4_fits}
-use Rattle.cb_insn.proofs.Spelling.{IsWithin, offset_of_target, offset_bytes, offsets_spelled, offsets_fit, offsets_count, pair_bytes, pairs_spelled, pairs_fit, keys_fit, pairs_count, rise_back, is_padding}
+use Rattle.cb_insn.specs.Faults.{u2_at, s2_at, s4_at, count_of, padding_length, table_low, table_high, table_count, table_length, lookup_number, lookup_count, lookup_length, operand_length, is_bad, numbers_at, keys_fall, targets_in, table_offsets, lookup_offsets}
+use Rattle.cb_insn.specs.Reads.{target_of, pairs_of, operand_of, operand_targets}
+use Rattle.cb_insn.proofs.NumberBytes.{IsBytes, drop_bytes, u2_below, u2_back, s2_back, s2_fits, s4_back, s4_fits, two_back}
+use Rattle.cb_insn.proofs.Spelling.{IsWithin, offset_of_target, offset_bytes, offsets_spelled, offsets_fit, numbers_count, pair_bytes, pairs_spelled, pairs_fit, keys_fit, pairs_count, rise_back, is_padding}
 
 -- the sign of a byte
 s1_fits : (byte : ℕ) → byte < 256 → FitsSigned w8 (cast_signed w8 byte)
@@ -47,18 +47,12 @@ zero_of n is = by_test (nat_eq n 0) refl is where
   by_test true tested is = grind (arith, nat_tests)
   by_test false tested is = cc
 
--- so many as the length has
-table_long : (switch : List ℕ) → table_length switch ≤ length switch → (12 + 4 * count_of ((table_high switch +ℤ pos 1) -ℤ table_low switch) ≤ length switch) × (table_length switch ≡ 12 + 4 * count_of ((table_high switch +ℤ pos 1) -ℤ table_low switch))
-table_long switch there = by_test (nat_lt (length switch) 12) refl (12 + 4 * count_of ((table_high switch +ℤ pos 1) -ℤ table_low switch)) there where
-  by_test : (short : Bool) → nat_lt (length switch) 12 ≡ short → (size : ℕ) → cond (nat_lt (length switch) 12) 12 size ≤ length switch → (size ≤ length switch) × (cond (nat_lt (length switch) 12) 12 size ≡ size)
-  by_test true is size there = absurd (grind (arith, nat_tests))
-  by_test false is size there = (subst (λ test. cond test 12 size ≤ length switch) is there, ap (λ test. cond test 12 size) is)
-
-lookup_long : (switch : List ℕ) → lookup_length switch ≤ length switch → (8 + 8 * count_of (lookup_count switch) ≤ length switch) × (lookup_length switch ≡ 8 + 8 * count_of (lookup_count switch))
-lookup_long switch there = by_test (nat_lt (length switch) 8) refl (8 + 8 * count_of (lookup_count switch)) there where
-  by_test : (short : Bool) → nat_lt (length switch) 8 ≡ short → (size : ℕ) → cond (nat_lt (length switch) 8) 8 size ≤ length switch → (size ≤ length switch) × (cond (nat_lt (length switch) 8) 8 size ≡ size)
-  by_test true is size there = absurd (grind (arith, nat_tests))
-  by_test false is size there = (subst (λ test. cond test 8 size ≤ length switch) is there, ap (λ test. cond test 8 size) is)
+-- a length that tells more than its least
+all_told : (n least size : ℕ) → cond (nat_lt n least) least size ≤ n → (size ≤ n) × (cond (nat_lt n least) least size ≡ size)
+all_told n least size there = by_test (nat_lt n least) refl there where
+  by_test : (short : Bool) → nat_lt n least ≡ short → cond (nat_lt n least) least size ≤ n → (size ≤ n) × (cond (nat_lt n least) least size ≡ size)
+  by_test true is there = absurd (grind (arith, nat_tests))
+  by_test false is there = (subst (λ test. cond test least size ≤ n) is there, ap (λ test. cond test least size) is)
 
 counted_is : (z : ℤ) → int_lt z (pos 0) ≡ false → pos (count_of z) ≡ z
 counted_is (pos n) is = refl
@@ -85,29 +79,15 @@ span_some low high first =
     omega (arith, ints)
 
 -- three numbers of four bytes at the front
-three_numbers : (switch : List ℕ) → IsBytes switch → 12 ≤ length switch → s4 (s4_at switch) ++ s4 (s4_at (drop 4 switch)) ++ s4 (s4_at (drop 8 switch)) ≡ take 12 switch
-three_numbers switch are long =
-    let first = s4_back switch are (omega arith) in
-    let second = s4_back (drop 4 switch) (drop_bytes 4 switch are) (omega (arith, length-drop 4 switch)) in
-    let third = s4_back (drop 8 switch) (drop_bytes 8 switch are) (omega (arith, length-drop 8 switch)) in
-    ap (λ b. b ++ s4 (s4_at (drop 4 switch)) ++ s4 (s4_at (drop 8 switch))) first
-    ∙ ap (λ b. take 4 switch ++ b ++ s4 (s4_at (drop 8 switch))) second
-    ∙ ap (λ b. take 4 switch ++ take 4 (drop 4 switch) ++ b) third
-    ∙ ap (λ b. b ++ take 4 (drop 8 switch)) (sym (take-add 4 4 switch))
+three_back : (switch : List ℕ) → IsBytes switch → 12 ≤ length switch → s4 (s4_at switch) ++ s4 (s4_at (drop 4 switch)) ++ s4 (s4_at (drop 8 switch)) ≡ take 12 switch
+three_back switch are long =
+    ap (λ b. b ++ s4 (s4_at (drop 8 switch))) (two_back switch are (omega arith))
+    ∙ ap (λ b. take 8 switch ++ b) (s4_back (drop 8 switch) (drop_bytes 8 switch are) (omega (arith, length-drop 8 switch)))
     ∙ sym (take-add 8 4 switch)
 
-two_numbers : (switch : List ℕ) → IsBytes switch → 8 ≤ length switch → s4 (s4_at switch) ++ s4 (s4_at (drop 4 switch)) ≡ take 8 switch
-two_numbers switch are long =
-    let first = s4_back switch are (omega arith) in
-    let second = s4_back (drop 4 switch) (drop_bytes 4 switch are) (omega (arith, length-drop 4 switch)) in
-    ap (λ b. b ++ s4 (s4_at (drop 4 switch))) first ∙ ap (λ b. take 4 switch ++ b) second ∙ sym (take-add 4 4 switch)
-
 -- what is read of a table
-abbrev table_size : List ℕ → ℕ
-table_size switch = count_of ((table_high switch +ℤ pos 1) -ℤ table_low switch)
-
 abbrev table_targets : ℕ → List ℕ → List ℕ
-table_targets pc switch = map (target_of pc) (offsets_at (table_size switch) (drop 12 switch))
+table_targets pc switch = map (target_of pc) (numbers_at 4 (table_count switch) (drop 12 switch))
 
 table_backs : (pc : ℕ) (switch : List ℕ) → IsBytes switch → table_length switch ≤ length switch → int_lt (table_high switch) (table_low switch) ≡ false → AllByRecursion IsWithin (targets_in pc (table_offsets switch))
     → (take (table_length switch) switch ≡ table_bytes pc (target_of pc (s4_at switch)) (table_low switch) (table_targets pc switch))
@@ -119,14 +99,14 @@ table_backs pc switch are there good ((target, is), within) = (
   s4_fits (drop 4 switch) (drop_bytes 4 switch are),
   subst (FitsSigned w32) (sym high) (s4_fits (drop 8 switch) (drop_bytes 8 switch are)),
   subst (FitsSigned w32) (sym default) (s4_fits switch are),
-  offsets_fit pc (table_size switch) (drop 12 switch) (drop_bytes 12 switch are) within,
+  offsets_fit pc (table_count switch) (drop 12 switch) (drop_bytes 12 switch are) within,
 )
   where
-    long : (12 + 4 * table_size switch ≤ length switch) × (table_length switch ≡ 12 + 4 * table_size switch)
-    long = table_long switch there
+    long : (12 + 4 * table_count switch ≤ length switch) × (table_length switch ≡ 12 + 4 * table_count switch)
+    long = all_told (length switch) 12 (12 + 4 * table_count switch) there
 
-    count : length (table_targets pc switch) ≡ table_size switch
-    count = length-map (offsets_at (table_size switch) (drop 12 switch)) (target_of pc) ∙ offsets_count (table_size switch) (drop 12 switch)
+    count : length (table_targets pc switch) ≡ table_count switch
+    count = length-map (numbers_at 4 (table_count switch) (drop 12 switch)) (target_of pc) ∙ numbers_count 4 (table_count switch) (drop 12 switch)
 
     high : (table_low switch +ℤ pos (length (table_targets pc switch))) -ℤ pos 1 ≡ table_high switch
     high = ap (λ n. (table_low switch +ℤ pos n) -ℤ pos 1) count ∙ span_back (table_low switch) (table_high switch) good
@@ -134,61 +114,61 @@ table_backs pc switch are there good ((target, is), within) = (
     default : offset pc (target_of pc (s4_at switch)) ≡ s4_at switch
     default = offset_of_target pc (s4_at switch) target is
 
-    others : offset_bytes pc (table_targets pc switch) ≡ take (4 * table_size switch) (drop 12 switch)
-    others = offsets_spelled pc (table_size switch) (drop 12 switch) (drop_bytes 12 switch are) (omega (arith, long.0, length-drop 12 switch)) within
+    others : offset_bytes pc (table_targets pc switch) ≡ take (4 * table_count switch) (drop 12 switch)
+    others = offsets_spelled pc (table_count switch) (drop 12 switch) (drop_bytes 12 switch are) (omega (arith, long.0, length-drop 12 switch)) within
 
     spelled : table_bytes pc (target_of pc (s4_at switch)) (table_low switch) (table_targets pc switch) ≡ take (table_length switch) switch
     spelled = ap (λ z. s4 z ++ s4 (table_low switch) ++ s4 ((table_low switch +ℤ pos (length (table_targets pc switch))) -ℤ pos 1) ++ offset_bytes pc (table_targets pc switch)) default
         ∙ ap (λ z. s4 (s4_at switch) ++ s4 (table_low switch) ++ s4 z ++ offset_bytes pc (table_targets pc switch)) high
-        ∙ ap (λ b. b ++ offset_bytes pc (table_targets pc switch)) (three_numbers switch are (omega (arith, long.0)))
+        ∙ ap (λ b. b ++ offset_bytes pc (table_targets pc switch)) (three_back switch are (omega (arith, long.0)))
         ∙ ap (λ b. take 12 switch ++ b) others
-        ∙ sym (take-add 12 (4 * table_size switch) switch)
+        ∙ sym (take-add 12 (4 * table_count switch) switch)
         ∙ ap (λ n. take n switch) (sym long.1)
 
 -- and of a lookup
 abbrev lookup_pairs : ℕ → List ℕ → List Pair
-lookup_pairs pc switch = pairs_of pc (count_of (lookup_count switch)) (drop 8 switch)
+lookup_pairs pc switch = pairs_of pc (lookup_count switch) (drop 8 switch)
 
-lookup_backs : (pc : ℕ) (switch : List ℕ) → IsBytes switch → lookup_length switch ≤ length switch → (int_lt (lookup_count switch) (pos 0) || keys_fall (keys_at (count_of (lookup_count switch)) (drop 8 switch))) ≡ false → AllByRecursion IsWithin (targets_in pc (lookup_offsets switch))
+lookup_backs : (pc : ℕ) (switch : List ℕ) → IsBytes switch → lookup_length switch ≤ length switch → (int_lt (lookup_number switch) (pos 0) || keys_fall (numbers_at 8 (lookup_count switch) (drop 8 switch))) ≡ false → AllByRecursion IsWithin (targets_in pc (lookup_offsets switch))
     → (take (lookup_length switch) switch ≡ lookup_bytes pc (target_of pc (s4_at switch)) (lookup_pairs pc switch))
     × (length (lookup_pairs pc switch) < 2 ^ 31) × KeysRise (lookup_pairs pc switch) × AllByRecursion (λ pair. FitsSigned w32 pair.key) (lookup_pairs pc switch)
     × FitsSigned w32 (offset pc (target_of pc (s4_at switch))) × AllByRecursion (λ pair. FitsSigned w32 (offset pc pair.target)) (lookup_pairs pc switch)
 lookup_backs pc switch are there good ((target, is), within) = (
   sym spelled,
   (subst (FitsSigned w32) (sym number) (s4_fits (drop 4 switch) (drop_bytes 4 switch are))).sfits,
-  rise_back pc (count_of (lookup_count switch)) (drop 8 switch) parts.1,
-  keys_fit pc (count_of (lookup_count switch)) (drop 8 switch) (drop_bytes 8 switch are),
+  rise_back pc (lookup_count switch) (drop 8 switch) parts.1,
+  keys_fit pc (lookup_count switch) (drop 8 switch) (drop_bytes 8 switch are),
   subst (FitsSigned w32) (sym default) (s4_fits switch are),
-  pairs_fit pc (count_of (lookup_count switch)) (drop 8 switch) (drop_bytes 8 switch are) inside,
+  pairs_fit pc (lookup_count switch) (drop 8 switch) (drop_bytes 8 switch are) inside,
 )
   where
-    long : (8 + 8 * count_of (lookup_count switch) ≤ length switch) × (lookup_length switch ≡ 8 + 8 * count_of (lookup_count switch))
-    long = lookup_long switch there
+    long : (8 + 8 * lookup_count switch ≤ length switch) × (lookup_length switch ≡ 8 + 8 * lookup_count switch)
+    long = all_told (length switch) 8 (8 + 8 * lookup_count switch) there
 
-    parts : (int_lt (lookup_count switch) (pos 0) ≡ false) × (keys_fall (keys_at (count_of (lookup_count switch)) (drop 8 switch)) ≡ false)
-    parts = both_false (int_lt (lookup_count switch) (pos 0)) (keys_fall (keys_at (count_of (lookup_count switch)) (drop 8 switch))) good
+    parts : (int_lt (lookup_number switch) (pos 0) ≡ false) × (keys_fall (numbers_at 8 (lookup_count switch) (drop 8 switch)) ≡ false)
+    parts = both_false (int_lt (lookup_number switch) (pos 0)) (keys_fall (numbers_at 8 (lookup_count switch) (drop 8 switch))) good
 
-    inside : AllByRecursion IsWithin (targets_in pc (keys_at (count_of (lookup_count switch)) (drop 4 (drop 8 switch))))
-    inside = subst (λ b. AllByRecursion IsWithin (targets_in pc (keys_at (count_of (lookup_count switch)) b))) (sym (drop-drop 4 8 switch)) within
+    inside : AllByRecursion IsWithin (targets_in pc (numbers_at 8 (lookup_count switch) (drop 4 (drop 8 switch))))
+    inside = subst (λ b. AllByRecursion IsWithin (targets_in pc (numbers_at 8 (lookup_count switch) b))) (sym (drop-drop 4 8 switch)) within
 
-    count : length (lookup_pairs pc switch) ≡ count_of (lookup_count switch)
-    count = pairs_count pc (count_of (lookup_count switch)) (drop 8 switch)
+    count : length (lookup_pairs pc switch) ≡ lookup_count switch
+    count = pairs_count pc (lookup_count switch) (drop 8 switch)
 
     default : offset pc (target_of pc (s4_at switch)) ≡ s4_at switch
     default = offset_of_target pc (s4_at switch) target is
 
-    number : pos (length (lookup_pairs pc switch)) ≡ lookup_count switch
-    number = ap pos count ∙ counted_is (lookup_count switch) parts.0
+    number : pos (length (lookup_pairs pc switch)) ≡ lookup_number switch
+    number = ap pos count ∙ counted_is (lookup_number switch) parts.0
 
-    others : pair_bytes pc (lookup_pairs pc switch) ≡ take (8 * count_of (lookup_count switch)) (drop 8 switch)
-    others = pairs_spelled pc (count_of (lookup_count switch)) (drop 8 switch) (drop_bytes 8 switch are) (omega (arith, long.0, length-drop 8 switch)) inside
+    others : pair_bytes pc (lookup_pairs pc switch) ≡ take (8 * lookup_count switch) (drop 8 switch)
+    others = pairs_spelled pc (lookup_count switch) (drop 8 switch) (drop_bytes 8 switch are) (omega (arith, long.0, length-drop 8 switch)) inside
 
     spelled : lookup_bytes pc (target_of pc (s4_at switch)) (lookup_pairs pc switch) ≡ take (lookup_length switch) switch
     spelled = ap (λ z. s4 z ++ s4 (pos (length (lookup_pairs pc switch))) ++ pair_bytes pc (lookup_pairs pc switch)) default
         ∙ ap (λ z. s4 (s4_at switch) ++ s4 z ++ pair_bytes pc (lookup_pairs pc switch)) number
-        ∙ ap (λ b. b ++ pair_bytes pc (lookup_pairs pc switch)) (two_numbers switch are (omega (arith, long.0)))
+        ∙ ap (λ b. b ++ pair_bytes pc (lookup_pairs pc switch)) (two_back switch are (omega (arith, long.0)))
         ∙ ap (λ b. take 8 switch ++ b) others
-        ∙ sym (take-add 8 (8 * count_of (lookup_count switch)) switch)
+        ∙ sym (take-add 8 (8 * lookup_count switch) switch)
         ∙ ap (λ n. take n switch) (sym long.1)
 
 pub backs : (pc : ℕ) (form : Form) (behind : List ℕ) → IsBytes behind → operand_length pc form behind ≤ length behind → is_bad pc form behind ≡ false → AllByRecursion IsWithin (operand_targets pc form behind) → SpellsOperand pc form (operand_of pc form behind) (take (operand_length pc form behind) behind)

@@ -4,11 +4,12 @@ use Rattle.std.specs.List.{AllByRecursion}
 use Rattle.std.proofs.Math.Seq.{take-add}
 use Rattle.std.proofs.lemmas.Bool.{cases_order}
 use Rattle.std.proofs.lemmas.List.{append-nil, take_all, length-take-le}
-use Rattle.std.proofs.lemmas.List.Elements.{recursion_from_All, All-contains, All-weaker}
+use Rattle.std.proofs.lemmas.List.Elements.{recursion_from_All, All-from_recursion, All-contains, All-push, All-weaker}
 use Rattle.cb_insn.specs.declared.insn.Insn.{Insn}
 use Rattle.cb_insn.specs.declared.fault.InsnFault.{InsnFault}
 use Rattle.cb_insn.specs.declared.fault.InsnFault.TheVariants as faults
 use Rattle.cb_insn.specs.Grammar.{SpellsInsn, SpellsFrom, SpellsCode, targets_of}
+use Rattle.cb_insn.specs.Places.{places}
 use Rattle.cb_insn.specs.Faults.{Whole, IsPlace, First, Next, HasBadTarget, reading_at, targets_at}
 use Rattle.cb_insn.specs.Reads.{IsRead, IsMarked, MarksPlaces, Misses, Stands}
 use Rattle.cb_insn.proofs.NumberBytes.{IsBytes, drop_bytes}
@@ -32,12 +33,10 @@ spells_more start ((place, one) ∷ code) bytes first at insn (front, rest, is_p
 )
 
 all_push : {X : Type 0} (P : X → Type 0) (xs : List X) (x : X) → AllByRecursion P xs → P x → AllByRecursion P (xs ++ x ∷ [])
-all_push P [] x all one = (one, tt)
-all_push P (y ∷ xs) x (first, all) one = (first, all_push P xs x all one)
+all_push P xs x all one = recursion_from_All P (xs ++ x ∷ []) (All-push P xs x (All-from_recursion P xs all) one)
 
 all_weaker : {X : Type 0} (P Q : X → Type 0) (xs : List X) → ((x : X) → P x → Q x) → AllByRecursion P xs → AllByRecursion Q xs
-all_weaker P Q [] weaker all = tt
-all_weaker P Q (x ∷ xs) weaker (one, all) = (weaker x one, all_weaker P Q xs weaker all)
+all_weaker P Q xs weaker all = recursion_from_All Q xs (All-weaker P Q weaker xs (All-from_recursion P xs all))
 
 all_unmapped : {X Y : Type 0} (P : Y → Type 0) (f : X → Y) (xs : List X) → AllByRecursion P (map f xs) → AllByRecursion (λ x. P (f x)) xs
 all_unmapped P f [] all = tt
@@ -97,18 +96,18 @@ pub built_end : (bytes : List ℕ) (starts : List Bool) (pc : ℕ) (code : List 
 built_end bytes starts pc code built marks ended short = record {
   spelled = spelled;
   short = short;
-  reached = all_weaker (AreMarked starts) (λ placed. AllByRecursion (Contains (map (λ p. p.0) code)) (targets_of placed.1.operand)) code
-      (λ placed are. all_weaker (λ target. IsMarked starts (pos target)) (Contains (map (λ p. p.0) code)) (targets_of placed.1.operand) reached are) built.reached;
+  reached = all_weaker (AreMarked starts) (λ placed. AllByRecursion (Contains (places code)) (targets_of placed.1.operand)) code
+      (λ placed are. all_weaker (λ target. IsMarked starts (pos target)) (Contains (places code)) (targets_of placed.1.operand) reached are) built.reached;
 } where
   spelled : SpellsFrom 0 code bytes
   spelled = subst (SpellsFrom 0 code) (take_all pc bytes ended) built.spelled
 
-  reached : (target : ℕ) → IsMarked starts (pos target) → Contains (map (λ p. p.0) code) target
+  reached : (target : ℕ) → IsMarked starts (pos target) → Contains (places code) target
   reached target mark =
       let same : target ≡ mark.place = cc (mark.is) in
       let start = marks.sound mark.place mark.marked in
       let one = (covers bytes bytes 0 code spelled First refl (omega arith)).found mark.place start.0 (omega arith) start.1 in
-      subst (Contains (map (λ p. p.0) code)) (sym same) (mapped (λ p. p.0) code (mark.place, one.0) one.1)
+      subst (Contains (places code)) (sym same) (mapped (λ p. p.0) code (mark.place, one.0) one.1)
 
 -- a target without a mark is the first that is no place
 pub built_miss : (bytes rest : List ℕ) (starts : List Bool) (pc : ℕ) (code : List (ℕ × Insn)) (fault : InsnFault) → Built bytes starts pc code → IsPlace bytes (length bytes) → MarksPlaces starts bytes → pc < length bytes → rest ≡ drop pc bytes → Misses pc (targets_at pc rest) starts fault → Stands bytes fault

@@ -3,14 +3,17 @@ use Rattle.std.proofs.Common.{◌≡◌, ◌≢◌, ◌↔◌, ◌⊎◌, inl, i
 use Rattle.std.specs.List.{AllByRecursion}
 use Rattle.std.proofs.lemmas.Bool.{cases_order, cases_lt}
 use Rattle.std.proofs.lemmas.List.{drop-drop, drop_at}
+use Rattle.std.proofs.lemmas.List.Elements.{All-contains, All-from_recursion, Contains-append_right}
 use Rattle.cb_insn.specs.declared.insn.Insn.{Insn}
 use Rattle.cb_insn.specs.declared.fault.InsnFault.{InsnFault}
 use Rattle.cb_insn.specs.declared.fault.InsnFault.TheVariants as faults
 use Rattle.cb_insn.specs.Grammar.{SpellsInsn, SpellsFrom, SpellsCode, targets_of}
+use Rattle.cb_insn.specs.Places.{places}
 use Rattle.cb_insn.specs.Faults.{Reading, Whole, IsCut, IsBadOpcode, IsBadOperand, IsPlace, First, Next, HasFault, HasBadTarget, reading_at, targets_at}
 use Rattle.cb_insn.specs.Reads.{IsRead, Stands}
-use Rattle.cb_insn.proofs.Walking.{apart, whole_size, whole_same, none_behind}
+use Rattle.cb_insn.proofs.Walking.{apart, whole_same, none_behind}
 use Rattle.cb_insn.proofs.Heads.{FrontReads, spelled_reads, read_same}
+use Rattle.cb_insn.proofs.Written.{insn_some}
 
 -- of two instructions spelled at the front, both are one
 pub one_insn : (pc : ℕ) (one other : Insn) (first next rest behind : List ℕ) → SpellsInsn pc one first → SpellsInsn pc other next → first ++ rest ≡ next ++ behind → (one ≡ other) × (length first ≡ length next) × (rest ≡ behind)
@@ -23,16 +26,13 @@ one_insn pc one other first next rest behind spells spells_too same =
       sym (drop_at first rest (length first) refl) ∙ ap (drop (length first)) same ∙ ap (λ n. drop n (next ++ behind)) size ∙ drop_at next behind (length next) refl,
     )
 
--- an instruction has at least one byte
-pub insn_length : (pc : ℕ) (insn : Insn) (first : List ℕ) → SpellsInsn pc insn first → 0 < length first
-insn_length pc insn first spells = (whole_size pc (first ++ []) (length first) (spelled_reads pc insn first [] spells).whole).0
-
+-- bytes spell one code
 one_from : (pc : ℕ) (one other : List (ℕ × Insn)) (bytes : List ℕ) → SpellsFrom pc one bytes → SpellsFrom pc other bytes → one ≡ other
 one_from pc [] [] bytes spells spells_too = refl
 one_from pc [] ((at, insn) ∷ other) bytes none (first, rest, is_at, spells, is, more) =
-    absurd (omega (arith, insn_length pc insn first spells, length-append first rest, ap length is, ap length none))
+    absurd (omega (arith, insn_some pc insn first spells, length-append first rest, ap length is, ap length none))
 one_from pc ((at, insn) ∷ one) [] bytes (first, rest, is_at, spells, is, more) none =
-    absurd (omega (arith, insn_length pc insn first spells, length-append first rest, ap length is, ap length none))
+    absurd (omega (arith, insn_some pc insn first spells, length-append first rest, ap length is, ap length none))
 one_from pc ((at, insn) ∷ one) ((place, next) ∷ other) bytes (first, rest, is_at, spells, is, more) (second, behind, is_place, spells_too, is_too, more_too) =
     let same = one_insn pc insn next first second rest behind spells spells_too (sym is ∙ is_too) in
     let others = one_from (pc + length first) one other rest more (subst (λ b. SpellsFrom (pc + length first) other b) (sym same.2) (subst (λ n. SpellsFrom (pc + n) other behind) (sym same.1) more_too)) in
@@ -53,7 +53,7 @@ here : {X : Type 0} (x : X) (xs : List X) → Contains (x ∷ xs) x
 here x xs = (0, omega arith, refl)
 
 there : {X : Type 0} (x y : X) (xs : List X) → Contains xs y → Contains (x ∷ xs) y
-there x y xs (k, below, is) = (suc k, omega arith, is)
+there x y xs has = Contains-append_right (x ∷ []) xs y has
 
 pub covers : (bytes rest : List ℕ) (pc : ℕ) (code : List (ℕ × Insn)) → SpellsFrom pc code rest → IsPlace bytes pc → drop pc bytes ≡ rest → pc ≤ length bytes → Covers bytes pc code
 covers bytes rest pc [] none place is_rest within = record {
@@ -67,7 +67,7 @@ covers bytes rest pc ((at, insn) ∷ code) (first, behind, is_at, spells, is, mo
     covers_next (covers bytes behind (pc + length first) code more next is_behind next_within)
   where
     size_some : 0 < length first
-    size_some = insn_length pc insn first spells
+    size_some = insn_some pc insn first spells
 
     inside : pc < length bytes
     inside = omega (arith, size_some, length-drop pc bytes, ap length is_rest, ap length is, length-append first behind)
@@ -108,9 +108,7 @@ code_covers bytes code spells = covers bytes bytes 0 code spells.spelled First r
 
 -- of a list that another is made of
 all_at : {X : Type 0} (P : X → Type 0) (xs : List X) (x : X) → AllByRecursion P xs → Contains xs x → P x
-all_at P [] x all (k, below, is) = absurd (omega arith)
-all_at P (y ∷ xs) x (one, all) (zero, below, is) = subst P is one
-all_at P (y ∷ xs) x (one, all) (suc k, below, is) = all_at P xs x all (k, omega arith, is)
+all_at P xs x all has = All-contains P xs x (All-from_recursion P xs all) has
 
 unmapped : {X Y : Type 0} (f : X → Y) (xs : List X) (y : Y) → Contains (map f xs) y → (x : X) × Contains xs x × (f x ≡ y)
 unmapped f [] y (k, below, is) = absurd (omega arith)
@@ -131,7 +129,7 @@ no_bad_target bytes code pc spells has =
     let all = code_covers bytes code spells in
     let one = all.found pc has.place (omega arith) has.within in
     let target = unmapped pos (targets_of one.0.operand) has.target (subst (λ zs. Contains zs has.target) one.2 has.among) in
-    let reached = all_at (Contains (map (λ p. p.0) code)) (targets_of one.0.operand) target.0 (all_at (λ placed. AllByRecursion (Contains (map (λ p. p.0) code)) (targets_of placed.1.operand)) code (pc, one.0) spells.reached one.1) target.1 in
+    let reached = all_at (Contains (places code)) (targets_of one.0.operand) target.0 (all_at (λ placed. AllByRecursion (Contains (places code)) (targets_of placed.1.operand)) code (pc, one.0) spells.reached one.1) target.1 in
     let placed = unmapped (λ p. p.0) code target.0 reached in
     let start = all_at (λ p. IsPlace bytes p.0 × (p.0 < length bytes)) code placed.0 all.sound placed.1 in
     has.astray (target.0, subst (IsPlace bytes) placed.2 start.0, omega (arith, start.1, placed.2), sym target.2)

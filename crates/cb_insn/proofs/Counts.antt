@@ -5,7 +5,7 @@ use Rattle.std.specs.Int.RustNames.{unsigned_abs, FitsSigned}
 use Rattle.std.specs.Prelude.{int_lt}
 use Rattle.std.proofs.lemmas.Int.{ints, clamps, to_z-of_z}
 use lib.Signed.{le_z}
-use Rattle.cb_insn.specs.Faults.{count_of, keys_at, keys_fall, s4_at}
+use Rattle.cb_insn.specs.Faults.{count_of, numbers_at, keys_fall, s4_at}
 
 pos_of_max : (m : ℤ) (n : ℕ) → m ≡ int_max (pos n) (pos 0) → m ≡ pos n
 pos_of_max m n is = omega (arith, ints, clamps)
@@ -29,22 +29,22 @@ not_below : (a b : ℤ) → not (int_lt a b) ≡ le_z b a
 not_below a b = grind (arith, ints)
 
 -- of two or more keys, the first two are looked at first
-pub keys_step : (n : ℕ) (rest : List ℕ) → 1 < n → keys_fall (keys_at n rest) ≡ (not (int_lt (s4_at rest) (s4_at (drop 8 rest))) || keys_fall (keys_at (n - 1) (drop 8 rest)))
+pub keys_step : (n : ℕ) (rest : List ℕ) → 1 < n → keys_fall (numbers_at 8 n rest) ≡ (not (int_lt (s4_at rest) (s4_at (drop 8 rest))) || keys_fall (numbers_at 8 (n - 1) (drop 8 rest)))
 keys_step zero rest more = absurd (omega arith)
 keys_step (suc zero) rest more = absurd (omega arith)
-keys_step (suc (suc n)) rest more = let same : suc n ≡ suc (suc n) - 1 = omega arith in ap (λ k. not (int_lt (s4_at rest) (s4_at (drop 8 rest))) || keys_fall (keys_at k (drop 8 rest))) same
+keys_step (suc (suc n)) rest more = let same : suc n ≡ suc (suc n) - 1 = omega arith in ap (λ k. not (int_lt (s4_at rest) (s4_at (drop 8 rest))) || keys_fall (numbers_at 8 k (drop 8 rest))) same
 
 -- and one key doesn't fall
-pub keys_few : (n : ℕ) (rest : List ℕ) → n ≤ 1 → keys_fall (keys_at n rest) ≡ false
+pub keys_few : (n : ℕ) (rest : List ℕ) → n ≤ 1 → keys_fall (numbers_at 8 n rest) ≡ false
 keys_few zero rest few = refl
 keys_few (suc zero) rest few = refl
 keys_few (suc (suc n)) rest few = absurd (omega arith)
 
 -- the walk over the keys, where the next isn't above and where it is
-pub keys_stop : (n : ℕ) (rest next : List ℕ) (one two : ℤ) → 1 < n → next ≡ drop 8 rest → one ≡ s4_at rest → two ≡ s4_at next → le_z two one ≡ true → keys_fall (keys_at n rest) ≡ true
+pub keys_stop : (n : ℕ) (rest next : List ℕ) (one two : ℤ) → 1 < n → next ≡ drop 8 rest → one ≡ s4_at rest → two ≡ s4_at next → le_z two one ≡ true → keys_fall (numbers_at 8 n rest) ≡ true
 keys_stop n rest next one two more is_next is_one is_two falls =
-    keys_step n rest more ∙ ap (λ test. test || keys_fall (keys_at (n - 1) (drop 8 rest))) (ap not (ap (λ z. int_lt z (s4_at (drop 8 rest))) (sym is_one) ∙ ap (int_lt one) (ap s4_at (sym is_next) ∙ sym is_two)) ∙ not_below one two ∙ falls)
+    keys_step n rest more ∙ ap (λ test. test || keys_fall (numbers_at 8 (n - 1) (drop 8 rest))) (ap not (ap (λ z. int_lt z (s4_at (drop 8 rest))) (sym is_one) ∙ ap (int_lt one) (ap s4_at (sym is_next) ∙ sym is_two)) ∙ not_below one two ∙ falls)
 
-pub keys_on : (n : ℕ) (rest next : List ℕ) (one two : ℤ) → 1 < n → next ≡ drop 8 rest → one ≡ s4_at rest → two ≡ s4_at next → le_z two one ≡ false → keys_fall (keys_at n rest) ≡ keys_fall (keys_at (n - 1) next)
+pub keys_on : (n : ℕ) (rest next : List ℕ) (one two : ℤ) → 1 < n → next ≡ drop 8 rest → one ≡ s4_at rest → two ≡ s4_at next → le_z two one ≡ false → keys_fall (numbers_at 8 n rest) ≡ keys_fall (numbers_at 8 (n - 1) next)
 keys_on n rest next one two more is_next is_one is_two rises =
-    keys_step n rest more ∙ ap (λ test. test || keys_fall (keys_at (n - 1) (drop 8 rest))) (ap not (ap (λ z. int_lt z (s4_at (drop 8 rest))) (sym is_one) ∙ ap (int_lt one) (ap s4_at (sym is_next) ∙ sym is_two)) ∙ not_below one two ∙ rises) ∙ ap (λ bytes. keys_fall (keys_at (n - 1) bytes)) (sym is_next)
+    keys_step n rest more ∙ ap (λ test. test || keys_fall (numbers_at 8 (n - 1) (drop 8 rest))) (ap not (ap (λ z. int_lt z (s4_at (drop 8 rest))) (sym is_one) ∙ ap (int_lt one) (ap s4_at (sym is_next) ∙ sym is_two)) ∙ not_below one two ∙ rises) ∙ ap (λ bytes. keys_fall (numbers_at 8 (n - 1) bytes)) (sym is_next)

@@ -12,8 +12,8 @@ use Rattle.cb_insn.specs.declared.insn.Pair.{Pair}
 use Rattle.cb_insn.specs.declared.insn.Operand.{Operand}
 use Rattle.cb_insn.specs.declared.insn.Operand.TheVariants.{Nothing, Number, Pool, Local, Increase, Branch, ArrayCode, Dimensions, Interface, Table, Lookup}
 use Rattle.cb_insn.specs.Grammar.{s2, offset, table_bytes, lookup_bytes, KeysRise, IsPadding, SpellsOperand, targets_of}
-use Rattle.cb_insn.specs.Faults.{s2_at, s4_at, count_of, padding_length, table_low, table_high, table_length, lookup_count, lookup_length, operand_length, is_bad, keys_at, keys_fall, offsets_at}
-use Rattle.cb_insn.specs.Reads.{target_of, targets_in, pairs_of, operand_of, operand_targets, table_of, lookup_of, table_offsets, lookup_offsets}
+use Rattle.cb_insn.specs.Faults.{s2_at, s4_at, count_of, padding_length, table_low, table_high, table_count, table_length, lookup_number, lookup_count, lookup_length, operand_length, is_bad, numbers_at, keys_fall, targets_in, table_offsets, lookup_offsets}
+use Rattle.cb_insn.specs.Reads.{target_of, pairs_of, operand_of, operand_targets, table_of, lookup_of}
 use Rattle.cb_insn.proofs.NumberBytes.{u2_front, s2_front, s4_front}
 use Rattle.cb_insn.proofs.Spelling.{cons_same, offset_back, target_back, padding_is, offsets_front, offsets_length, pairs_length, pairs_front, keys_front, pair_offsets_front, rise_front}
 
@@ -33,7 +33,7 @@ record TableFronts (pc : ℕ) (default : ℕ) (low : ℤ) (targets bytes switch 
 
 record LookupFronts (pc : ℕ) (default : ℕ) (pairs : List Pair) (bytes switch : List ℕ) : Type 0 where
   size : lookup_length switch ≡ length bytes
-  good : (int_lt (lookup_count switch) (pos 0) || keys_fall (keys_at (count_of (lookup_count switch)) (drop 8 switch))) ≡ false
+  good : (int_lt (lookup_number switch) (pos 0) || keys_fall (numbers_at 8 (lookup_count switch) (drop 8 switch))) ≡ false
   same : lookup_of pc switch ≡ Lookup default pairs
   targets_same : targets_in pc (lookup_offsets switch) ≡ map pos (default ∷ map (λ pair. pair.target) pairs)
 
@@ -70,7 +70,7 @@ not_zero n some = grind (arith, nat_tests)
 
 table_fronts : (pc default : ℕ) (low : ℤ) (targets rest : List ℕ) → 0 < length targets → FitsSigned w32 low → FitsSigned w32 ((low +ℤ pos (length targets)) -ℤ pos 1) → FitsSigned w32 (offset pc default) → AllByRecursion (λ target. FitsSigned w32 (offset pc target)) targets → TableFronts pc default low targets (table_bytes pc default low targets) (table_bytes pc default low targets ++ rest)
 table_fronts pc default low targets rest some low_fits high_fits default_fits fit = record {
-  size = long_enough (length switch) 12 (4 * count_of ((table_high switch +ℤ pos 1) -ℤ table_low switch)) (omega arith) ∙ sized;
+  size = long_enough (length switch) 12 (4 * table_count switch) (omega arith) ∙ sized;
   good = ap (int_lt (table_high switch)) is_low ∙ ap (λ z. int_lt z low) is_high ∙ high_first low (length targets) some;
   same = same;
   targets_same = cons_same _ _ _ _ (ap (λ z. pos pc +ℤ z) is_default ∙ offset_back pc default) (ap (targets_in pc) are_offsets ∙ targets_are pc targets);
@@ -87,26 +87,26 @@ table_fronts pc default low targets rest some low_fits high_fits default_fits fi
   is_high : table_high switch ≡ (low +ℤ pos (length targets)) -ℤ pos 1
   is_high = s4_front ((low +ℤ pos (length targets)) -ℤ pos 1) (drop 12 switch) high_fits
 
-  is_count : count_of ((table_high switch +ℤ pos 1) -ℤ table_low switch) ≡ length targets
+  is_count : table_count switch ≡ length targets
   is_count = ap (λ z. count_of ((z +ℤ pos 1) -ℤ table_low switch)) is_high ∙ ap (λ z. count_of ((((low +ℤ pos (length targets)) -ℤ pos 1) +ℤ pos 1) -ℤ z)) is_low ∙ span_of low (length targets)
 
-  are_offsets : offsets_at (count_of ((table_high switch +ℤ pos 1) -ℤ table_low switch)) (drop 12 switch) ≡ map (offset pc) targets
-  are_offsets = ap (λ n. offsets_at n (drop 12 switch)) is_count ∙ offsets_front pc targets rest fit
+  are_offsets : numbers_at 4 (table_count switch) (drop 12 switch) ≡ map (offset pc) targets
+  are_offsets = ap (λ n. numbers_at 4 n (drop 12 switch)) is_count ∙ offsets_front pc targets rest fit
 
-  sized : 12 + 4 * count_of ((table_high switch +ℤ pos 1) -ℤ table_low switch) ≡ length (table_bytes pc default low targets)
+  sized : 12 + 4 * table_count switch ≡ length (table_bytes pc default low targets)
   sized = omega (arith, is_count, offsets_length pc targets)
 
   same : table_of pc switch ≡ Table default low targets
   same =
       let one : target_of pc (s4_at switch) ≡ default = ap (target_of pc) is_default ∙ target_back pc default in
-      let others : map (target_of pc) (offsets_at (count_of ((table_high switch +ℤ pos 1) -ℤ table_low switch)) (drop 12 switch)) ≡ targets = ap (map (target_of pc)) are_offsets ∙ targets_back pc targets in
-      ap (λ d. Table d (table_low switch) (map (target_of pc) (offsets_at (count_of ((table_high switch +ℤ pos 1) -ℤ table_low switch)) (drop 12 switch)))) one
-      ∙ ap (λ l. Table default l (map (target_of pc) (offsets_at (count_of ((table_high switch +ℤ pos 1) -ℤ table_low switch)) (drop 12 switch)))) is_low
+      let others : map (target_of pc) (numbers_at 4 (table_count switch) (drop 12 switch)) ≡ targets = ap (map (target_of pc)) are_offsets ∙ targets_back pc targets in
+      ap (λ d. Table d (table_low switch) (map (target_of pc) (numbers_at 4 (table_count switch) (drop 12 switch)))) one
+      ∙ ap (λ l. Table default l (map (target_of pc) (numbers_at 4 (table_count switch) (drop 12 switch)))) is_low
       ∙ ap (Table default low) others
 
 lookup_fronts : (pc default : ℕ) (pairs : List Pair) (rest : List ℕ) → length pairs < 2 ^ 31 → KeysRise pairs → AllByRecursion (λ pair. FitsSigned w32 pair.key) pairs → FitsSigned w32 (offset pc default) → AllByRecursion (λ pair. FitsSigned w32 (offset pc pair.target)) pairs → LookupFronts pc default pairs (lookup_bytes pc default pairs) (lookup_bytes pc default pairs ++ rest)
 lookup_fronts pc default pairs rest few rise key_fit default_fits fit = record {
-  size = long_enough (length switch) 8 (8 * count_of (lookup_count switch)) (omega arith) ∙ sized;
+  size = long_enough (length switch) 8 (8 * lookup_count switch) (omega arith) ∙ sized;
   good = good;
   same = same;
   targets_same = cons_same _ _ _ _ (ap (λ z. pos pc +ℤ z) is_default ∙ offset_back pc default) (ap (targets_in pc) are_offsets ∙ pair_targets_are pc pairs);
@@ -120,29 +120,29 @@ lookup_fronts pc default pairs rest few rise key_fit default_fits fit = record {
   few_fit : FitsSigned w32 (pos (length pairs))
   few_fit = record { sfits = few }
 
-  is_length : lookup_count switch ≡ pos (length pairs)
+  is_length : lookup_number switch ≡ pos (length pairs)
   is_length = s4_front (pos (length pairs)) (drop 8 switch) few_fit
 
-  is_count : count_of (lookup_count switch) ≡ length pairs
+  is_count : lookup_count switch ≡ length pairs
   is_count = ap count_of is_length
 
-  are_offsets : keys_at (count_of (lookup_count switch)) (drop 12 switch) ≡ map (λ pair. offset pc pair.target) pairs
-  are_offsets = ap (λ n. keys_at n (drop 12 switch)) is_count ∙ ap (keys_at (length pairs)) (sym (drop-drop 4 8 switch)) ∙ pair_offsets_front pc pairs rest fit
+  are_offsets : numbers_at 8 (lookup_count switch) (drop 12 switch) ≡ map (λ pair. offset pc pair.target) pairs
+  are_offsets = ap (λ n. numbers_at 8 n (drop 12 switch)) is_count ∙ ap (numbers_at 8 (length pairs)) (sym (drop-drop 4 8 switch)) ∙ pair_offsets_front pc pairs rest fit
 
-  are_keys : keys_at (count_of (lookup_count switch)) (drop 8 switch) ≡ map (λ pair. pair.key) pairs
-  are_keys = ap (λ n. keys_at n (drop 8 switch)) is_count ∙ keys_front pc pairs rest key_fit
+  are_keys : numbers_at 8 (lookup_count switch) (drop 8 switch) ≡ map (λ pair. pair.key) pairs
+  are_keys = ap (λ n. numbers_at 8 n (drop 8 switch)) is_count ∙ keys_front pc pairs rest key_fit
 
-  good : (int_lt (lookup_count switch) (pos 0) || keys_fall (keys_at (count_of (lookup_count switch)) (drop 8 switch))) ≡ false
-  good = ap (λ z. int_lt z (pos 0) || keys_fall (keys_at (count_of (lookup_count switch)) (drop 8 switch))) is_length ∙ ap (λ test. test || keys_fall (keys_at (count_of (lookup_count switch)) (drop 8 switch))) (not_negative (length pairs)) ∙ ap keys_fall are_keys ∙ rise_front pairs rise
+  good : (int_lt (lookup_number switch) (pos 0) || keys_fall (numbers_at 8 (lookup_count switch) (drop 8 switch))) ≡ false
+  good = ap (λ z. int_lt z (pos 0) || keys_fall (numbers_at 8 (lookup_count switch) (drop 8 switch))) is_length ∙ ap (λ test. test || keys_fall (numbers_at 8 (lookup_count switch) (drop 8 switch))) (not_negative (length pairs)) ∙ ap keys_fall are_keys ∙ rise_front pairs rise
 
-  sized : 8 + 8 * count_of (lookup_count switch) ≡ length (lookup_bytes pc default pairs)
+  sized : 8 + 8 * lookup_count switch ≡ length (lookup_bytes pc default pairs)
   sized = omega (arith, is_count, pairs_length pc pairs)
 
   same : lookup_of pc switch ≡ Lookup default pairs
   same =
       let one : target_of pc (s4_at switch) ≡ default = ap (target_of pc) is_default ∙ target_back pc default in
-      let others : pairs_of pc (count_of (lookup_count switch)) (drop 8 switch) ≡ pairs = ap (λ n. pairs_of pc n (drop 8 switch)) is_count ∙ pairs_front pc pairs rest key_fit fit in
-      ap (λ d. Lookup d (pairs_of pc (count_of (lookup_count switch)) (drop 8 switch))) one ∙ ap (Lookup default) others
+      let others : pairs_of pc (lookup_count switch) (drop 8 switch) ≡ pairs = ap (λ n. pairs_of pc n (drop 8 switch)) is_count ∙ pairs_front pc pairs rest key_fit fit in
+      ap (λ d. Lookup d (pairs_of pc (lookup_count switch) (drop 8 switch))) one ∙ ap (Lookup default) others
 
 -- behind the padding
 padded : (pc : ℕ) (padding switch rest : List ℕ) → IsPadding pc padding → drop (padding_length pc) ((padding ++ switch) ++ rest) ≡ switch ++ rest
@@ -182,7 +182,7 @@ fronts pc forms.Lookup (Lookup default pairs) bytes rest (padding, is_padding, i
     let behind = padded pc padding (lookup_bytes pc default pairs) rest is_padding in
     subst (λ b. Fronts pc forms.Lookup (Lookup default pairs) b (b ++ rest)) (sym is) (record {
       size = ap (λ s. padding_length pc + lookup_length s) behind ∙ ap (λ n. padding_length pc + n) parts.size ∙ ap (λ n. n + length (lookup_bytes pc default pairs)) (sym (padding_is pc padding is_padding)) ∙ sym (length-append padding (lookup_bytes pc default pairs));
-      good = ap (λ s. int_lt (lookup_count s) (pos 0) || keys_fall (keys_at (count_of (lookup_count s)) (drop 8 s))) behind ∙ parts.good;
+      good = ap (λ s. int_lt (lookup_number s) (pos 0) || keys_fall (numbers_at 8 (lookup_count s) (drop 8 s))) behind ∙ parts.good;
       same = ap (lookup_of pc) behind ∙ parts.same;
       targets = ap (λ s. targets_in pc (lookup_offsets s)) behind ∙ parts.targets_same;
     })

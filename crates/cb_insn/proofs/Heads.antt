@@ -1,24 +1,20 @@
 -- The opcode at the front of an instruction.
-use Rattle.std.proofs.Common.{◌≡◌, ℕ, suc, ◌+◌, ◌≤◌, pos, Bool, true, false, List, [], ◌∷◌, ◌++◌, length, take, map, nat_lt, nat_eq, cond, Option, Some, None, refl, sym, ◌∙◌, ap, subst, arith, length-append}
+use Rattle.std.proofs.Common.{◌≡◌, ℕ, suc, ◌+◌, ◌≤◌, pos, Bool, true, false, List, [], ◌∷◌, ◌++◌, length, take, map, nat_lt, nat_eq, cond, Option, Some, None, refl, sym, ◌∙◌, ap, subst, arith, length-append, append_assoc}
 use Rattle.std.specs.List.{AllByRecursion}
+use Rattle.std.proofs.Math.Seq.{take-append-add}
 use Rattle.std.proofs.lemmas.Bool.Decides.{nat_tests}
 use Rattle.cb_insn.specs.declared.form.Form.{Form}
 use Rattle.cb_insn.specs.declared.form.Form.TheVariants as forms
 use Rattle.cb_insn.specs.declared.insn.Insn.{Insn}
-use Rattle.cb_insn.specs.declared.insn.Operand.{Operand}
-use Rattle.cb_insn.specs.Forms.{form_of, wide_form_of, wide_opcode, widened}
-use Rattle.cb_insn.specs.Grammar.{SpellsIn, SpellsBehind, SpellsInsn, SpellsOperand, targets_of}
-use Rattle.cb_insn.specs.Faults.{Whole, IsCut, IsBadOperand, reading_at, reading_in, reading_plain, reading_wide, reading_behind_wide, operand_length, is_bad, form_offsets, operand_offsets, targets_at}
-use Rattle.cb_insn.specs.Reads.{HasHead, IsRead, operand_of, operand_targets, targets_in}
+use Rattle.cb_insn.specs.Forms.{form_of, wide_form_of, wide_opcode, widened, head_bytes, head_form}
+use Rattle.cb_insn.specs.Grammar.{SpellsIn, SpellsInsn, SpellsOperand, targets_of}
+use Rattle.cb_insn.specs.Faults.{Whole, IsCut, IsBadOperand, reading_at, reading_in, reading_plain, reading_wide, reading_behind_wide, operand_length, is_bad, form_offsets, operand_offsets, targets_at, targets_in}
+use Rattle.cb_insn.specs.Reads.{HasHead, IsRead, operand_of, operand_targets}
 use Rattle.cb_insn.proofs.NumberBytes.{IsBytes}
 use Rattle.cb_insn.proofs.Spelling.{IsWithin}
-use Rattle.cb_insn.proofs.Fronts.{Fronts, fronts}
+use Rattle.cb_insn.proofs.Fronts.{fronts}
 use Rattle.cb_insn.proofs.Backs.{backs}
-use Rattle.cb_insn.proofs.Walking.{whole_in}
-
-abbrev pub before : Bool → ℕ
-before false = 1
-before true = 2
+use Rattle.cb_insn.proofs.Walking.{whole_in, whole_same}
 
 same_number : (m n : ℕ) → nat_eq m n ≡ true → m ≡ n
 same_number m n is = grind (arith, nat_tests)
@@ -30,7 +26,7 @@ pub record Headed (pc : ℕ) (bytes : List ℕ) (size : ℕ) : Type 0 where
   pub form : Form
   pub behind : List ℕ
   pub head : HasHead wide opcode form behind bytes
-  pub sized : before wide + operand_length pc form behind ≡ size
+  pub sized : length (head_bytes wide opcode) + operand_length pc form behind ≡ size
   pub there : operand_length pc form behind ≤ length behind
   pub good : is_bad pc form behind ≡ false
 
@@ -87,7 +83,7 @@ whole_of before pc form behind there good =
     not_less : (m n : ℕ) → n ≤ m → nat_lt m n ≡ false
     not_less m n order = grind (arith, nat_tests)
 
-pub head_reads : (pc : ℕ) (wide : Bool) (opcode : ℕ) (form : Form) (behind bytes : List ℕ) → HasHead wide opcode form behind bytes → operand_length pc form behind ≤ length behind → is_bad pc form behind ≡ false → reading_at pc bytes ≡ Whole (before wide + operand_length pc form behind)
+pub head_reads : (pc : ℕ) (wide : Bool) (opcode : ℕ) (form : Form) (behind bytes : List ℕ) → HasHead wide opcode form behind bytes → operand_length pc form behind ≤ length behind → is_bad pc form behind ≡ false → reading_at pc bytes ≡ Whole (length (head_bytes wide opcode) + operand_length pc form behind)
 head_reads pc false opcode form behind bytes (is, has) there good =
     ap (reading_at pc) is ∙ ap (λ test. cond test (reading_behind_wide pc behind) (reading_plain pc (form_of opcode) behind)) (not_wide opcode form has) ∙ ap (λ f. reading_plain pc f behind) has ∙ whole_of 1 pc form behind there good
 head_reads pc true opcode form behind bytes (is, has) there good =
@@ -155,65 +151,45 @@ pub record FrontReads (pc : ℕ) (insn : Insn) (size : ℕ) (bytes : List ℕ) :
   pub whole : reading_at pc bytes ≡ Whole size
   pub targets : targets_at pc bytes ≡ map pos (targets_of insn.operand)
 
-front_reads : (pc : ℕ) (insn : Insn) (form : Form) (behind spelled bytes : List ℕ) (size : ℕ) → HasHead insn.wide insn.opcode form behind bytes → Fronts pc form insn.operand spelled behind → length spelled ≤ length behind → before insn.wide + length spelled ≡ size → FrontReads pc insn size bytes
-front_reads pc insn form behind spelled bytes size head parts there sized = record {
-  read = record { form = form; behind = behind; head = head; operand = sym parts.same };
-  whole = head_reads pc insn.wide insn.opcode form behind bytes head (omega (arith, parts.size)) parts.good ∙ ap Whole (ap (λ n. before insn.wide + n) parts.size ∙ sized);
-  targets = head_targets pc insn.wide insn.opcode form behind bytes head ∙ parts.targets;
-}
-
-counted : (head behind all : ℕ) → head + behind ≡ all → head + behind ≡ all
-counted head behind all is = is
-
 pub spelled_reads : (pc : ℕ) (insn : Insn) (first rest : List ℕ) → SpellsInsn pc insn first → FrontReads pc insn (length first) (first ++ rest)
-spelled_reads pc insn first rest spells = by_wide insn.wide refl spells where
-  plain : insn.wide ≡ false → (behind : List ℕ) → first ≡ insn.opcode ∷ behind → (form : Option Form) → form_of insn.opcode ≡ form → SpellsIn pc form insn.operand behind → FrontReads pc insn (length first) (first ++ rest)
-  plain is_plain behind is None has spells = absurd spells
-  plain is_plain behind is (Some form) has spells =
-      front_reads pc insn form (behind ++ rest) behind (first ++ rest) (length first)
-      (subst (λ w. HasHead w insn.opcode form (behind ++ rest) (first ++ rest)) (sym is_plain) (ap (λ b. b ++ rest) is, has))
-      (fronts pc form insn.operand behind rest spells) (omega (arith, length-append behind rest)) (ap (λ w. before w + length behind) is_plain ∙ counted 1 (length behind) (length first) (omega (arith, ap length is)))
-
-  widely : insn.wide ≡ true → (behind : List ℕ) → first ≡ wide_opcode ∷ insn.opcode ∷ behind → (form : Option Form) → wide_form_of insn.opcode ≡ form → SpellsIn pc form insn.operand behind → FrontReads pc insn (length first) (first ++ rest)
-  widely is_wide behind is None has spells = absurd spells
-  widely is_wide behind is (Some form) has spells =
-      front_reads pc insn form (behind ++ rest) behind (first ++ rest) (length first)
-      (subst (λ w. HasHead w insn.opcode form (behind ++ rest) (first ++ rest)) (sym is_wide) (ap (λ b. b ++ rest) is, has))
-      (fronts pc form insn.operand behind rest spells) (omega (arith, length-append behind rest)) (ap (λ w. before w + length behind) is_wide ∙ counted 2 (length behind) (length first) (omega (arith, ap length is)))
-
-  by_wide : (wide : Bool) → insn.wide ≡ wide → SpellsBehind pc wide insn.opcode insn.operand first → FrontReads pc insn (length first) (first ++ rest)
-  by_wide false is (behind, is_first, spells) = plain is behind is_first (form_of insn.opcode) refl spells
-  by_wide true is (behind, is_first, spells) = widely is behind is_first (wide_form_of insn.opcode) refl spells
-
-next_taken : (byte size : ℕ) (behind : List ℕ) → take (1 + size) (byte ∷ behind) ≡ byte ∷ take size behind
-next_taken byte size behind = let same : 1 + size ≡ suc size = omega arith in ap (λ n. take n (byte ∷ behind)) same
-
-two_taken : (byte next size : ℕ) (behind : List ℕ) → take (2 + size) (byte ∷ next ∷ behind) ≡ byte ∷ next ∷ take size behind
-two_taken byte next size behind = let same : 2 + size ≡ suc (suc size) = omega arith in ap (λ n. take n (byte ∷ next ∷ behind)) same
-
-whole_size_same : (m n : ℕ) → Whole m ≡ Whole n → m ≡ n
-whole_size_same m n is = cc
+spelled_reads pc insn first rest (behind, is, spells) = by_form (head_form insn.wide insn.opcode) refl spells where
+  by_form : (form : Option Form) → head_form insn.wide insn.opcode ≡ form → SpellsIn pc form insn.operand behind → FrontReads pc insn (length first) (first ++ rest)
+  by_form None has spells = absurd spells
+  by_form (Some form) has spells =
+      let before = head_bytes insn.wide insn.opcode in
+      let head : HasHead insn.wide insn.opcode form (behind ++ rest) (first ++ rest) = (ap (λ b. b ++ rest) is ∙ append_assoc before behind rest, has) in
+      let parts = fronts pc form insn.operand behind rest spells in record {
+        read = record { form = form; behind = behind ++ rest; head = head; operand = sym parts.same };
+        whole = head_reads pc insn.wide insn.opcode form (behind ++ rest) (first ++ rest) head (omega (arith, parts.size, length-append behind rest)) parts.good ∙ ap Whole (ap (λ n. length before + n) parts.size ∙ sym (ap length is ∙ length-append before behind));
+        targets = head_targets pc insn.wide insn.opcode form (behind ++ rest) (first ++ rest) head ∙ parts.targets;
+      }
 
 behind_bytes : (wide : Bool) (opcode : ℕ) (form : Form) (behind bytes : List ℕ) → HasHead wide opcode form behind bytes → IsBytes bytes → IsBytes behind
 behind_bytes false opcode form behind bytes (is, has) are = λ i. subst IsBytes is are (suc i)
 behind_bytes true opcode form behind bytes (is, has) are = λ i. subst IsBytes is are (suc (suc i))
 
--- and what is read is spelled at the front
-spells_behind : (pc : ℕ) (wide : Bool) (opcode : ℕ) (form : Form) (operand : Operand) (behind bytes : List ℕ) (size : ℕ) → HasHead wide opcode form behind bytes → SpellsOperand pc form operand (take size behind) → SpellsBehind pc wide opcode operand (take (before wide + size) bytes)
-spells_behind pc false opcode form operand behind bytes size (is, has) spells =
-    (take size behind, ap (take (1 + size)) is ∙ next_taken opcode size behind, subst (λ f. SpellsIn pc f operand (take size behind)) (sym has) spells)
-spells_behind pc true opcode form operand behind bytes size (is, has) spells =
-    (take size behind, ap (take (2 + size)) is ∙ two_taken wide_opcode opcode size behind, subst (λ f. SpellsIn pc f operand (take size behind)) (sym has) spells)
+-- a whole instruction is so by its head
+pub head_whole : (pc : ℕ) (wide : Bool) (opcode : ℕ) (form : Form) (behind bytes : List ℕ) (size : ℕ) → reading_at pc bytes ≡ Whole size → HasHead wide opcode form behind bytes → (operand_length pc form behind ≤ length behind) × (is_bad pc form behind ≡ false) × (reading_at pc bytes ≡ Whole (length (head_bytes wide opcode) + operand_length pc form behind))
+head_whole pc wide opcode form behind bytes size whole head =
+    let parts = headed pc bytes size whole in
+    let same = head_same parts.wide wide parts.opcode opcode parts.form form parts.behind behind bytes parts.head head in
+    let there : operand_length pc form behind ≤ length behind = subst (λ b. operand_length pc form b ≤ length b) same.3 (subst (λ f. operand_length pc f parts.behind ≤ length parts.behind) same.2 parts.there) in
+    let good : is_bad pc form behind ≡ false = subst (λ b. is_bad pc form b ≡ false) same.3 (subst (λ f. is_bad pc f parts.behind ≡ false) same.2 parts.good) in
+    (there, good, head_reads pc wide opcode form behind bytes head there good)
 
+-- and what is read is spelled at the front
 pub reads_spelled : (pc : ℕ) (insn : Insn) (bytes : List ℕ) (size : ℕ) → IsRead pc insn bytes → reading_at pc bytes ≡ Whole size → IsBytes bytes → AllByRecursion IsWithin (targets_at pc bytes) → SpellsInsn pc insn (take size bytes)
 reads_spelled pc insn bytes size read whole are within =
-    let parts = headed pc bytes size whole in
-    let same = head_same parts.wide insn.wide parts.opcode insn.opcode parts.form read.form parts.behind read.behind bytes parts.head read.head in
-    let there : operand_length pc read.form read.behind ≤ length read.behind = subst (λ b. operand_length pc read.form b ≤ length b) same.3 (subst (λ f. operand_length pc f parts.behind ≤ length parts.behind) same.2 parts.there) in
-    let good : is_bad pc read.form read.behind ≡ false = subst (λ b. is_bad pc read.form b ≡ false) same.3 (subst (λ f. is_bad pc f parts.behind ≡ false) same.2 parts.good) in
-    let sized : before insn.wide + operand_length pc read.form read.behind ≡ size = whole_size_same _ size (sym (head_reads pc insn.wide insn.opcode read.form read.behind bytes read.head there good) ∙ whole) in
-    let spelled = backs pc read.form read.behind (behind_bytes insn.wide insn.opcode read.form read.behind bytes read.head are) there good (subst (AllByRecursion IsWithin) (head_targets pc insn.wide insn.opcode read.form read.behind bytes read.head) within) in
-    subst (λ n. SpellsInsn pc insn (take n bytes)) sized (spells_behind pc insn.wide insn.opcode read.form insn.operand read.behind bytes (operand_length pc read.form read.behind) read.head (subst (λ o. SpellsOperand pc read.form o (take (operand_length pc read.form read.behind) read.behind)) (sym read.operand) spelled))
+    let parts = head_whole pc insn.wide insn.opcode read.form read.behind bytes size whole read.head in
+    let sized : length (head_bytes insn.wide insn.opcode) + operand_length pc read.form read.behind ≡ size = whole_same _ _ _ parts.2 whole in
+    let spelled = backs pc read.form read.behind (behind_bytes insn.wide insn.opcode read.form read.behind bytes read.head are) parts.0 parts.1 (subst (AllByRecursion IsWithin) (head_targets pc insn.wide insn.opcode read.form read.behind bytes read.head) within) in
+    let before = head_bytes insn.wide insn.opcode in
+    let size_behind = operand_length pc read.form read.behind in
+    subst (λ n. SpellsInsn pc insn (take n bytes)) sized (
+      take size_behind read.behind,
+      ap (take (length before + size_behind)) read.head.0 ∙ take-append-add before read.behind size_behind,
+      subst (λ f. SpellsIn pc f insn.operand (take size_behind read.behind)) (sym read.head.1) (subst (λ o. SpellsOperand pc read.form o (take size_behind read.behind)) (sym read.operand) spelled),
+    )
 
 -- no head stands where the opcode behind `wide` has no form there
 pub no_wide_head : (bytes : List ℕ) (next : ℕ) (rest : List ℕ) → bytes ≡ wide_opcode ∷ next ∷ rest → wide_form_of next ≡ None → (wide : Bool) (opcode : ℕ) (form : Form) (behind : List ℕ) → HasHead wide opcode form behind bytes → ⊥
@@ -227,12 +203,3 @@ no_wide_head bytes next rest is_wide none true opcode form behind (is, has) =
     let same_opcode : next ≡ opcode = cc in
     let both : None ≡ Some form = sym none ∙ ap wide_form_of same_opcode ∙ has in
     cc
-
--- a whole instruction is so by its head
-pub head_whole : (pc : ℕ) (wide : Bool) (opcode : ℕ) (form : Form) (behind bytes : List ℕ) (size : ℕ) → reading_at pc bytes ≡ Whole size → HasHead wide opcode form behind bytes → (operand_length pc form behind ≤ length behind) × (is_bad pc form behind ≡ false) × (reading_at pc bytes ≡ Whole (before wide + operand_length pc form behind))
-head_whole pc wide opcode form behind bytes size whole head =
-    let parts = headed pc bytes size whole in
-    let same = head_same parts.wide wide parts.opcode opcode parts.form form parts.behind behind bytes parts.head head in
-    let there : operand_length pc form behind ≤ length behind = subst (λ b. operand_length pc form b ≤ length b) same.3 (subst (λ f. operand_length pc f parts.behind ≤ length parts.behind) same.2 parts.there) in
-    let good : is_bad pc form behind ≡ false = subst (λ b. is_bad pc form b ≡ false) same.3 (subst (λ f. is_bad pc f parts.behind ≡ false) same.2 parts.good) in
-    (there, good, head_reads pc wide opcode form behind bytes head there good)

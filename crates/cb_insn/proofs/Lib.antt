@@ -9,6 +9,5 @@ pub mod Heads
 pub mod Codes
 pub mod Building
 pub mod Written
-pub mod Pushes
 pub mod Sizes
 pub mod Placing

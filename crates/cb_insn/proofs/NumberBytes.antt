@@ -1,6 +1,7 @@
 -- Numbers and the bytes that spell them.
-use Rattle.std.proofs.Common.{◌≡◌, ℕ, zero, suc, length-take, ◌<◌, ◌≤◌, ◌^◌, ℤ, List, [], ◌∷◌, ◌++◌, length, take, drop, get_or, refl, ◌∙◌, ap, arith, FitsSigned, rules}
+use Rattle.std.proofs.Common.{◌≡◌, ℕ, zero, suc, length-take, ◌<◌, ◌≤◌, ◌^◌, ℤ, List, [], ◌∷◌, ◌++◌, length, take, drop, get_or, refl, sym, ◌∙◌, ap, arith, FitsSigned, rules, length-drop}
 use Rattle.std.specs.Int.{w16, w32, cast_signed, cast_unsigned, to_be_bytes, from_be_bytes}
+use Rattle.std.proofs.Math.Seq.{take-add}
 use Rattle.std.proofs.lemmas.Int.{to_z-of_z, of_z-to_z, ints}
 use Rattle.std.proofs.lemmas.Nat.{be_bytes_2, be_bytes_4, from_be_bytes-to_be_bytes_2, from_be_bytes-to_be_bytes_4}
 use Rattle.cb_insn.specs.Grammar.{u2, s2, s4}
@@ -56,3 +57,10 @@ s4_back bytes are long = ap (to_be_bytes w32) (of_z-to_z w32 (from_be_bytes w32 
 
 pub s4_fits : (bytes : List ℕ) → IsBytes bytes → FitsSigned w32 (s4_at bytes)
 s4_fits bytes are = let below = u4_below bytes are in search (rules, ints)
+
+-- two such numbers, one behind the other
+pub two_back : (bytes : List ℕ) → IsBytes bytes → 8 ≤ length bytes → s4 (s4_at bytes) ++ s4 (s4_at (drop 4 bytes)) ≡ take 8 bytes
+two_back bytes are long =
+    ap (λ b. b ++ s4 (s4_at (drop 4 bytes))) (s4_back bytes are (omega arith))
+    ∙ ap (λ b. take 4 bytes ++ b) (s4_back (drop 4 bytes) (drop_bytes 4 bytes are) (omega (arith, length-drop 4 bytes)))
+    ∙ sym (take-add 4 4 bytes)

@@ -1,5 +1,5 @@
 -- Places that rise, the search of one among them, and the walk over code.
-use Rattle.std.proofs.Common.{◌≡◌, ℕ, zero, suc, ◌+◌, ◌<◌, ◌≤◌, ◌^◌, ◌↔◌, Bool, true, false, List, [], ◌∷◌, ◌++◌, length, map, refl, sym, ◌∙◌, ap, subst, arith, length-append, slice_index_or, Contains, ◌⊎◌, inl, inr, IsTrue}
+use Rattle.std.proofs.Common.{◌≡◌, ℕ, zero, suc, ◌+◌, ◌<◌, ◌≤◌, ◌^◌, ◌↔◌, Bool, List, [], ◌∷◌, ◌++◌, length, map, refl, sym, ◌∙◌, ap, subst, arith, length-append, slice_index_or, Contains, ◌⊎◌, inl, inr, IsTrue}
 use Rattle.std.specs.List.{AllByRecursion}
 use Rattle.std.proofs.lemmas.List.{map-append}
 use Rattle.std.proofs.lemmas.List.Elements.{Contains-append_left, Contains-append_right, Contains-append_cases}
@@ -7,22 +7,17 @@ use Rattle.cb_insn.specs.declared.insn.Insn.{Insn}
 use Rattle.cb_insn.specs.declared.insn.Operand.{Operand}
 use Rattle.cb_insn.specs.declared.insn.Operand.TheVariants.{Lookup}
 use Rattle.cb_insn.specs.declared.insn.Pair.{Pair}
-use Rattle.cb_insn.specs.Grammar.{SpellsBehind, SpellsInsn, SpellsFrom, SpellsCode, targets_of}
+use Rattle.cb_insn.specs.Grammar.{SpellsInsn, SpellsFrom, SpellsCode, targets_of}
 use Rattle.cb_insn.specs.Writing.{insn_bytes}
 use Rattle.cb_insn.specs.Places.{HasPlace, Rise, places}
-use Rattle.cb_insn.proofs.Written.{insn_written}
+use Rattle.cb_insn.proofs.Written.{insn_some, insn_written}
 
--- an instruction has bytes
-some_bytes : (pc : ℕ) (wide : Bool) (opcode : ℕ) (operand : Operand) (bytes : List ℕ) → SpellsBehind pc wide opcode operand bytes → 0 < length bytes
-some_bytes pc false opcode operand bytes (behind, is, spelled) = omega (arith, ap length is)
-some_bytes pc true opcode operand bytes (behind, is, spelled) = omega (arith, ap length is)
-
--- so places rise
+-- an instruction has bytes, so places rise
 pub rises : (pc : ℕ) (code : List (ℕ × Insn)) (bytes : List ℕ) → SpellsFrom pc code bytes → Rise (places code)
 rises pc [] bytes is = tt
 rises pc ((at, insn) ∷ []) bytes is = tt
 rises pc ((at, insn) ∷ (next, other) ∷ code) bytes (first, rest, placed, spelled, is, from) =
-    let some = some_bytes pc insn.wide insn.opcode insn.operand first spelled in
+    let some = insn_some pc insn first spelled in
     let place : next ≡ pc + length first = from.2 in
     (omega (arith, placed, some, place), rises (pc + length first) ((next, other) ∷ code) rest from)
 
@@ -59,29 +54,36 @@ under (z ∷ xs) y ys x (suc k) rise within is = under xs y ys x k (rise_tail z 
 abbrev pub Search : List (ℕ × Insn) → List (ℕ × Insn) → ℕ → Type 0
 Search code rest pc = Rise (places rest) × (Contains (places code) pc ↔ Contains (places rest) pc)
 
-pub search_low : (code low high : List (ℕ × Insn)) (y : ℕ × Insn) (pc : ℕ) → Search code (low ++ y ∷ high) pc → pc < y.0 → Search code low pc
-search_low code low high y pc (rise, here) below =
+split : (code low high : List (ℕ × Insn)) (y : ℕ × Insn) (pc : ℕ) → Search code (low ++ y ∷ high) pc → Rise (places low ++ y.0 ∷ places high) × (Contains (places code) pc ↔ (Contains (places low) pc ⊎ Contains (y.0 ∷ places high) pc))
+split code low high y pc (rise, here) =
     let apart : places (low ++ y ∷ high) ≡ places low ++ y.0 ∷ places high = map-append (λ placed. placed.0) low (y ∷ high) in
-    let rise_apart = subst Rise apart rise in
-    (rise_left (places low) (y.0 ∷ places high) rise_apart, (λ has. left (Contains-append_cases (places low) (y.0 ∷ places high) pc (subst (λ l. Contains l pc) apart (here.0 has))), λ has. here.1 (subst (λ l. Contains l pc) (sym apart) (Contains-append_left (places low) (y.0 ∷ places high) pc has)))) where
-      left : Contains (places low) pc ⊎ Contains (y.0 ∷ places high) pc → Contains (places low) pc
-      left (inl has) = has
-      left (inr (k, within, is)) =
-          let apart : places (low ++ y ∷ high) ≡ places low ++ y.0 ∷ places high = map-append (λ placed. placed.0) low (y ∷ high) in
-          let over = above y.0 (places high) pc k (rise_right (places low) (y.0 ∷ places high) (subst Rise apart rise)) within is in
-          absurd (omega (arith, below, over))
+    (subst Rise apart rise, (λ has. Contains-append_cases (places low) (y.0 ∷ places high) pc (subst (λ l. Contains l pc) apart (here.0 has)), λ has. here.1 (subst (λ l. Contains l pc) (sym apart) (either has))))
+  where
+    either : Contains (places low) pc ⊎ Contains (y.0 ∷ places high) pc → Contains (places low ++ y.0 ∷ places high) pc
+    either (inl has) = Contains-append_left (places low) (y.0 ∷ places high) pc has
+    either (inr has) = Contains-append_right (places low) (y.0 ∷ places high) pc has
 
-pub search_high : (code low high : List (ℕ × Insn)) (y : ℕ × Insn) (pc : ℕ) → Search code (low ++ y ∷ high) pc → y.0 ≤ pc → Search code (y ∷ high) pc
-search_high code low high y pc (rise, here) over =
-    let apart : places (low ++ y ∷ high) ≡ places low ++ y.0 ∷ places high = map-append (λ placed. placed.0) low (y ∷ high) in
-    let rise_apart = subst Rise apart rise in
-    (rise_right (places low) (y.0 ∷ places high) rise_apart, (λ has. right (Contains-append_cases (places low) (y.0 ∷ places high) pc (subst (λ l. Contains l pc) apart (here.0 has))), λ has. here.1 (subst (λ l. Contains l pc) (sym apart) (Contains-append_right (places low) (y.0 ∷ places high) pc has)))) where
-      right : Contains (places low) pc ⊎ Contains (y.0 ∷ places high) pc → Contains (y.0 ∷ places high) pc
-      right (inr has) = has
-      right (inl (k, within, is)) =
-          let apart : places (low ++ y ∷ high) ≡ places low ++ y.0 ∷ places high = map-append (λ placed. placed.0) low (y ∷ high) in
-          let below = under (places low) y.0 (places high) pc k (subst Rise apart rise) within is in
-          absurd (omega (arith, below, over))
+search_low : (code low high : List (ℕ × Insn)) (y : ℕ × Insn) (pc : ℕ) → Search code (low ++ y ∷ high) pc → pc < y.0 → Search code low pc
+search_low code low high y pc search below = (rise_left (places low) (y.0 ∷ places high) parts.0, (λ has. left (parts.1.0 has), λ has. parts.1.1 (inl has))) where
+  parts : Rise (places low ++ y.0 ∷ places high) × (Contains (places code) pc ↔ (Contains (places low) pc ⊎ Contains (y.0 ∷ places high) pc))
+  parts = split code low high y pc search
+
+  left : Contains (places low) pc ⊎ Contains (y.0 ∷ places high) pc → Contains (places low) pc
+  left (inl has) = has
+  left (inr (k, within, is)) =
+      let over = above y.0 (places high) pc k (rise_right (places low) (y.0 ∷ places high) parts.0) within is in
+      absurd (omega (arith, below, over))
+
+search_high : (code low high : List (ℕ × Insn)) (y : ℕ × Insn) (pc : ℕ) → Search code (low ++ y ∷ high) pc → y.0 ≤ pc → Search code (y ∷ high) pc
+search_high code low high y pc search over = (rise_right (places low) (y.0 ∷ places high) parts.0, (λ has. right (parts.1.0 has), λ has. parts.1.1 (inr has))) where
+  parts : Rise (places low ++ y.0 ∷ places high) × (Contains (places code) pc ↔ (Contains (places low) pc ⊎ Contains (y.0 ∷ places high) pc))
+  parts = split code low high y pc search
+
+  right : Contains (places low) pc ⊎ Contains (y.0 ∷ places high) pc → Contains (y.0 ∷ places high) pc
+  right (inr has) = has
+  right (inl (k, within, is)) =
+      let below = under (places low) y.0 (places high) pc k parts.0 within is in
+      absurd (omega (arith, below, over))
 
 -- and in two halves
 pub search_front : (code rest low high : List (ℕ × Insn)) (first : ℕ × Insn) (pc : ℕ) → Search code rest pc → rest ≡ low ++ high → 0 < length high → pc < (slice_index_or high 0 first).0 → Search code low pc
@@ -96,7 +98,7 @@ search_back code rest low (y ∷ high) first pc search is some over = search_hig
 abbrev pub Reached : List (ℕ × Insn) → Type 0
 Reached code = AllByRecursion (λ placed. AllByRecursion (HasPlace code) (targets_of placed.1.operand)) code
 
-unfolds : (code : List (ℕ × Insn)) → Reached code ↔ AllByRecursion (λ placed. AllByRecursion (Contains (map (λ p. p.0) code)) (targets_of placed.1.operand)) code
+unfolds : (code : List (ℕ × Insn)) → Reached code ↔ AllByRecursion (λ placed. AllByRecursion (Contains (places code)) (targets_of placed.1.operand)) code
 unfolding HasPlace
 unfolds code = (λ reached. reached, λ reached. reached)
 
@@ -132,6 +134,13 @@ walked_more code pc size insn rest walked spelled is = record {
 pub walked_next : (code : List (ℕ × Insn)) (pc size : ℕ) (placed : ℕ × Insn) (rest whole : List (ℕ × Insn)) → Walked code pc whole → whole ≡ placed ∷ rest → placed.0 ≡ pc → SpellsInsn placed.0 placed.1 (insn_bytes placed.0 placed.1) → size ≡ length (insn_bytes placed.0 placed.1) → Walked code (pc + size) rest
 walked_next code pc size (at, insn) rest whole walked is here spelled size_is =
     walked_more code pc size insn rest (subst (Walked code pc) (is ∙ ap (λ p. (p, insn) ∷ rest) here) walked) (subst (λ p. SpellsInsn p insn (insn_bytes p insn)) here spelled) (size_is ∙ ap (λ p. length (insn_bytes p insn)) here)
+
+-- an instruction that no bytes spell leaves none for the code
+pub walked_stuck : (code : List (ℕ × Insn)) (pc : ℕ) (placed : ℕ × Insn) (rest whole : List (ℕ × Insn)) → Walked code pc whole → whole ≡ placed ∷ rest → ((bytes : List ℕ) → SpellsInsn placed.0 placed.1 bytes → ⊥) → (bytes : List ℕ) × SpellsFrom 0 code bytes × (length bytes < 2 ^ 32) → ⊥
+walked_stuck code pc (at, insn) rest whole walked is none (bytes, spelled, short) =
+    let found = walked.part bytes spelled in
+    let (first, others, here, spells, apart, from) = subst (λ w. SpellsFrom pc w found.0) is found.1 in
+    none first (subst (λ p. SpellsInsn p insn first) (sym here) spells)
 
 -- at the end the whole code is spelled, in so many bytes
 pub walked_done : (code : List (ℕ × Insn)) (pc : ℕ) (rest : List (ℕ × Insn)) → Walked code pc rest → length rest ≡ 0 → (pc < 2 ^ 32) ↔ ((bytes : List ℕ) × SpellsFrom 0 code bytes × (length bytes < 2 ^ 32))

@@ -1,24 +1,20 @@
 -- What is spelled is spelled too with padding 0.
-use Rattle.std.proofs.Common.{◌≡◌, ℕ, suc, ◌+◌, Bool, true, false, List, [], ◌∷◌, ◌++◌, length, replicate, Option, Some, None, refl, sym, ◌∙◌, ap, subst, arith, length-append}
+use Rattle.std.proofs.Common.{◌≡◌, ℕ, ◌+◌, ◌<◌, Bool, true, false, List, [], ◌∷◌, ◌++◌, length, replicate, Option, Some, None, refl, sym, ◌∙◌, ap, subst, arith, length-append}
 use Rattle.std.specs.List.{All, AllByRecursion}
 use Rattle.std.proofs.lemmas.List.Elements.{All-from_recursion}
-use Rattle.std.proofs.lemmas.List.{length-replicate}
 use Rattle.cb_insn.specs.declared.form.Form.{Form}
 use Rattle.cb_insn.specs.declared.form.Form.TheVariants as forms
 use Rattle.cb_insn.specs.declared.insn.Insn.{Insn}
 use Rattle.cb_insn.specs.declared.insn.Operand.{Operand}
 use Rattle.cb_insn.specs.declared.insn.Operand.TheVariants.{Nothing, Number, Pool, Local, Increase, Branch, ArrayCode, Dimensions, Interface, Table, Lookup}
-use Rattle.cb_insn.specs.Forms.{form_of, wide_form_of}
-use Rattle.cb_insn.specs.Grammar.{SpellsOperand, SpellsIn, SpellsBehind, SpellsInsn, SpellsFrom, SpellsCode, IsPadding, table_bytes, lookup_bytes}
+use Rattle.cb_insn.specs.Forms.{head_bytes, head_form}
+use Rattle.cb_insn.specs.Grammar.{SpellsOperand, SpellsIn, SpellsInsn, SpellsFrom, SpellsCode, IsPadding, table_bytes, lookup_bytes}
 use Rattle.cb_insn.specs.Faults.{padding_length}
-use Rattle.cb_insn.specs.Writing.{operand_bytes, bytes_in, bytes_behind, insn_bytes, code_bytes}
-use Rattle.cb_insn.proofs.Spelling.{is_padding, padding_is}
-
-zeros : (pc : ℕ) → IsPadding pc (replicate (padding_length pc) 0)
-zeros pc = is_padding pc (replicate (padding_length pc) 0) (length-replicate {A = ℕ} (padding_length pc) 0)
+use Rattle.cb_insn.specs.Writing.{operand_bytes, bytes_in, insn_bytes, code_bytes}
+use Rattle.cb_insn.proofs.Spelling.{padding_is, zeros, zeros_before}
 
 padded_length : (pc : ℕ) (padding switch : List ℕ) → IsPadding pc padding → length (padding ++ switch) ≡ length (replicate (padding_length pc) 0 ++ switch)
-padded_length pc padding switch is = omega (arith, length-append padding switch, length-append (replicate (padding_length pc) 0) switch, length-replicate {A = ℕ} (padding_length pc) 0, padding_is pc padding is)
+padded_length pc padding switch is = omega (arith, length-append padding switch, padding_is pc padding is, zeros_before pc switch)
 
 -- an operand is spelled by its bytes with zeros for padding, which are as many
 operand_written : (pc : ℕ) (form : Form) (operand : Operand) (bytes : List ℕ) → SpellsOperand pc form operand bytes → SpellsOperand pc form operand (operand_bytes pc form operand) × (length bytes ≡ length (operand_bytes pc form operand))
@@ -47,16 +43,12 @@ in_written : (pc : ℕ) (form : Option Form) (operand : Operand) (bytes : List �
 in_written pc None operand bytes spells = absurd spells
 in_written pc (Some form) operand bytes spells = operand_written pc form operand bytes spells
 
-behind_written : (pc : ℕ) (wide : Bool) (opcode : ℕ) (operand : Operand) (bytes : List ℕ) → SpellsBehind pc wide opcode operand bytes → SpellsBehind pc wide opcode operand (bytes_behind pc wide opcode operand) × (length bytes ≡ length (bytes_behind pc wide opcode operand))
-behind_written pc false opcode operand bytes (behind, is, spells) =
-    let parts = in_written pc (form_of opcode) operand behind spells in
-    ((bytes_in pc (form_of opcode) operand, refl, parts.0), ap length is ∙ ap suc parts.1)
-behind_written pc true opcode operand bytes (behind, is, spells) =
-    let parts = in_written pc (wide_form_of opcode) operand behind spells in
-    ((bytes_in pc (wide_form_of opcode) operand, refl, parts.0), ap length is ∙ ap (λ n. suc (suc n)) parts.1)
-
 pub insn_written : (pc : ℕ) (insn : Insn) (bytes : List ℕ) → SpellsInsn pc insn bytes → SpellsInsn pc insn (insn_bytes pc insn) × (length bytes ≡ length (insn_bytes pc insn))
-insn_written pc insn bytes spells = behind_written pc insn.wide insn.opcode insn.operand bytes spells
+insn_written pc insn bytes (behind, is, spells) =
+    let head = head_bytes insn.wide insn.opcode in
+    let written = bytes_in pc (head_form insn.wide insn.opcode) insn.operand in
+    let parts = in_written pc (head_form insn.wide insn.opcode) insn.operand behind spells in
+    ((written, refl, parts.0), omega (arith, ap length is, length-append head behind, length-append head written, parts.1))
 
 from_written : (pc : ℕ) (code : List (ℕ × Insn)) (bytes : List ℕ) → SpellsFrom pc code bytes → SpellsFrom pc code (code_bytes code) × (length bytes ≡ length (code_bytes code))
 from_written pc [] bytes none = (refl, ap length none)
@@ -68,6 +60,13 @@ from_written pc ((at, insn) ∷ code) bytes (first, rest, is_at, spells, is, mor
       omega (arith, ap length is, length-append first rest, parts.1, others.1, ap length same, length-append (insn_bytes at insn) (code_bytes code)),
     )
 
+-- an instruction has at least one byte
+pub insn_some : (pc : ℕ) (insn : Insn) (bytes : List ℕ) → SpellsInsn pc insn bytes → 0 < length bytes
+insn_some pc insn bytes (behind, is, spells) = omega (arith, ap length is, length-append (head_bytes insn.wide insn.opcode) behind, head_some insn.wide) where
+  head_some : (wide : Bool) → 0 < length (head_bytes wide insn.opcode)
+  head_some false = omega arith
+  head_some true = omega arith
+
 -- and so is code
 pub code_written : (code : List (ℕ × Insn)) (bytes : List ℕ) → SpellsCode code bytes → SpellsCode code (code_bytes code) × (length bytes ≡ length (code_bytes code))
 code_written code bytes spells =
@@ -75,18 +74,8 @@ code_written code bytes spells =
     (record { spelled = parts.0; short = omega (arith, spells.short, parts.1); reached = spells.reached }, parts.1)
 
 -- the operand of an instruction that is spelled
-spelled_in : (pc : ℕ) (found : Option Form) (form : Form) (operand : Operand) (bytes : List ℕ) → found ≡ Some form → SpellsIn pc found operand bytes → (spelled : List ℕ) × SpellsOperand pc form operand spelled
-spelled_in pc found form operand bytes is spells = (bytes, subst (λ f. SpellsIn pc f operand bytes) is spells)
-
-pub operand_spelled : (pc : ℕ) (insn : Insn) (form : Form) → (spelled : List ℕ) × SpellsInsn pc insn spelled → insn.wide ≡ false → form_of insn.opcode ≡ Some form → (spelled : List ℕ) × SpellsOperand pc form insn.operand spelled
-operand_spelled pc insn form (bytes, spells) is has =
-    let parts = subst (λ w. SpellsBehind pc w insn.opcode insn.operand bytes) is spells in
-    spelled_in pc (form_of insn.opcode) form insn.operand parts.0 has parts.2
-
-pub wide_operand_spelled : (pc : ℕ) (insn : Insn) (form : Form) → (spelled : List ℕ) × SpellsInsn pc insn spelled → insn.wide ≡ true → wide_form_of insn.opcode ≡ Some form → (spelled : List ℕ) × SpellsOperand pc form insn.operand spelled
-wide_operand_spelled pc insn form (bytes, spells) is has =
-    let parts = subst (λ w. SpellsBehind pc w insn.opcode insn.operand bytes) is spells in
-    spelled_in pc (wide_form_of insn.opcode) form insn.operand parts.0 has parts.2
+pub operand_spelled : (pc : ℕ) (insn : Insn) (form : Form) → (spelled : List ℕ) × SpellsInsn pc insn spelled → head_form insn.wide insn.opcode ≡ Some form → (spelled : List ℕ) × SpellsOperand pc form insn.operand spelled
+operand_spelled pc insn form (bytes, (behind, is, spells)) has = (behind, subst (λ f. SpellsIn pc f insn.operand behind) has spells)
 
 abbrev pub IsSpelled : (ℕ × Insn) → Type 0
 IsSpelled placed = (spelled : List ℕ) × SpellsInsn placed.0 placed.1 spelled

@@ -1,5 +1,5 @@
 -- Which form of operand each opcode has (JVMS chapter 6), stated once.
-use Rattle.std.specs.Prelude.{ℕ, Option, Some, None, option_and_then, nat_lt, if◌then◌else◌}
+use Rattle.std.specs.Prelude.{ℕ, Bool, true, false, List, [], ◌∷◌, Option, Some, None, option_and_then, nat_lt, if◌then◌else◌}
 use Rattle.cb_insn.specs.declared.form.Form.{Form}
 use Rattle.cb_insn.specs.declared.form.Form.TheVariants.{Plain, Byte, Short, PoolByte, Pool, Local, WideLocal, Increase, WideIncrease, Branch, LongBranch, ArrayCode, Dimensions, Interface, Dynamic, Table, Lookup}
 
@@ -49,3 +49,12 @@ widened other = None
 
 abbrev pub wide_form_of : ℕ → Option Form
 wide_form_of opcode = option_and_then widened (form_of opcode)
+
+-- what stands before an operand, an opcode or `wide` and an opcode, and the form that it gives the operand
+abbrev pub head_bytes : Bool → ℕ → List ℕ
+head_bytes false opcode = opcode ∷ []
+head_bytes true opcode = wide_opcode ∷ opcode ∷ []
+
+abbrev pub head_form : Bool → ℕ → Option Form
+head_form false opcode = form_of opcode
+head_form true opcode = wide_form_of opcode

@@ -1,5 +1,5 @@
 -- The bytes of instructions and of code (JVMS §4.7.3, §4.9.1, chapter 6).
-use Rattle.std.specs.Prelude.{◌≡◌, ℕ, ◌+◌, ◌%◌, ◌^◌, ◌<◌, ◌≤◌, ℤ, pos, ◌+ℤ◌, ◌-ℤ◌, ◌<ℤ◌, Bool, true, false, FitsSigned, List, [], ◌∷◌, ◌++◌, length, map, Option, Some, None, Contains}
+use Rattle.std.specs.Prelude.{◌≡◌, ℕ, ◌+◌, ◌%◌, ◌^◌, ◌<◌, ◌≤◌, ℤ, pos, ◌+ℤ◌, ◌-ℤ◌, ◌<ℤ◌, FitsSigned, List, [], ◌∷◌, ◌++◌, length, map, Option, Some, None, Contains}
 use Rattle.std.specs.Int.{w8, w16, w32, to_be_bytes, cast_unsigned}
 use Rattle.std.specs.List.{AllByRecursion, flat_map}
 use Rattle.cb_insn.specs.declared.form.Form.{Form}
@@ -8,9 +8,10 @@ use Rattle.cb_insn.specs.declared.insn.Insn.{Insn}
 use Rattle.cb_insn.specs.declared.insn.Pair.{Pair}
 use Rattle.cb_insn.specs.declared.insn.Operand.{Operand}
 use Rattle.cb_insn.specs.declared.insn.Operand.TheVariants.{Nothing, Number, Pool, Local, Increase, Branch, ArrayCode, Dimensions, Interface, Table, Lookup}
-use Rattle.cb_insn.specs.Forms.{form_of, wide_form_of, wide_opcode}
+use Rattle.cb_insn.specs.Forms.{head_bytes, head_form}
+use Rattle.cb_insn.specs.Places.{places}
 
--- unsigned and signed numbers, their high bytes first
+-- the bytes of numbers without and with a sign, the high ones first
 abbrev pub u2 : ℕ → List ℕ
 u2 number = to_be_bytes w16 number
 
@@ -20,11 +21,11 @@ s2 number = to_be_bytes w16 (cast_unsigned w16 number)
 abbrev pub s4 : ℤ → List ℕ
 s4 number = to_be_bytes w32 (cast_unsigned w32 number)
 
--- from a place to a target
+-- the offset from a place to a target
 abbrev pub offset : ℕ → ℕ → ℤ
 offset pc target = pos target -ℤ pos pc
 
--- what a switch has behind its padding: each offset is from the opcode's place
+-- the bytes of a switch behind its padding. Each offset is from the opcode's place
 abbrev pub table_bytes : ℕ → ℕ → ℤ → List ℕ → List ℕ
 table_bytes pc default low targets =
     s4 (offset pc default) ++ s4 low ++ s4 ((low +ℤ pos (length targets)) -ℤ pos 1) ++ flat_map (λ target. s4 (offset pc target)) targets
@@ -33,18 +34,18 @@ abbrev pub lookup_bytes : ℕ → ℕ → List Pair → List ℕ
 lookup_bytes pc default pairs =
     s4 (offset pc default) ++ s4 (pos (length pairs)) ++ flat_map (λ pair. s4 pair.key ++ s4 (offset pc pair.target)) pairs
 
--- keys rise
+-- each key is above the one before it
 abbrev pub KeysRise : List Pair → Type 0
 KeysRise [] = Unit {0}
 KeysRise (one ∷ []) = Unit {0}
 KeysRise (one ∷ next ∷ pairs) = (one.key <ℤ next.key) × KeysRise (next ∷ pairs)
 
--- the bytes, any ones, that lead from behind an opcode at this place to the next multiple of four
+-- the bytes, whatever they are, from behind an opcode at this place to the next multiple of four
 pub record IsPadding (pc : ℕ) (padding : List ℕ) : Type 0 where
   pub short : length padding < 4
   pub aligned : (pc + 1 + length padding) % 4 ≡ 0
 
--- the operand of an instruction at a place, in a form, is spelled by bytes
+-- these bytes spell the operand of an instruction at a place. None do where the form has another kind of operand
 abbrev pub SpellsOperand : ℕ → Form → Operand → List ℕ → Type 0
 SpellsOperand pc forms.Plain Nothing bytes = bytes ≡ []
 SpellsOperand pc forms.Byte (Number number) bytes = FitsSigned w8 number × (bytes ≡ cast_unsigned w8 number ∷ [])
@@ -71,34 +72,32 @@ SpellsOperand pc forms.Lookup (Lookup default pairs) bytes =
     × FitsSigned w32 (offset pc default) × AllByRecursion (λ pair. FitsSigned w32 (offset pc pair.target)) pairs
 SpellsOperand pc form operand bytes = ⊥
 
--- the operand stands behind the opcode in the opcode's form, if it has one
+-- these bytes spell the operand of an opcode that gives it this form, or none
 abbrev pub SpellsIn : ℕ → Option Form → Operand → List ℕ → Type 0
 SpellsIn pc None operand bytes = ⊥
 SpellsIn pc (Some form) operand bytes = SpellsOperand pc form operand bytes
 
-abbrev pub SpellsBehind : ℕ → Bool → ℕ → Operand → List ℕ → Type 0
-SpellsBehind pc false opcode operand bytes = (behind : List ℕ) × (bytes ≡ opcode ∷ behind) × SpellsIn pc (form_of opcode) operand behind
-SpellsBehind pc true opcode operand bytes = (behind : List ℕ) × (bytes ≡ wide_opcode ∷ opcode ∷ behind) × SpellsIn pc (wide_form_of opcode) operand behind
-
--- the instruction at a place is spelled by bytes
+-- these bytes spell the instruction at a place
 abbrev pub SpellsInsn : ℕ → Insn → List ℕ → Type 0
-SpellsInsn pc insn bytes = SpellsBehind pc insn.wide insn.opcode insn.operand bytes
+SpellsInsn pc insn bytes =
+    (behind : List ℕ) × (bytes ≡ head_bytes insn.wide insn.opcode ++ behind) × SpellsIn pc (head_form insn.wide insn.opcode) insn.operand behind
 
--- the operands' targets
+-- the targets of an operand
 abbrev pub targets_of : Operand → List ℕ
 targets_of (Branch target) = target ∷ []
 targets_of (Table default low targets) = default ∷ targets
 targets_of (Lookup default pairs) = default ∷ map (λ pair. pair.target) pairs
 targets_of other = []
 
--- the instructions from a place on, one after the other
+-- these bytes spell the instructions from a place on, one after the other
 abbrev pub SpellsFrom : ℕ → List (ℕ × Insn) → List ℕ → Type 0
 SpellsFrom pc [] bytes = bytes ≡ []
 SpellsFrom pc ((at, insn) ∷ code) bytes =
     (first rest : List ℕ) × (at ≡ pc) × SpellsInsn pc insn first × (bytes ≡ first ++ rest) × SpellsFrom (pc + length first) code rest
 
--- the code is its instructions from the place 0 on, each target is an instruction's place, and all have places below 2^32
+-- these bytes spell the code: its instructions stand from the place 0 on, one after the other, and each target is the
+-- place of one of them. There are fewer bytes than 2^32, so that places are numbers of four bytes
 pub record SpellsCode (code : List (ℕ × Insn)) (bytes : List ℕ) : Type 0 where
   pub spelled : SpellsFrom 0 code bytes
   pub short : length bytes < 2 ^ 32
-  pub reached : AllByRecursion (λ placed. AllByRecursion (Contains (map (λ p. p.0) code)) (targets_of placed.1.operand)) code
+  pub reached : AllByRecursion (λ placed. AllByRecursion (Contains (places code)) (targets_of placed.1.operand)) code

@@ -1,5 +1,5 @@
 -- What the decoder reads: an operand and its targets, and the marks of the places of instructions.
-use Rattle.std.specs.Prelude.{◌≡◌, ℕ, zero, suc, ◌<◌, ℤ, pos, ◌+ℤ◌, ◌-ℤ◌, Bool, true, false, List, [], ◌∷◌, length, drop, map, slice_index, slice_index_or, Some, Contains}
+use Rattle.std.specs.Prelude.{◌≡◌, ℕ, zero, suc, ◌<◌, ℤ, pos, ◌+ℤ◌, Bool, true, false, List, [], ◌∷◌, ◌++◌, length, drop, map, slice_index, slice_index_or, Some, Contains}
 use Rattle.std.specs.Int.{w8, cast_signed}
 use Rattle.cb_insn.specs.declared.form.Form.{Form}
 use Rattle.cb_insn.specs.declared.form.Form.TheVariants as forms
@@ -9,27 +9,29 @@ use Rattle.cb_insn.specs.declared.insn.Operand.{Operand}
 use Rattle.cb_insn.specs.declared.insn.Operand.TheVariants.{Nothing, Number, Pool, Local, Increase, Branch, ArrayCode, Dimensions, Interface, Table, Lookup}
 use Rattle.cb_insn.specs.declared.fault.InsnFault.{InsnFault}
 use Rattle.cb_insn.specs.declared.fault.InsnFault.TheVariants as faults
-use Rattle.cb_insn.specs.Forms.{form_of, wide_form_of, wide_opcode}
-use Rattle.cb_insn.specs.Faults.{u2_at, s2_at, s4_at, count_of, padding_length, table_low, table_high, lookup_count, operand_offsets, offsets_at, keys_at, IsCut, IsBadOpcode, IsBadOperand, IsPlace, HasFault, HasBadTarget}
+use Rattle.cb_insn.specs.Forms.{head_bytes, head_form}
+use Rattle.cb_insn.specs.Faults.{u2_at, s2_at, s4_at, count_of, padding_length, table_low, table_count, lookup_count, operand_offsets, numbers_at, targets_in, IsCut, IsBadOpcode, IsBadOperand, IsPlace, HasFault, HasBadTarget}
 
 -- the number of one byte, with its sign
 abbrev pub s1_at : List ℕ → ℤ
 s1_at bytes = cast_signed w8 (slice_index bytes 0)
 
--- the target at an offset from a place, if it isn't negative
+-- the target at an offset from a place, or 0 where that is negative. Such code has the fault BadTarget anyway, since a
+-- negative target is no instruction's place
 abbrev pub target_of : ℕ → ℤ → ℕ
 target_of pc offset = count_of (pos pc +ℤ offset)
 
+-- so many pairs of a lookup
 abbrev pub pairs_of : ℕ → ℕ → List ℕ → List Pair
 pairs_of pc zero pairs = []
 pairs_of pc (suc count) pairs = record { key = s4_at pairs; target = target_of pc (s4_at (drop 4 pairs)) } ∷ pairs_of pc count (drop 8 pairs)
 
--- a switch behind its padding
+-- a switch, by its bytes behind the padding
 abbrev pub table_of : ℕ → List ℕ → Operand
-table_of pc switch = Table (target_of pc (s4_at switch)) (table_low switch) (map (target_of pc) (offsets_at (count_of ((table_high switch +ℤ pos 1) -ℤ table_low switch)) (drop 12 switch)))
+table_of pc switch = Table (target_of pc (s4_at switch)) (table_low switch) (map (target_of pc) (numbers_at 4 (table_count switch) (drop 12 switch)))
 
 abbrev pub lookup_of : ℕ → List ℕ → Operand
-lookup_of pc switch = Lookup (target_of pc (s4_at switch)) (pairs_of pc (count_of (lookup_count switch)) (drop 8 switch))
+lookup_of pc switch = Lookup (target_of pc (s4_at switch)) (pairs_of pc (lookup_count switch) (drop 8 switch))
 
 -- the operand of a whole instruction
 abbrev pub operand_of : ℕ → Form → List ℕ → Operand
@@ -59,24 +61,13 @@ HasNoTarget forms.Table = ⊥
 HasNoTarget forms.Lookup = ⊥
 HasNoTarget form = Unit {0}
 
--- the offsets of a switch
-abbrev pub table_offsets : List ℕ → List ℤ
-table_offsets switch = s4_at switch ∷ offsets_at (count_of ((table_high switch +ℤ pos 1) -ℤ table_low switch)) (drop 12 switch)
-
-abbrev pub lookup_offsets : List ℕ → List ℤ
-lookup_offsets switch = s4_at switch ∷ keys_at (count_of (lookup_count switch)) (drop 12 switch)
-
--- its targets, as whole numbers
-abbrev pub targets_in : ℕ → List ℤ → List ℤ
-targets_in pc offsets = map (λ offset. pos pc +ℤ offset) offsets
-
+-- the targets of an operand, by its form
 abbrev pub operand_targets : ℕ → Form → List ℕ → List ℤ
 operand_targets pc form behind = targets_in pc (operand_offsets pc form behind)
 
--- an opcode, with `wide` or without, stands at the front, and this behind it
+-- an opcode of this form, with `wide` or without, stands at the front, and these bytes behind it
 abbrev pub HasHead : Bool → ℕ → Form → List ℕ → List ℕ → Type 0
-HasHead false opcode form behind bytes = (bytes ≡ opcode ∷ behind) × (form_of opcode ≡ Some form)
-HasHead true opcode form behind bytes = (bytes ≡ wide_opcode ∷ opcode ∷ behind) × (wide_form_of opcode ≡ Some form)
+HasHead wide opcode form behind bytes = (bytes ≡ head_bytes wide opcode ++ behind) × (head_form wide opcode ≡ Some form)
 
 -- the instruction is the one that these bytes begin with
 pub record IsRead (pc : ℕ) (insn : Insn) (bytes : List ℕ) : Type 0 where
@@ -85,25 +76,25 @@ pub record IsRead (pc : ℕ) (insn : Insn) (bytes : List ℕ) : Type 0 where
   pub head : HasHead insn.wide insn.opcode form behind bytes
   pub operand : insn.operand ≡ operand_of pc form behind
 
--- a place has a mark
+-- the target is a place that has a mark
 pub record IsMarked (starts : List Bool) (target : ℤ) : Type 0 where
   pub place : ℕ
   pub is : target ≡ pos place
   pub marked : slice_index_or starts place false ≡ true
 
--- exactly the places of instructions have one
+-- exactly the places where instructions begin have one
 pub record MarksPlaces (starts : List Bool) (bytes : List ℕ) : Type 0 where
   pub long : length starts ≡ length bytes
   pub sound : (pc : ℕ) → slice_index_or starts pc false ≡ true → IsPlace bytes pc × (pc < length bytes)
   pub whole : (pc : ℕ) → IsPlace bytes pc → pc < length bytes → slice_index_or starts pc false ≡ true
 
--- the fault is that some target has no mark, or want of memory
+-- the fault is that of these targets of the instruction at a place one has no mark, or it is want of memory
 abbrev pub Misses : ℕ → List ℤ → List Bool → InsnFault → Type 0
 Misses pc targets starts (faults.BadTarget at) = (at ≡ pc) × ((target : ℤ) × Contains targets target × (IsMarked starts target → ⊥))
 Misses pc targets starts faults.OutOfMemory = Unit {0}
 Misses pc targets starts fault = ⊥
 
--- the fault stands in the bytes, or is want of memory
+-- the fault stands in the bytes, or it is want of memory
 abbrev pub Stands : List ℕ → InsnFault → Type 0
 Stands bytes (faults.Cut pc) = HasFault bytes pc IsCut
 Stands bytes (faults.BadOpcode pc) = HasFault bytes pc IsBadOpcode

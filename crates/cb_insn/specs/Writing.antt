@@ -1,5 +1,5 @@
 -- The one spelling of code whose padding is 0, and how long it is.
-use Rattle.std.specs.Prelude.{◌≡◌, length, ℕ, Bool, true, false, List, [], ◌∷◌, ◌++◌, replicate, Option, Some, None}
+use Rattle.std.specs.Prelude.{◌≡◌, length, ℕ, List, [], ◌∷◌, ◌++◌, replicate, Option, Some, None}
 use Rattle.std.specs.Int.{w8, cast_unsigned}
 use Rattle.std.specs.List.{flat_map}
 use Rattle.cb_insn.specs.declared.form.Form.{Form}
@@ -7,11 +7,11 @@ use Rattle.cb_insn.specs.declared.form.Form.TheVariants as forms
 use Rattle.cb_insn.specs.declared.insn.Insn.{Insn}
 use Rattle.cb_insn.specs.declared.insn.Operand.{Operand}
 use Rattle.cb_insn.specs.declared.insn.Operand.TheVariants.{Number, Pool, Local, Increase, Branch, ArrayCode, Dimensions, Interface, Table, Lookup}
-use Rattle.cb_insn.specs.Forms.{form_of, wide_form_of, wide_opcode}
+use Rattle.cb_insn.specs.Forms.{head_bytes, head_form}
 use Rattle.cb_insn.specs.Grammar.{SpellsOperand, u2, s2, s4, offset, table_bytes, lookup_bytes}
 use Rattle.cb_insn.specs.Faults.{padding_length}
 
--- an operand that has the form
+-- the bytes of an operand that has the form
 abbrev pub operand_bytes : ℕ → Form → Operand → List ℕ
 operand_bytes pc forms.Byte (Number number) = cast_unsigned w8 number ∷ []
 operand_bytes pc forms.Short (Number number) = s2 number
@@ -31,25 +31,22 @@ operand_bytes pc forms.Table (Table default low targets) = replicate (padding_le
 operand_bytes pc forms.Lookup (Lookup default pairs) = replicate (padding_length pc) 0 ++ lookup_bytes pc default pairs
 operand_bytes pc form operand = []
 
--- so many bytes spell the operand, or none do
+-- the operand is spelled by its bytes here, which are so many
 abbrev pub IsSize : ℕ → Form → Operand → ℕ → Type 0
 IsSize pc form operand size =
     SpellsOperand pc form operand (operand_bytes pc form operand) × (size ≡ length (operand_bytes pc form operand))
 
+-- no bytes spell the operand
 abbrev pub IsUnspelled : ℕ → Form → Operand → Type 0
 IsUnspelled pc form operand = (bytes : List ℕ) → SpellsOperand pc form operand bytes → ⊥
 
--- an instruction, and code
+-- the bytes of an instruction, and of code
 abbrev pub bytes_in : ℕ → Option Form → Operand → List ℕ
 bytes_in pc None operand = []
 bytes_in pc (Some form) operand = operand_bytes pc form operand
 
-abbrev pub bytes_behind : ℕ → Bool → ℕ → Operand → List ℕ
-bytes_behind pc false opcode operand = opcode ∷ bytes_in pc (form_of opcode) operand
-bytes_behind pc true opcode operand = wide_opcode ∷ opcode ∷ bytes_in pc (wide_form_of opcode) operand
-
 abbrev pub insn_bytes : ℕ → Insn → List ℕ
-insn_bytes pc insn = bytes_behind pc insn.wide insn.opcode insn.operand
+insn_bytes pc insn = head_bytes insn.wide insn.opcode ++ bytes_in pc (head_form insn.wide insn.opcode) insn.operand
 
 abbrev pub code_bytes : List (ℕ × Insn) → List ℕ
 code_bytes code = flat_map (λ placed. insn_bytes placed.0 placed.1) code

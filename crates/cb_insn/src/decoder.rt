@@ -12,7 +12,7 @@ use std::alloc::Global;
 
 /// The instructions that some bytes spell, each with its place, or why they spell none: the first place that has
 /// a fault, or where there is none the first that has a target in no instruction's place (JVMS §4.7.3, §4.9.1,
-/// chapter 6). Takes time in the number of bytes.
+/// chapter 6). `OutOfMemory` where no memory was to be had. Takes time in the number of bytes.
 pub fn decode(alloc: Global, bytes: &[u8]) -> Result<Code, InsnFault>
     requires { length bytes.now < 2 ^ 32 }
     ensures code { IfOk result (λ code. SpellsCode code bytes.now) }
@@ -30,7 +30,7 @@ pub fn decode(alloc: Global, bytes: &[u8]) -> Result<Code, InsnFault>
     decode_or_fault(alloc, bytes)
 }
 
-/// The code, or a fault that stands in the bytes.
+/// The code, or its fault: the public clauses follow from this one, since bytes spell one code and have one fault.
 fn decode_or_fault(alloc: Global, bytes: &[u8]) -> Result<Code, InsnFault>
     requires { length bytes.now < 2 ^ 32 }
     ensures { MatchResult result (λ code. SpellsCode code bytes.now) (Stands bytes.now) }
@@ -39,7 +39,7 @@ fn decode_or_fault(alloc: Global, bytes: &[u8]) -> Result<Code, InsnFault>
     instructions(alloc, bytes, starts.as_slice())
 }
 
-/// The instructions of code that has no fault but in its targets, by the marks of their places.
+/// The instructions of code that is whole, by the marks of their places, or the first that has a bad target.
 fn instructions(alloc: Global, bytes: &[u8], starts: &[bool]) -> Result<Code, InsnFault>
     requires short { length bytes.now < 2 ^ 32 }
     requires whole { IsPlace bytes.now (length bytes.now) }

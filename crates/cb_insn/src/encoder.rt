@@ -8,8 +8,8 @@ use crate::push::push_operand;
 use crate::{Code, Insn, OutOfMemory};
 use std::alloc::Global;
 
-/// The one spelling of the code whose padding is 0 (JVMS §4.7.3, §4.9.1, chapter 6), which `decode` reads back. There
-/// is one where `fits` says so. `OutOfMemory` where no memory was to be had. Takes time in the number of bytes.
+/// The bytes that spell the code with 0 for padding (JVMS §4.7.3, §4.9.1, chapter 6), which `decode` reads back. `fits`
+/// tells whether there are any. `OutOfMemory` where no memory was to be had. Takes time in the number of bytes.
 pub fn encode(alloc: Global, code: &Code) -> Result<Vec<u8>, OutOfMemory>
     requires { (bytes : List ℕ) × SpellsCode code.now bytes }
     ensures spelled { IfOk result (λ bytes. SpellsCode code.now bytes.items) }

@@ -5,17 +5,17 @@ ghost use Rattle.cb_insn.specs.declared.fault.InsnFault.TheVariants.{OutOfMemory
 use std::alloc::{AllocError, AllocFailed};
 use thiserror::Error;
 
-/// Why some bytes are no code, with the place of the instruction in them. Of `Cut`, `BadOpcode` and `BadOperand` the
-/// first is told, and `BadTarget` only where there is none of these (JVMS §4.9.1, chapter 6).
+/// Why some bytes are no code, with the place of the instruction in them. The first `Cut`, `BadOpcode` or `BadOperand`
+/// is told, and only where there is none of these the first `BadTarget` (JVMS §4.9.1, chapter 6).
 #[derive(Clone, Copy, Debug, PartialEq, Eq, Error)]
 pub enum InsnFault {
     /// An opcode that no instruction has.
     #[error("no instruction's opcode at {pc}")]
     BadOpcode { pc: u32 },
-    /// An operand that the instruction may not have.
+    /// An operand that the instruction may not have, also an opcode that `wide` may not stand before.
     #[error("an operand out of its bounds at {pc}")]
     BadOperand { pc: u32 },
-    /// The end of the bytes stands within the instruction.
+    /// The bytes end within the instruction.
     #[error("the instruction at {pc} is cut")]
     Cut { pc: u32 },
     /// A target that is no instruction's place.

@@ -7,8 +7,8 @@ ghost use Rattle.cb_insn.specs.Places.{HasPlace, Rise, places};
 use crate::size::insn_size;
 use crate::{Code, Insn, Operand, Pair};
 
-/// Whether some bytes spell the code, fewer than 2^32 (JVMS §4.7.3, §4.9.1, chapter 6). Takes time in the size of the
-/// code, times the logarithm of the number of its instructions for each target.
+/// Whether there are bytes, fewer than 2^32, that spell the code (JVMS §4.7.3, §4.9.1, chapter 6). Takes time in the
+/// size of the code, times the logarithm of the number of its instructions for each target.
 pub fn fits(code: &Code) -> bool
     ensures { IsTrue result ↔ ((bytes : List ℕ) × SpellsCode code.now bytes) }
 {
@@ -16,7 +16,7 @@ pub fn fits(code: &Code) -> bool
     are_in_place(placed) && are_reached(placed)
 }
 
-/// Whether the instructions stand one after the other. Takes time in their size.
+/// Whether the instructions stand one after the other from the place 0 on. Takes time in their size.
 fn are_in_place(code: &[(u32, Insn)]) -> bool
     ensures { IsTrue result ↔ ((bytes : List ℕ) × SpellsFrom 0 code.now bytes × (length bytes < 2 ^ 32)) }
 {
@@ -45,7 +45,7 @@ fn are_reached(code: &[(u32, Insn)]) -> bool
         .all(|placed| is_reached(code, &placed.1.operand))
 }
 
-/// Whether each target of an operand is.
+/// Whether each target of an operand is the place of an instruction.
 fn is_reached(code: &[(u32, Insn)], operand: &Operand) -> bool
     requires { Rise (places code.now) }
     ensures { IsTrue result ↔ AllByRecursion (HasPlace code.now) (targets_of operand.now) }
@@ -64,7 +64,7 @@ fn is_reached(code: &[(u32, Insn)], operand: &Operand) -> bool
     }
 }
 
-/// Whether each target is.
+/// Whether each of some targets is the place of an instruction.
 fn have_places(code: &[(u32, Insn)], targets: &[u32]) -> bool
     requires { Rise (places code.now) }
     ensures { IsTrue result ↔ AllByRecursion (HasPlace code.now) targets.now }
@@ -72,7 +72,7 @@ fn have_places(code: &[(u32, Insn)], targets: &[u32]) -> bool
     targets.iter().all(|target| has_place(code, *target))
 }
 
-/// Whether the target of each pair is.
+/// Whether the target of each pair is the place of an instruction.
 fn lead_to_places(code: &[(u32, Insn)], pairs: &[Pair]) -> bool
     requires { Rise (places code.now) }
     ensures { IsTrue result ↔ AllByRecursion (λ pair. HasPlace code.now pair.target) pairs.now }

@@ -4,9 +4,9 @@ use crate::List;
 /// An instruction.
 #[derive(Debug, Drop)]
 pub struct Insn {
-    /// Which of several forms was used; behind `wide`, the opcode that follows it.
+    /// The opcode, which tells `iload_1` from an `iload` of 1. Behind `wide` it is the one that follows.
     pub opcode: u8,
-    /// Whether `wide` stands before it.
+    /// Whether `wide` stands before the opcode.
     pub wide: bool,
     /// What stands behind the opcode.
     pub operand: Operand,
@@ -42,20 +42,20 @@ pub enum Operand {
         pool: u16,
         count: u8,
     },
-    /// A `tableswitch`.
+    /// The default target, the low bound and the targets of a `tableswitch`.
     Table {
         default: u32,
         low: i32,
         targets: Targets,
     },
-    /// A `lookupswitch`.
+    /// The default target and the pairs of a `lookupswitch`.
     Lookup {
         default: u32,
         pairs: Pairs,
     },
 }
 
-/// The targets of a `tableswitch`, from its low bound on.
+/// The targets of a `tableswitch`, one for each number from the low bound on.
 pub type Targets = List<u32>;
 
 /// A key of a `lookupswitch` and its target.

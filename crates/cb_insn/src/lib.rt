@@ -15,6 +15,7 @@ mod laws;
 mod list;
 mod memory;
 mod numbers;
+mod offset;
 mod operand;
 mod place;
 mod push;

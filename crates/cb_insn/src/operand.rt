@@ -1,7 +1,7 @@
 // The operand of a whole instruction.
 ghost use Rattle.std.specs.Prelude.{◌≡◌, ◌^◌, ◌<◌, ◌≤◌, length, All, IfOk, IfErr};
-ghost use Rattle.cb_insn.specs.Faults.{operand_length, table_length, lookup_length};
-ghost use Rattle.cb_insn.specs.Reads.{IsMarked, Misses, operand_of, operand_targets, table_of, lookup_of, table_offsets, lookup_offsets, targets_in, HasNoTarget};
+ghost use Rattle.cb_insn.specs.Faults.{operand_length, table_length, lookup_length, table_offsets, lookup_offsets, targets_in};
+ghost use Rattle.cb_insn.specs.Reads.{IsMarked, Misses, operand_of, operand_targets, table_of, lookup_of, HasNoTarget};
 
 use crate::form::Form;
 use crate::numbers::{after, s2_at, s4_at, u2_at};
@@ -10,7 +10,7 @@ use crate::target::{pairs_at, target_at, targets_at};
 use crate::{InsnFault, Operand};
 use std::alloc::Global;
 
-/// The operand behind an opcode at a place, whose targets have marks.
+/// The operand behind an opcode at a place, or `BadTarget` where one of its targets has no mark.
 pub(crate) fn operand_at(
     alloc: Global,
     pc: usize,

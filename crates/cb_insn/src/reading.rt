@@ -1,6 +1,6 @@
 // What stands at a place of code.
 ghost use Rattle.std.specs.Prelude.{◌≡◌, ◌^◌, ◌<◌, ◌≤◌, ◌||◌, pos, int_lt, drop, length};
-ghost use Rattle.cb_insn.specs.Faults.{reading_at, reading_in, operand_length, is_bad, table_low, table_high, lookup_count, lookup_length, count_of, keys_at, keys_fall};
+ghost use Rattle.cb_insn.specs.Faults.{reading_at, reading_in, operand_length, is_bad, table_low, table_high, lookup_number, lookup_count, lookup_length, numbers_at, keys_fall};
 ghost use Rattle.cb_insn.specs.Readings.{told};
 
 use crate::form::{Form, WIDE, form_of, wide_form_of};
@@ -77,7 +77,7 @@ fn is_bad(pc: usize, form: Form, behind: &[u8]) -> bool
     ensures { result ≡ is_bad pc form behind.now }
 {
     match form {
-        Form::ArrayCode => behind[0] < 4 || behind[0] > 11,
+        Form::ArrayCode => !matches!(behind[0], 4..=11),
         Form::Dimensions => behind[2] == 0,
         Form::Interface => behind[2] == 0 || behind[3] != 0,
         Form::Dynamic => behind[2] != 0 || behind[3] != 0,
@@ -98,8 +98,8 @@ fn is_bad_table(switch: &[u8]) -> bool
 /// Whether a lookup's number of pairs is below 0, or its keys don't ascend.
 fn is_bad_lookup(switch: &[u8]) -> bool
     requires { lookup_length switch.now ≤ length switch.now }
-    ensures { result ≡ (int_lt (lookup_count switch.now) (pos 0)
-        || keys_fall (keys_at (count_of (lookup_count switch.now)) (drop 8 switch.now))) }
+    ensures { result ≡ (int_lt (lookup_number switch.now) (pos 0)
+        || keys_fall (numbers_at 8 (lookup_count switch.now) (drop 8 switch.now))) }
 {
     s4_at(after(switch, 4)) < 0 || keys_fall(lookup_count(switch), after(switch, 8))
 }

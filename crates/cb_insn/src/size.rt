@@ -1,13 +1,14 @@
 // How many bytes an instruction is written in, where it fits any.
 ghost use Rattle.std.specs.Prelude.{◌≡◌, ◌<◌, ◌^◌, ◌↔◌, ℕ, List, length, FitsSigned, IsTrue, IfSome, IsNone};
-ghost use Rattle.std.specs.Int.{w16, w32};
+ghost use Rattle.std.specs.Int.{w32};
 ghost use Rattle.std.specs.List.{AllByRecursion};
 ghost use Rattle.cb_insn.specs.Grammar.{SpellsInsn, KeysRise, offset};
 ghost use Rattle.cb_insn.specs.Writing.{IsSize, IsUnspelled, insn_bytes};
 ghost use Rattle.cb_insn.specs.declared.insn.Operand.TheVariants as operands;
 
 use crate::form::{Form, form_of, wide_form_of};
-use crate::switch::padding_length;
+use crate::offset::{is_close, is_near};
+use crate::switch::{high_bound, padding_length};
 use crate::{Insn, Operand, Pair};
 
 /// How many bytes spell an instruction at a place, or `None` where none do. Takes time in their number.
@@ -38,7 +39,7 @@ fn operand_size(pc: u32, form: Form, operand: &Operand) -> Option<usize>
         Operand::Increase { local, by } => increase_size(form, *local, *by),
         Operand::Branch(target) => branch_size(pc, form, *target),
         Operand::ArrayCode(code) => {
-            (form == Form::ArrayCode && *code >= 4 && *code <= 11).then_some(1)
+            (form == Form::ArrayCode && matches!(*code, 4..=11)).then_some(1)
         }
         Operand::Dimensions { pool, dimensions } => dimensions_size(form, *pool, *dimensions),
         Operand::Interface { pool, count } => interface_size(form, *pool, *count),
@@ -57,7 +58,7 @@ fn number_size(form: Form, number: i16) -> Option<usize>
     ensures none { IsNone result → IsUnspelled 0 form (operands.Number number) }
 {
     match form {
-        Form::Byte => (number >= -128 && number <= 127).then_some(1),
+        Form::Byte => i8::try_from(number).is_ok().then_some(1),
         Form::Short => Some(2),
         _ => None,
     }
@@ -69,7 +70,7 @@ fn pool_size(form: Form, index: u16) -> Option<usize>
     ensures none { IsNone result → IsUnspelled 0 form (operands.Pool index) }
 {
     match form {
-        Form::PoolByte => (index < 0x100).then_some(1),
+        Form::PoolByte => u8::try_from(index).is_ok().then_some(1),
         Form::Pool => Some(2),
         Form::Dynamic => Some(4),
         _ => None,
@@ -82,7 +83,7 @@ fn local_size(form: Form, local: u16) -> Option<usize>
     ensures none { IsNone result → IsUnspelled 0 form (operands.Local local) }
 {
     match form {
-        Form::Local => (local < 0x100).then_some(1),
+        Form::Local => u8::try_from(local).is_ok().then_some(1),
         Form::WideLocal => Some(2),
         _ => None,
     }
@@ -94,13 +95,13 @@ fn increase_size(form: Form, local: u16, by: i16) -> Option<usize>
     ensures none { IsNone result → IsUnspelled 0 form (operands.Increase local by) }
 {
     match form {
-        Form::Increase => (local < 0x100 && by >= -128 && by <= 127).then_some(2),
+        Form::Increase => (u8::try_from(local).is_ok() && i8::try_from(by).is_ok()).then_some(2),
         Form::WideIncrease => Some(4),
         _ => None,
     }
 }
 
-/// How many bytes spell a target.
+/// How many bytes spell the offset to a target.
 fn branch_size(pc: u32, form: Form, target: u32) -> Option<usize>
     ensures fits { IfSome result (IsSize pc form (operands.Branch target)) }
     ensures none { IsNone result → IsUnspelled pc form (operands.Branch target) }
@@ -143,8 +144,7 @@ fn table_size(pc: u32, form: Form, default: u32, low: i32, targets: &[u32]) -> O
     if form != Form::Table || targets.is_empty() || targets.len() > 0x1_0000_0000 {
         return None;
     }
-    let high = i64::from(low) + targets.len() as i64 - 1;
-    if high > 0x7FFF_FFFF {
+    if high_bound(low, targets.len()) > i64::from(i32::MAX) {
         return None;
     }
     if !is_near(pc, default) || !are_near(pc, targets) {
@@ -184,22 +184,6 @@ fn do_keys_rise(pairs: &[Pair]) -> bool
     true
 }
 
-/// Whether a target is as near as two bytes tell.
-fn is_close(pc: u32, target: u32) -> bool
-    ensures { IsTrue result ↔ FitsSigned w16 (offset pc target) }
-{
-    let offset = i64::from(target) - i64::from(pc);
-    offset >= -0x8000 && offset < 0x8000
-}
-
-/// Whether a target is as near as four bytes tell.
-fn is_near(pc: u32, target: u32) -> bool
-    ensures { IsTrue result ↔ FitsSigned w32 (offset pc target) }
-{
-    let offset = i64::from(target) - i64::from(pc);
-    offset >= -0x8000_0000 && offset < 0x8000_0000
-}
-
 /// Whether the targets are as near as four bytes tell. Takes time in their number.
 fn are_near(pc: u32, targets: &[u32]) -> bool
     ensures { IsTrue result ↔ AllByRecursion (λ target. FitsSigned w32 (offset pc target)) targets.now }
@@ -207,7 +191,7 @@ fn are_near(pc: u32, targets: &[u32]) -> bool
     targets.iter().all(|target| is_near(pc, *target))
 }
 
-/// Whether the targets of pairs are.
+/// Whether the targets of pairs are as near as four bytes tell. Takes time in their number.
 fn are_pairs_near(pc: u32, pairs: &[Pair]) -> bool
     ensures { IsTrue result
         ↔ AllByRecursion (λ pair. FitsSigned w32 pair.key × FitsSigned w32 (offset pc pair.target)) pairs.now }
@@ -215,7 +199,7 @@ fn are_pairs_near(pc: u32, pairs: &[Pair]) -> bool
     pairs.iter().all(|pair| is_pair_near(pc, *pair))
 }
 
-/// Whether the target of a pair is.
+/// Whether the target of a pair is as near. Its key fits four bytes by its type.
 fn is_pair_near(pc: u32, pair: Pair) -> bool
     ensures { IsTrue result ↔ (FitsSigned w32 pair.key × FitsSigned w32 (offset pc pair.target)) }
 {

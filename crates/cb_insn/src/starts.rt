@@ -8,7 +8,7 @@ use crate::numbers::after;
 use crate::reading::{Reading, reading_at};
 use std::alloc::Global;
 
-/// For each place, whether an instruction begins there, or the first fault. Takes time in the length of the code.
+/// For each byte, whether an instruction begins there, or the first fault. Takes time in the number of bytes.
 pub(crate) fn starts(alloc: Global, bytes: &[u8]) -> Result<Vec<bool>, InsnFault>
     requires { length bytes.now < 2 ^ 32 }
     ensures whole { IfOk result (λ starts. IsPlace bytes.now (length bytes.now)) }

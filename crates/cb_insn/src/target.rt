@@ -1,13 +1,13 @@
 // The targets of branches and switches, by the marks of the places of instructions (JVMS §4.9.1).
 ghost use Rattle.std.specs.Prelude.{◌≡◌, ◌^◌, ◌*◌, ◌<◌, ◌≤◌, [], ◌∷◌, pos, ◌+ℤ◌, length, drop, map, All, IfOk, IfErr};
-ghost use Rattle.cb_insn.specs.Faults.{offsets_at, keys_at};
-ghost use Rattle.cb_insn.specs.Reads.{IsMarked, Misses, target_of, targets_in, pairs_of};
+ghost use Rattle.cb_insn.specs.Faults.{numbers_at, targets_in};
+ghost use Rattle.cb_insn.specs.Reads.{IsMarked, Misses, target_of, pairs_of};
 
 use crate::numbers::{after, s4_at};
 use crate::{InsnFault, List, Pair, Pairs, Targets};
 use std::alloc::Global;
 
-/// The target at an offset from a place.
+/// The target at an offset from a place, or `BadTarget` where it has no mark.
 pub(crate) fn target_at(pc: usize, offset: i32, starts: &[bool]) -> Result<u32, InsnFault>
     requires place { pc < 2 ^ 32 }
     requires few { length starts.now < 2 ^ 32 }
@@ -21,7 +21,7 @@ pub(crate) fn target_at(pc: usize, offset: i32, starts: &[bool]) -> Result<u32, 
     Ok(target as u32)
 }
 
-/// The targets at so many offsets from a place. Takes time in their number.
+/// The targets at so many offsets from a place, or `BadTarget` where one has no mark. Takes time in their number.
 pub(crate) fn targets_at(
     alloc: Global,
     pc: usize,
@@ -32,9 +32,9 @@ pub(crate) fn targets_at(
     requires place { pc < 2 ^ 32 }
     requires few { length starts.now < 2 ^ 32 }
     requires there { 4 * count ≤ length offsets.now }
-    ensures ok { IfOk result (λ targets. (targets ≡ map (target_of pc) (offsets_at count offsets.now))
-        × All (IsMarked starts.now) (targets_in pc (offsets_at count offsets.now))) }
-    ensures err { IfErr result (Misses pc (targets_in pc (offsets_at count offsets.now)) starts.now) }
+    ensures ok { IfOk result (λ targets. (targets ≡ map (target_of pc) (numbers_at 4 count offsets.now))
+        × All (IsMarked starts.now) (targets_in pc (numbers_at 4 count offsets.now))) }
+    ensures err { IfErr result (Misses pc (targets_in pc (numbers_at 4 count offsets.now)) starts.now) }
 {
     let mut targets = List::new(alloc);
     let mut rest = offsets;
@@ -47,7 +47,7 @@ pub(crate) fn targets_at(
     Ok(targets)
 }
 
-/// So many pairs. Takes time in their number.
+/// So many pairs, or `BadTarget` where the target of one has no mark. Takes time in their number.
 pub(crate) fn pairs_at(
     alloc: Global,
     pc: usize,
@@ -59,8 +59,8 @@ pub(crate) fn pairs_at(
     requires few { length starts.now < 2 ^ 32 }
     requires there { 8 * count ≤ length bytes.now }
     ensures ok { IfOk result (λ pairs. (pairs ≡ pairs_of pc count bytes.now)
-        × All (IsMarked starts.now) (targets_in pc (keys_at count (drop 4 bytes.now)))) }
-    ensures err { IfErr result (Misses pc (targets_in pc (keys_at count (drop 4 bytes.now))) starts.now) }
+        × All (IsMarked starts.now) (targets_in pc (numbers_at 8 count (drop 4 bytes.now)))) }
+    ensures err { IfErr result (Misses pc (targets_in pc (numbers_at 8 count (drop 4 bytes.now))) starts.now) }
 {
     let mut pairs = List::new(alloc);
     let mut rest = bytes;

@@ -1,7 +1,8 @@
-use Rattle.std.proofs.Common.{◌≡◌, All, refl, sym, ◌∙◌, ap, subst, arith}
+use Rattle.std.proofs.Common.{◌≡◌, All, length, refl, sym, ◌∙◌, ap, subst, arith}
+use Rattle.cb_insn.specs.Forms.{head_bytes}
 use Rattle.cb_insn.specs.Faults.{Whole}
 use Rattle.cb_insn.specs.Reads.{IsMarked, Misses}
-use Rattle.cb_insn.proofs.Heads.{before, headed, head_whole, head_targets}
+use Rattle.cb_insn.proofs.Heads.{headed, head_whole, head_targets}
 use Rattle.cb_insn.proofs.Marks.{handed_on}
 use Rattle.cb_insn.proofs.instruction.instruction_at.Goals as goal
 use Rattle.cb_insn.proofs.instruction.instruction_at.Goals.{then-head, else-head}
@@ -21,9 +22,10 @@ returns-in_err-operand-clause-err c =
 pub returns-clause-size : goal.returns-clause-size
 returns-clause-size c =
     let whole = head_whole _ _ _ _ _ _ c.requires.whole.0 c.requires.whole.1 c.in-Some.ensures.found in
-    let first : before c.in-Some.head.wide ≡ c.if-head.before = elim c.if-head.branch [
-      | then-head w ↦ ap before w.if-head.true ∙ sym w.before-is
-      | else-head w ↦ ap before w.if-head.false ∙ sym w.before-is
+    let head = c.in-Some.head in
+    let first : length (head_bytes head.wide head.opcode) ≡ c.if-head.before = elim c.if-head.branch [
+      | then-head w ↦ ap (λ wide. length (head_bytes wide head.opcode)) w.if-head.true ∙ sym w.before-is
+      | else-head w ↦ ap (λ wide. length (head_bytes wide head.opcode)) w.if-head.false ∙ sym w.before-is
     ] in
     whole.2 ∙ ap Whole (omega (arith, first, c.operand_length.ensures.exact))
 

@@ -3,8 +3,8 @@ use Rattle.cb_insn.specs.declared.form.Form.{Form}
 use Rattle.cb_insn.specs.declared.form.Form.TheVariants.{Lookup}
 use Rattle.cb_insn.specs.declared.insn.Operand.{Operand}
 use Rattle.cb_insn.specs.declared.fault.InsnFault.{InsnFault}
-use Rattle.cb_insn.specs.Faults.{padding_length}
-use Rattle.cb_insn.specs.Reads.{IsMarked, operand_of, operand_targets, lookup_of, lookup_offsets, targets_in}
+use Rattle.cb_insn.specs.Faults.{padding_length, lookup_offsets, targets_in}
+use Rattle.cb_insn.specs.Reads.{IsMarked, operand_of, operand_targets, lookup_of}
 use Rattle.std.specs.Int.{w16, w32}
 use Rattle.std.proofs.lemmas.Int.{to_z-of_z}
 use Rattle.cb_insn.proofs.Marks.{handed_on, miss_first}

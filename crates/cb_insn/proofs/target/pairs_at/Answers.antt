@@ -1,7 +1,8 @@
-use Rattle.std.proofs.Common.{◌∙◌, ap, rules, arith, length-drop, FitsSigned}
+use Rattle.std.proofs.Common.{refl, drop, ◌∙◌, ap, rules, arith, length-drop, FitsSigned}
 use Rattle.std.specs.Int.{w32}
 use Rattle.cb_insn.specs.Faults.{s4_at}
-use Rattle.cb_insn.proofs.Marks.{walks_start, pairs_end, pairs_step, pairs_miss, handed_on}
+use Rattle.cb_insn.specs.Reads.{pairs_of}
+use Rattle.cb_insn.proofs.Marks.{walks_start, pairs_step, next_missed, walked, handed_on}
 use Rattle.cb_insn.proofs.target.pairs_at.Goals as goal
 
 pub loop-left-init : goal.loop-left-init
@@ -24,7 +25,7 @@ pub returns-in_err-target-clause-err : goal.returns-in_err-target-clause-err
 returns-in_err-target-clause-err c =
     let fits : FitsSigned w32 c.s4_at.result = search rules in
     let is_offset = c.s4_at.ensures ∙ ap s4_at c.after.ensures in
-    handed_on c.from_residual.result _ _ c.from_residual.ensures.1 (pairs_miss _ _ _ _ _ _ _ _ _ c.loop-left.invariant.walks (omega arith) fits is_offset c.in_err-target.ensures.err)
+    handed_on c.from_residual.result _ _ c.from_residual.ensures.1 (next_missed _ 8 _ _ _ _ _ _ (drop 4 c.loop-left.rest.now) _ _ c.loop-left.invariant.walks (omega arith) fits is_offset c.in_err-target.ensures.err)
 
 pub returns-clause-ok : goal.returns-clause-ok
-returns-clause-ok c = pairs_end _ _ _ _ _ _ _ c.loop-left.invariant.walks (omega arith)
+returns-clause-ok c = walked _ 8 _ _ _ _ (λ n. pairs_of c.args.pc n c.loop-left.rest.now) _ (drop 4 c.loop-left.rest.now) c.loop-left.invariant.walks refl (omega arith)
