@@ -66,8 +66,10 @@ fn short_operand(operands: &[u8]) -> Option<(i32, &[u8])>
         (λ read. (read.0 ≡ cast_signed w16 (from_be_bytes w16 (slice_index operands.now 0 ∷ slice_index operands.now 1 ∷ [])))
         × (operands.now ≡ slice_index operands.now 0 ∷ slice_index operands.now 1 ∷ read.1.now)) }
 {
-    let (bytes, rest) = operands.split_first_chunk::<2>()?;
-    Some((i32::from(i16::from_be_bytes(*bytes)), rest))
+    match operands {
+        [one, two, rest @ ..] => Some((i32::from(i16::from_be_bytes([*one, *two])), rest)),
+        _ => None,
+    }
 }
 
 /// What stands behind the index of a pool entry below 256, where the operands are that index.

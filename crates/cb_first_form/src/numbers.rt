@@ -8,8 +8,10 @@ pub(crate) fn u2_at(bytes: &[u8]) -> Option<(u16, &[u8])>
     ensures only { (number : ℕ) (rest : List ℕ) → number < 2 ^ 16 → bytes.now ≡ u2 number ++ rest
         → IsSomeAnd result (λ read. (read.0 ≡ number) × (read.1.now ≡ rest)) }
 {
-    let (number, rest) = bytes.split_first_chunk::<2>()?;
-    Some((u16::from_be_bytes(*number), rest))
+    match bytes {
+        [one, two, rest @ ..] => Some((u16::from_be_bytes([*one, *two]), rest)),
+        _ => None,
+    }
 }
 
 /// A number of four bytes at the front, and what stands behind it.
@@ -18,6 +20,10 @@ pub(crate) fn u4_at(bytes: &[u8]) -> Option<(u32, &[u8])>
     ensures only { (number : ℕ) (rest : List ℕ) → number < 2 ^ 32 → bytes.now ≡ u4 number ++ rest
         → IsSomeAnd result (λ read. (read.0 ≡ number) × (read.1.now ≡ rest)) }
 {
-    let (number, rest) = bytes.split_first_chunk::<4>()?;
-    Some((u32::from_be_bytes(*number), rest))
+    match bytes {
+        [one, two, three, four, rest @ ..] => {
+            Some((u32::from_be_bytes([*one, *two, *three, *four]), rest))
+        }
+        _ => None,
+    }
 }

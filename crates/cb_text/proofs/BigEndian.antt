@@ -1,27 +1,10 @@
 -- A number at the front of some bytes.
-use Rattle.std.proofs.Common.{◌≡◌, ℕ, ◌^◌, ◌<◌, false, ltb, List, ◌++◌, length, get_or, take, drop, Some, inl, inr, refl, sym, ◌∙◌, ap, arith, take-append-drop, length-take, length-append}
+use Rattle.std.proofs.Common.{◌≡◌, ℕ, ◌^◌, ◌<◌, false, ltb, List, ◌++◌, length, Some, refl, arith, length-append}
 use Rattle.std.specs.Int.{Width, w16, w32, w64, byte_len, from_be_bytes, to_be_bytes}
-use Rattle.std.proofs.lemmas.Bool.{cases_lt, le-ltb}
-use Rattle.std.proofs.lemmas.List.{get_or-take, get_or_past, take_at, drop_at}
+use Rattle.std.proofs.lemmas.Bool.{le-ltb}
+use Rattle.std.proofs.lemmas.List.{take_at, drop_at}
 use Rattle.std.proofs.lemmas.Nat.{from_be_bytes-to_be_bytes_2, from_be_bytes-to_be_bytes_4, from_be_bytes-to_be_bytes_8}
 use Rattle.cb_text.specs.Reading.{number_at}
-
--- each is below 256
-abbrev pub AreBytes : List ℕ → Type 0
-AreBytes bytes = (i : ℕ) → get_or bytes i 0 < 256
-
--- so it is in a front of them
-pub AreBytes-front : (n : ℕ) (bytes front : List ℕ) → front ≡ take n bytes → AreBytes bytes → AreBytes front
-AreBytes-front n bytes front is are i =
-    rw is (elim (cases_lt i n) [
-      | inl below ↦ rw (get_or-take n bytes i 0 below) (are i)
-      | inr past ↦ rw (get_or_past (take n bytes) i 0 (omega (arith, length-take n bytes))) (omega arith)
-    ])
-
--- the front of some bytes spells a number, and the rest stands behind it
-pub number_behind : (w : Width) (bytes front rest : List ℕ) (number : ℕ) → front ≡ take (byte_len w) bytes → rest ≡ drop (byte_len w) bytes → to_be_bytes w number ≡ front → bytes ≡ to_be_bytes w number ++ rest
-number_behind w bytes front rest number is_front is_rest spells =
-    sym (take-append-drop (byte_len w) bytes) ∙ ap (λ xs. xs ++ drop (byte_len w) bytes) (sym is_front ∙ sym spells) ∙ ap (λ xs. to_be_bytes w number ++ xs) (sym is_rest)
 
 -- a number that is spelled at the front is read there
 pub record IsWidth (w : Width) (limit : ℕ) : Type 0 where

@@ -27,7 +27,7 @@ constant_bytes (MethodType descriptor) = 16 ∷ u2 descriptor
 constant_bytes (InvokeDynamic bootstrap member) = 18 ∷ u2 bootstrap ++ u2 member
 constant_bytes Gap = []
 
--- what fits its bytes: each number its width, and a text a length of two bytes
+-- the parts of a constant fit the bytes that hold them: each number its width, and the length of a text two bytes
 abbrev pub Fits : Constant → Type 0
 Fits (Utf8 units) = AreUnits units × (length (text_bytes units) < 2 ^ 16)
 Fits (Integer number) = number < 2 ^ 32
@@ -54,16 +54,17 @@ abbrev mutual
   AreLaidOut (Gap ∷ constants) = ⊥
   AreLaidOut (constant ∷ constants) = AreLaidOut constants
 
+  -- what stands behind a Long or Double begins with its gap
   pub AreBehindWide : List Constant → Type 0
   AreBehindWide (Gap ∷ constants) = AreLaidOut constants
   AreBehindWide constants = ⊥
 
--- the constant at an index, which count from 1
+-- the constant at an index. Indices count from 1, gaps take one too, and none is at 0
 abbrev pub constant_at : List Constant → ℕ → Option Constant
 constant_at constants zero = None
 constant_at constants (suc before) = slice_get constants before
 
--- which constants an index may name
+-- the kinds of constants that an index may name: a text, a class, or the name and type of a member
 abbrev pub IsText : Constant → Type 0
 IsText (Utf8 units) = Unit {0}
 IsText other = ⊥
@@ -76,10 +77,12 @@ abbrev pub IsMember : Constant → Type 0
 IsMember (NameAndType name descriptor) = Unit {0}
 IsMember other = ⊥
 
+-- a constant of this kind stands at the index
 abbrev pub Names : List Constant → ℕ → (Constant → Type 0) → Type 0
 Names constants index IsKind = IsSomeAnd (constant_at constants index) IsKind
 
--- each index of a constant names an entry of the listed tag. That of a method handle is only asked to be in the pool
+-- each index of a constant names one of the right kind. Of a method handle the kind is 1 to 9 (§4.4.8), and the index
+-- only has to be in the pool, where even a gap may stand. The first number of an InvokeDynamic is no index of the pool
 abbrev pub HasIndices : List Constant → Constant → Type 0
 HasIndices constants (Class name) = Names constants name IsText
 HasIndices constants (String text) = Names constants text IsText
@@ -92,7 +95,8 @@ HasIndices constants (MethodType descriptor) = Names constants descriptor IsText
 HasIndices constants (InvokeDynamic bootstrap member) = Names constants member IsMember
 HasIndices constants other = Unit {0}
 
--- the bytes are a pool: the count, which is one more than the constants, and the constants in order
+-- the bytes are a pool: the count, which is one more than how many constants there are with their gaps, and the
+-- constants in order
 pub record SpellsPool (bytes : List ℕ) (constants : List Constant) : Type 0 where
   pub spelled : bytes ≡ u2 (length constants + 1) ++ flat_map constant_bytes constants
   pub counted : length constants + 1 < 2 ^ 16
@@ -100,6 +104,6 @@ pub record SpellsPool (bytes : List ℕ) (constants : List Constant) : Type 0 wh
   pub laid_out : AreLaidOut constants
   pub indexed : AllByRecursion (HasIndices constants) constants
 
--- a pool is a front of the bytes, and ends behind so many
+-- the bytes begin with a pool, which takes so many of them
 abbrev pub BeginsWithPool : List ℕ → List Constant → ℕ → Type 0
 BeginsWithPool bytes constants end = (front rest : List ℕ) × SpellsPool front constants × (bytes ≡ front ++ rest) × (end ≡ length front)

@@ -10,12 +10,12 @@ use Rattle.cb_text.specs.declared.text.TextFault.{TextFault}
 use Rattle.cb_text.specs.declared.text.TextFault.TheVariants as text
 use Rattle.cb_text.specs.Pool.{u2, Fits, constant_bytes, AreLaidOut, SpellsPool}
 
--- a pool with a bad text is a bad pool
+-- the fault of a pool, by that of a text in it: one with a bad text is a bad pool
 abbrev pub pool_fault : TextFault → PoolFault
 pool_fault text.BadText = pool.BadPool
 pool_fault text.OutOfMemory = pool.OutOfMemory
 
--- the number at the front of some bytes, and what stands behind it
+-- the number at the front of some bytes, and what stands behind it, or none where the bytes are too few
 abbrev pub number_at : Width → List ℕ → Option (ℕ × List ℕ)
 number_at w bytes = if nat_lt (length bytes) (byte_len w) then None else Some (from_be_bytes w (take (byte_len w) bytes), drop (byte_len w) bytes)
 
@@ -27,12 +27,12 @@ one_at w make bytes = option_map (λ read. (make read.0, read.1)) (number_at w b
 abbrev pub pair_at : (ℕ → ℕ → Constant) → List ℕ → Option (Constant × List ℕ)
 pair_at make bytes = option_and_then (λ one. option_map (λ other. (make one.0 other.0, other.1)) (number_at w16 one.1)) (number_at w16 bytes)
 
--- a method handle
+-- a method handle: its kind in one byte, and an index
 abbrev pub handle_at : List ℕ → Option (Constant × List ℕ)
 handle_at [] = None
 handle_at (kind ∷ bytes) = option_map (λ read. (MethodHandle kind read.0, read.1)) (number_at w16 bytes)
 
--- a constant of indices alone, by its tag
+-- the constant at the front of some bytes, by the tag that stood before them, if it is one of indices alone
 unfoldable pub indices_at : ℕ → List ℕ → Option (Constant × List ℕ)
 indices_at tag bytes =
     if tag == 7 then one_at w16 Class bytes
@@ -45,7 +45,7 @@ indices_at tag bytes =
     else if tag == 18 then pair_at InvokeDynamic bytes
     else None
 
--- a constant of numbers, by its tag
+-- the same, if it is any other than a text
 unfoldable pub numbers_at : ℕ → List ℕ → Option (Constant × List ℕ)
 numbers_at tag bytes =
     if tag == 3 then one_at w32 Integer bytes
@@ -55,13 +55,13 @@ numbers_at tag bytes =
     else if tag == 15 then handle_at bytes
     else indices_at tag bytes
 
--- it has a tag, and numbers behind it
+-- behind its tag it has numbers alone
 abbrev pub HasNumbers : Constant → Type 0
 HasNumbers (Utf8 units) = ⊥
 HasNumbers Gap = ⊥
 HasNumbers other = Unit {0}
 
--- it has bytes
+-- it has bytes: it is no gap
 abbrev pub HasBytes : Constant → Type 0
 HasBytes Gap = ⊥
 HasBytes other = Unit {0}
@@ -72,17 +72,17 @@ IsWide (Long number) = Unit {0}
 IsWide (Double bits) = Unit {0}
 IsWide other = ⊥
 
--- so many constants stand at the front of some bytes
+-- so many constants, with their gaps, stand at the front of some bytes, and `rest` is what stands behind them
 pub record StandsBefore (count : ℕ) (constants : List Constant) (rest bytes : List ℕ) : Type 0 where
   pub counted : length constants ≡ count
   pub fit : AllByRecursion Fits constants
   pub laid_out : AreLaidOut constants
   pub spelled : bytes ≡ flat_map constant_bytes constants ++ rest
 
--- the bytes of a pool, from its count on
+-- the bytes of a pool of these constants
 abbrev pub pool_bytes : List Constant → List ℕ
 pool_bytes constants = u2 (length constants + 1) ++ flat_map constant_bytes constants
 
--- the constants are those of a pool
+-- the constants are all those of a pool
 abbrev pub IsPool : List Constant → Type 0
 IsPool constants = SpellsPool (pool_bytes constants) constants

@@ -11,8 +11,10 @@ pub(crate) fn u2_at(bytes: &[u8]) -> Option<(u16, &[u8])>
     ensures reads { MatchOption result (number_at w16 bytes.now ≡ None)
         (λ read. number_at w16 bytes.now ≡ Some (read.0, read.1.now)) }
 {
-    let (number, rest) = bytes.split_first_chunk::<2>()?;
-    Some((u16::from_be_bytes(*number), rest))
+    match bytes {
+        [one, two, rest @ ..] => Some((u16::from_be_bytes([*one, *two]), rest)),
+        _ => None,
+    }
 }
 
 /// A number of four bytes at the front, and what stands behind it.
@@ -21,8 +23,12 @@ pub(crate) fn u4_at(bytes: &[u8]) -> Option<(u32, &[u8])>
     ensures reads { MatchOption result (number_at w32 bytes.now ≡ None)
         (λ read. number_at w32 bytes.now ≡ Some (read.0, read.1.now)) }
 {
-    let (number, rest) = bytes.split_first_chunk::<4>()?;
-    Some((u32::from_be_bytes(*number), rest))
+    match bytes {
+        [one, two, three, four, rest @ ..] => {
+            Some((u32::from_be_bytes([*one, *two, *three, *four]), rest))
+        }
+        _ => None,
+    }
 }
 
 /// A number of eight bytes at the front, and what stands behind it.
@@ -31,6 +37,11 @@ pub(crate) fn u8_at(bytes: &[u8]) -> Option<(u64, &[u8])>
     ensures reads { MatchOption result (number_at w64 bytes.now ≡ None)
         (λ read. number_at w64 bytes.now ≡ Some (read.0, read.1.now)) }
 {
-    let (number, rest) = bytes.split_first_chunk::<8>()?;
-    Some((u64::from_be_bytes(*number), rest))
+    match bytes {
+        [one, two, three, four, five, six, seven, eight, rest @ ..] => {
+            let number = [*one, *two, *three, *four, *five, *six, *seven, *eight];
+            Some((u64::from_be_bytes(number), rest))
+        }
+        _ => None,
+    }
 }
