@@ -1,3 +1,4 @@
 pub mod Characters
 pub mod Files
+pub mod Whole
 pub mod Writing

@@ -8,7 +8,7 @@ pub record CallLog : Type 0 where
   pub made : ℕ
   pub faults : ℕ
 
--- calls are stored as the tuple of their fields
+-- the code by which proofs tell two of them apart: the tuple of the fields
 abbrev pub calls_code : Coded CallLog
 calls_code =
     code_by (List ℕ × (ℕ × ℕ)) (coded× (coded_list coded_ℕ) (coded× coded_ℕ coded_ℕ)) (λ log. (log.failing, (log.made, log.faults))) (λ p. record { failing = p.0; made = p.1.0; faults = p.1.1 }) (λ _. refl)
@@ -17,11 +17,11 @@ calls_code =
 abbrev pub first_call : List ℕ → CallLog
 first_call failing = record { failing = failing; made = 0; faults = 0 }
 
--- one more, or the end of a count's type
+-- one more, or the same at the end of the count's type
 abbrev pub counted : ℕ → ℕ
 counted count = min (count + 1) (2 ^ 64 - 1)
 
--- the call after these is one that fails
+-- the next call is one that fails
 abbrev pub FailsNext : CallLog → Type 0
 FailsNext log = Contains log.failing (counted log.made)
 

@@ -8,6 +8,7 @@ use Rattle.std.specs.List.{flat_map}
 abbrev pub question_mark : ℕ
 question_mark = 63
 
+-- the bytes of a character, or of `?` where a surrogate had no partner
 abbrev pub character_bytes : Option ℕ → List ℕ
 character_bytes character = encode_utf8 (unwrap_or character question_mark)
 

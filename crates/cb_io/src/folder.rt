@@ -1,10 +1,14 @@
 // A folder of files.
 ghost use Rattle.std.specs.Prelude.{◌≡◌, ◌≤◌, ℕ, Option, IfOk, IfSome, IsErrOf};
+ghost use Rattle.std.specs.IoError.{error_kind};
 ghost use Rattle.cb_io.specs.Faults.{CountsFaults};
 ghost use Rattle.cb_io.specs.Folder.{Files, Finds, IsWithin};
+ghost use Rattle.cb_io.specs.System.{folder_error};
 ghost use Rattle.cb_io.specs.declared.folder.FolderError.TheVariants.{OutOfMemory};
 
 use std::alloc::{AllocError, AllocFailed, Global};
+use std::io;
+use std::io::ErrorKind;
 use thiserror::Error;
 
 /// What a folder has at a path.
@@ -42,6 +46,17 @@ impl<T: Drop> From<AllocFailed<T>> for FolderError {
 
     fn from(_: AllocFailed<T>) -> Self {
         FolderError::OutOfMemory
+    }
+}
+
+impl From<io::Error> for FolderError {
+    ghost from_gives = { λ error answer. answer ≡ folder_error (error_kind error) };
+
+    fn from(error: io::Error) -> Self {
+        match error.kind() {
+            ErrorKind::OutOfMemory => FolderError::OutOfMemory,
+            _ => FolderError::Failed,
+        }
     }
 }
 

@@ -27,6 +27,7 @@ mod sure_source;
 #[cfg(test)]
 mod tests;
 mod utf8;
+mod whole_file;
 
 pub use dir_folder::DirFolder;
 pub use failed::Failed;

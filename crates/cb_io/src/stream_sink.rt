@@ -6,6 +6,7 @@ ghost use Rattle.cb_io.specs.Faults.{CountsFaults};
 ghost use Rattle.cb_io.specs.Sink.{TakesSome};
 
 use crate::{Failed, Sink};
+use std::io;
 use std::io::Write;
 use std::marker::Model;
 
@@ -32,6 +33,22 @@ impl<W: Write> StreamSink<W> {
     {
         StreamSink { writer, faults: 0 }
     }
+
+    /// Answers what a call of the writer gave for these bytes.
+    fn answer(&mut self, written: io::Result<usize>, bytes: &[u8]) -> Result<usize, Failed>
+        ensures given { IfOk written (λ count. TakesSome bytes.now count → result ≡ Ok count) }
+        ensures only { IfOk result (λ count. TakesSome bytes.now count × (written ≡ Ok count)) }
+        ensures cause { CountsFaults self.old.faults self.new.faults (IsErr result) }
+        ensures inner { self.new.inner ≡ self.old.inner }
+    {
+        match written {
+            Ok(count) if count > 0 || bytes.is_empty() => Ok(count),
+            _ => {
+                self.faults = self.faults.saturating_add(1);
+                Err(Failed)
+            }
+        }
+    }
 }
 
 impl<W: Write> Sink for StreamSink<W> {
@@ -45,12 +62,7 @@ impl<W: Write> Sink for StreamSink<W> {
         ensures taken { WriteAppends (W.contents self.old.inner) (W.contents self.new.inner) result bytes.now }
         ensures cause { CountsFaults self.old.faults self.new.faults (IsErr result) }
     {
-        match self.writer.write(bytes) {
-            Ok(count) if count > 0 || bytes.is_empty() => Ok(count),
-            _ => {
-                self.faults = self.faults.saturating_add(1);
-                Err(Failed)
-            }
-        }
+        let written = self.writer.write(bytes);
+        self.answer(written, bytes)
     }
 }

@@ -1,10 +1,11 @@
 // A source over a reader of std.
-ghost use Rattle.std.specs.Prelude.{◌≡◌, None, IsErr};
+ghost use Rattle.std.specs.Prelude.{◌≡◌, None, IsErr, MatchResult};
 ghost use Rattle.std.specs.Io.{ReadsAtMost};
 ghost use Rattle.std.specs.Io.KnownBytes.{ReadConsumes};
 ghost use Rattle.cb_io.specs.Faults.{CountsFaults};
 
 use crate::{Failed, Source};
+use std::io;
 use std::io::Read;
 use std::marker::Model;
 
@@ -30,6 +31,21 @@ impl<R: Read> StreamSource<R> {
     {
         StreamSource { reader, faults: 0 }
     }
+
+    /// Answers what a call of the reader gave.
+    fn answer(&mut self, moved: io::Result<usize>) -> Result<usize, Failed>
+        ensures given { MatchResult moved (λ count. result ≡ Ok count) (λ _. IsErr result) }
+        ensures cause { CountsFaults self.old.faults self.new.faults (IsErr result) }
+        ensures inner { self.new.inner ≡ self.old.inner }
+    {
+        match moved {
+            Ok(count) => Ok(count),
+            Err(_) => {
+                self.faults = self.faults.saturating_add(1);
+                Err(Failed)
+            }
+        }
+    }
 }
 
 impl<R: Read> Source for StreamSource<R> {
@@ -42,12 +58,7 @@ impl<R: Read> Source for StreamSource<R> {
         ensures moved { ReadConsumes (R.remaining self.old.inner) (R.remaining self.new.inner) result buf.new }
         ensures cause { CountsFaults self.old.faults self.new.faults (IsErr result) }
     {
-        match self.reader.read(buf) {
-            Ok(count) => Ok(count),
-            Err(_) => {
-                self.faults = self.faults.saturating_add(1);
-                Err(Failed)
-            }
-        }
+        let moved = self.reader.read(buf);
+        self.answer(moved)
     }
 }

@@ -1,12 +1,25 @@
 // What the objects do at small inputs, in memory and over real files.
+use crate::whole_file::whole_within;
 use crate::{
     DirFolder, Failed, Folder, FolderError, Found, MemFolder, MemSink, MemSource, Sink, Source,
     StreamSink, StreamSource, SureFolder, SureSink, SureSource, utf8_of, write_all,
 };
 use cb_plain::{Numbers, OutOfMemory};
 use std::alloc::Global;
-use std::fs;
+use std::io::{ErrorKind, Read};
+use std::os::unix::fs::symlink;
 use std::test::Fail;
+use std::{fs, io};
+
+/// A reader that fails.
+#[derive(Clone, Copy, Drop)]
+struct Broken(ErrorKind);
+
+impl Read for Broken {
+    fn read(&mut self, _: &mut [u8]) -> io::Result<usize> {
+        Err(io::Error::from(self.0))
+    }
+}
 
 fn call(alloc: Global, number: u32) -> Result<Numbers, OutOfMemory> {
     let mut failing = Numbers::new(alloc);
@@ -29,6 +42,14 @@ fn told(found: &Result<Found, FolderError>) -> Result<&[u8], &'static str> {
         Err(FolderError::Failed) => Err("failed"),
         Err(FolderError::OutOfMemory) => Err("out of memory"),
     }
+}
+
+fn length_within<R: Read>(alloc: Global, reader: R, limit: usize) -> Result<usize, &'static str>
+where
+    R: Drop,
+{
+    let found = whole_within(alloc, reader, limit).map_err(FolderError::from);
+    told(&found).map(|bytes| bytes.len())
 }
 
 #[test]
@@ -108,20 +129,49 @@ fn a_folder_of_the_system_has_plain_files_alone(rt: HostRuntime) -> Result<(), F
     fs::create_dir(&rt, "plain")?;
     fs::create_dir(&rt, "plain/folder")?;
     fs::write(&rt, "plain/file", "abc")?;
+    symlink(&rt, "file", "plain/link")?;
+    symlink(&rt, "loop", "plain/loop")?;
+    let long = "x".repeat(rt.alloc(), 256)?;
     let mut folder = DirFolder::new(&rt);
     for (path, limit, want) in [
+        ("plain/file", 4, Ok(b"abc".as_slice())),
         ("plain/file", 3, Ok(b"abc".as_slice())),
         ("plain/file", 2, Err("too long")),
+        ("plain/link", 3, Ok(b"abc".as_slice())),
         ("plain/missing", 3, Err("absent")),
         ("plain/folder", 3, Err("absent")),
         ("plain/file/x", 3, Err("absent")),
         ("plain/file\0", 3, Err("absent")),
+        (long.as_str(), 3, Err("absent")),
+        ("plain/loop", 3, Err("failed")),
     ] {
         let found = folder.read(rt.alloc(), path, limit);
         assert_eq!(rt; told(&found), want, "at {path}");
     }
     fs::remove_dir_all(&rt, "plain")?;
     Ok(())
+}
+
+#[test]
+fn a_reader_gives_all_that_it_has_or_is_too_long(rt: HostRuntime) {
+    for (bytes, limit, want) in [
+        ("", 0, Ok(0)),
+        ("a", 0, Err("too long")),
+        ("ab", 3, Ok(2)),
+        ("abc", 3, Ok(3)),
+        ("abcd", 3, Err("too long")),
+        ("abcd", usize::MAX, Ok(4)),
+    ] {
+        let length = length_within(rt.alloc(), bytes.as_bytes(), limit);
+        assert_eq!(rt; length, want, "at {bytes}");
+    }
+    for (kind, want) in [
+        (ErrorKind::OutOfMemory, "out of memory"),
+        (ErrorKind::NotFound, "failed"),
+    ] {
+        let reader = b"ab".as_slice().chain(Broken(kind));
+        assert_eq!(rt; length_within(rt.alloc(), reader, 3), Err(want));
+    }
 }
 
 #[test]

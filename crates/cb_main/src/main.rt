@@ -1,45 +1,66 @@
 //! The program `cbvm`: the real folder, input and outputs, handed to the top call.
 #![tactic(auto)]
 
-ghost use Rattle.std.specs.Prelude.{◌≡◌, ◌↔◌, List, ℕ, map, string_bytes};
+ghost use Rattle.std.specs.Prelude.{◌≡◌, ◌≢◌, ◌↔◌, List, ℕ, drop, map, string_bytes};
+ghost use Rattle.std.specs.Process.{exit_status};
+ghost use Rattle.cb_io.specs.Faults.{CountsFaults};
+ghost use Rattle.cb_runner.specs.Answer.{status_of};
 ghost use Rattle.cb_runner.specs.Words.{IsRun};
+ghost use Rattle.cb_runner.specs.declared.cause.Cause.{Cause};
 
-use cb_io::{DirFolder, StreamSink, StreamSource};
+use cb_io::{DirFolder, Folder, Sink, Source, StreamSink, StreamSource};
 use cb_runner::run_command;
+use std::alloc::Global;
 use std::io::ErrorKind;
 use std::process::ExitCode;
 use std::{env, io};
 
-/// The status where no memory was to be had for the words.
-const OUT_OF_MEMORY: u8 = 119;
-
-/// The status of words that are no command, as words that aren't text are none.
-const USAGE: u8 = 120;
-
 fn main(rt: HostRuntime) -> ExitCode {
-    let status = match words(&rt) {
-        Ok(words) => run(&rt, words.as_slice()),
-        Err(error) if error.kind() == ErrorKind::OutOfMemory => OUT_OF_MEMORY,
-        Err(_) => USAGE,
-    };
-    ExitCode::from(status)
+    match words(&rt) {
+        Ok(words) => run(&rt, behind_name(words.as_slice())),
+        Err(error) => exit_without_words(error.kind()),
+    }
 }
 
-/// The words behind the program's name.
+/// The program's name and the words behind it.
 fn words(rt: &HostRuntime) -> io::Result<Vec<String>> {
-    let words = env::args(rt)?.skip(1).collect(rt.alloc())?;
+    let words = env::args(rt)?.collect(rt.alloc())?;
     Ok(words)
 }
 
-/// Does what the words say, over the files and the standard streams of the system, and gives the exit status.
-fn run(rt: &HostRuntime, words: &[String]) -> u8
-    ensures usage { (result ≡ 120) ↔ ((name : List ℕ) → IsRun name (map string_bytes words.now) → ⊥) }
+/// All words but the first, which is the program's name.
+fn behind_name(words: &[String]) -> &[String]
+    ensures { result.now ≡ drop 1 words.now }
+{
+    match words {
+        [] => words,
+        [_, rest @ ..] => rest,
+    }
+}
+
+/// The end where the words couldn't be read: that of want of memory, or of words that are no command, as words that
+/// aren't text are none.
+fn exit_without_words(kind: ErrorKind) -> ExitCode
+    ensures memory { kind ≡ ErrorKind.OutOfMemory → exit_status result ≡ 119 }
+    ensures usage { kind ≢ ErrorKind.OutOfMemory → exit_status result ≡ 120 }
+{
+    match kind {
+        ErrorKind::OutOfMemory => ExitCode::from(119),
+        _ => ExitCode::from(120),
+    }
+}
+
+/// Does what the words say, over the files and the standard streams of the system, and gives the end of the
+/// program.
+fn run(rt: &HostRuntime, words: &[String]) -> ExitCode
+    ensures status { (cause : Cause) × (exit_status result ≡ status_of cause) }
+    ensures usage { (exit_status result ≡ 120) ↔ ((name : List ℕ) → IsRun name (map string_bytes words.now) → ⊥) }
 {
     let mut folder = DirFolder::new(rt);
     let mut input = StreamSource::new(rt.stdin());
     let mut out = StreamSink::new(rt.stdout());
     let mut err = StreamSink::new(rt.stderr());
-    run_command(
+    exit_code(
         rt.alloc(),
         words,
         &mut folder,
@@ -47,5 +68,22 @@ fn run(rt: &HostRuntime, words: &[String]) -> u8
         &mut out,
         &mut err,
     )
-    .status
+}
+
+/// Does what the words say, and gives the end of the program.
+fn exit_code<F: Folder, S: Source, O: Sink, E: Sink>(
+    alloc: Global,
+    words: &[String],
+    folder: &mut F,
+    input: &mut S,
+    out: &mut O,
+    err: &mut E,
+) -> ExitCode
+    ensures status { (cause : Cause) × (exit_status result ≡ status_of cause) }
+    ensures usage { (exit_status result ≡ 120) ↔ ((name : List ℕ) → IsRun name (map string_bytes words.now) → ⊥) }
+    ensures folder_fault { CountsFaults (F.faults folder.old) (F.faults folder.new) (exit_status result ≡ 124) }
+    ensures output_fault { CountsFaults (O.faults out.old) (O.faults out.new) (exit_status result ≡ 126) }
+    ensures err_kept { (E.taken err.new ≡ E.taken err.old) × (E.faults err.new ≡ E.faults err.old) }
+{
+    ExitCode::from(run_command(alloc, words, folder, input, out, err).status)
 }
