@@ -1,18 +1,15 @@
 -- The first item of a list, where the elements may have one each.
 use Rattle.std.proofs.Common.{◌≡◌, ℕ, zero, suc, ◌+◌, ◌-◌, ◌<◌, List, [], ◌∷◌, ◌++◌, map, Option, Some, None, is_some, option_and_then, length, take, get_or, true, false, refl, sym, ◌∙◌, ap, arith}
-use Rattle.std.proofs.lemmas.List.{map-append}
 use Rattle.std.proofs.lemmas.Option.{slice_get-get_or}
 use Rattle.std.specs.List.{slice_get}
 use Rattle.std.specs.Option.{option_or}
 use Rattle.cb_text.specs.declared.constant.Constant.{Constant}
 use Rattle.cb_text.specs.Pool.{constant_at}
 use Rattle.cb_classfile.specs.declared.feature.Feature.{Feature}
-use Rattle.cb_classfile.specs.declared.field.Field.{Field}
-use Rattle.cb_classfile.specs.declared.method.Method.{Method}
-use Rattle.cb_classfile.specs.Profile.{first_of, constant_item, descriptor_item_at, method_item}
+use Rattle.cb_classfile.specs.Profile.{first_of}
 
 -- the first item of two lists is that of the one, or else of the other
-pub first_of_both : (front back : List (Option Feature)) → first_of (front ++ back) ≡ option_or (first_of front) (first_of back)
+first_of_both : (front back : List (Option Feature)) → first_of (front ++ back) ≡ option_or (first_of front) (first_of back)
 first_of_both [] back = refl
 first_of_both (Some item ∷ front) back = refl
 first_of_both (None ∷ front) back = first_of_both front back
@@ -22,9 +19,6 @@ first_before front back item is = ap (λ found. option_or found (first_of back))
 
 pub first_behind : (front back : List (Option Feature)) (item : Option Feature) → None ≡ first_of front → item ≡ first_of back → item ≡ first_of (front ++ back)
 first_behind front back item none is = is ∙ ap (λ found. option_or found (first_of back)) none ∙ sym (first_of_both front back)
-
-pub first_of_each : {X : Type 0} (item_of : X → Option Feature) (front back : List X) → first_of (map item_of (front ++ back)) ≡ option_or (first_of (map item_of front)) (first_of (map item_of back))
-first_of_each item_of front back = ap first_of (map-append item_of front back) ∙ first_of_both (map item_of front) (map item_of back)
 
 -- the item at a place, before which there is none, is the first
 is_first : {X : Type 0} (item_of : X → Option Feature) (items : List X) (place : ℕ) → first_of (map item_of (take place items)) ≡ None → true ≡ is_some (option_and_then item_of (slice_get items place)) → option_and_then item_of (slice_get items place) ≡ first_of (map item_of items)
@@ -81,13 +75,3 @@ none_at_index item_of pool (suc before) item none has is =
     let place : suc before - 1 ≡ before = omega arith in
     let more : suc before + 1 - 1 ≡ suc before = omega arith in
     rw more (is_none item_of pool before (rw place at none) (is ∙ ap is_some has))
-
--- the items of the three lists of a class
-abbrev pub of_constants : List Constant → List (Option Feature)
-of_constants pool = map (constant_item pool) pool
-
-abbrev pub of_fields : List Constant → List Field → List (Option Feature)
-of_fields pool fields = map (λ field. descriptor_item_at pool field.descriptor) fields
-
-abbrev pub of_methods : List Constant → List Method → List (Option Feature)
-of_methods pool methods = map (method_item pool) methods

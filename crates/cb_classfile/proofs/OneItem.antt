@@ -5,6 +5,7 @@ use Rattle.std.proofs.Math.Seq.{take-append_seam}
 use Rattle.std.proofs.lemmas.List.{append_cancel_left}
 use Rattle.std.proofs.lemmas.Option.{same_Some}
 use Rattle.cb_text.proofs.BigEndian.{IsWidth, width_16, width_32, number_again}
+use Rattle.cb_classfile.specs.Attributes.{SpellsOnce}
 use Rattle.cb_classfile.specs.Tables.{u2, u4, SpellsEach, SpellsCount, SpellsTable, BeginsWith}
 
 -- of two items at the front of the same bytes, both are one
@@ -102,14 +103,8 @@ exact_table {Item} {Spells} exact = record {
       each_same Spells one other spelled.entries spelled_too.entries rest behind exact number.0 spelled.each spelled_too.each number.1;
 }
 
--- the item of a list of contents, of which there is at most one
-abbrev pub SpellsOption : {Item : Type 0} → (List ℕ → Item → Type 0) → List (List ℕ) → Option Item → Type 0
-SpellsOption Spells [] None = Unit {0}
-SpellsOption Spells (contents ∷ []) (Some item) = Spells contents item
-SpellsOption Spells contents item = ⊥
-
 -- the contents spell at most one item or none, where contents spell at most one item
-pub one_option : {Item : Type 0} (Spells : List ℕ → Item → Type 0) (contents : List (List ℕ)) (one other : Option Item) → ((bytes : List ℕ) (one other : Item) → Spells bytes one → Spells bytes other → one ≡ other) → SpellsOption Spells contents one → SpellsOption Spells contents other → one ≡ other
-one_option Spells [] None None alone spelled spelled_too = refl
-one_option Spells (contents ∷ []) (Some one) (Some other) alone spelled spelled_too = ap Some (alone contents one other spelled spelled_too)
-one_option Spells contents one other alone spelled spelled_too = absurd assumption
+pub one_once : {Item : Type 0} (Spells : List ℕ → Item → Type 0) (contents : List (List ℕ)) (one other : Option Item) → ((bytes : List ℕ) (one other : Item) → Spells bytes one → Spells bytes other → one ≡ other) → SpellsOnce Spells contents one → SpellsOnce Spells contents other → one ≡ other
+one_once Spells [] None None alone spelled spelled_too = refl
+one_once Spells (contents ∷ []) (Some one) (Some other) alone spelled spelled_too = ap Some (alone contents one other spelled spelled_too)
+one_once Spells contents one other alone spelled spelled_too = absurd assumption

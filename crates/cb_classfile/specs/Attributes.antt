@@ -33,6 +33,13 @@ contents_named pool name (attribute ∷ attributes) =
     if is_text name (text_at pool attribute.0) then attribute.1 ∷ contents_named pool name attributes
     else contents_named pool name attributes
 
+-- an attribute that stands at most once, by the contents of all of its name: what the one spells, or nothing where
+-- there is none
+abbrev pub SpellsOnce : {Item : Type 0} → (List ℕ → Item → Type 0) → List (List ℕ) → Option Item → Type 0
+SpellsOnce Spells [] None = Unit {0}
+SpellsOnce Spells (contents ∷ []) (Some item) = Spells contents item
+SpellsOnce Spells contents item = ⊥
+
 -- what is told of these contents: that there are none, one or more
 abbrev pub IsTold : Occurrence → List (List ℕ) → Type 0
 IsTold Never contents = contents ≡ []

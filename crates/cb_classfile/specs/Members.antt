@@ -1,13 +1,12 @@
 -- Fields and methods (JVMS §4.5, §4.6, §4.7.2).
-use Rattle.std.specs.Prelude.{◌≡◌, ◌⊎◌, ◌↔◌, ℕ, ◌+◌, ◌^◌, ◌<◌, ◌≤◌, List, [], ◌∷◌, ◌++◌, Option, Some, None, IsSome, IsSomeAnd, codes}
+use Rattle.std.specs.Prelude.{◌≡◌, ◌⊎◌, ◌↔◌, ℕ, ◌+◌, ◌^◌, ◌<◌, ◌≤◌, List, ◌++◌, Some, IsSome, IsSomeAnd, codes}
 use Rattle.cb_text.specs.declared.constant.Constant.{Constant}
 use Rattle.cb_text.specs.declared.constant.Constant.TheVariants as constants
 use Rattle.cb_text.specs.Pool.{constant_at}
 use Rattle.cb_names.specs.Descriptors.{IsMethodDescriptor}
-use Rattle.cb_classfile.specs.declared.body.Body.{Body}
 use Rattle.cb_classfile.specs.declared.field.Field.{Field}
 use Rattle.cb_classfile.specs.declared.method.Method.{Method}
-use Rattle.cb_classfile.specs.Attributes.{Attribute, SpellsAttributes, contents_named}
+use Rattle.cb_classfile.specs.Attributes.{Attribute, SpellsAttributes, SpellsOnce, contents_named}
 use Rattle.cb_classfile.specs.Code.{SpellsBody}
 use Rattle.cb_classfile.specs.Flags.{acc_static, acc_native, acc_abstract, HasFlag}
 use Rattle.cb_classfile.specs.Pool.{text_at, HasText, NamesField, NamesMethod}
@@ -32,29 +31,21 @@ pub record SpellsValue (pool : List Constant) (descriptor : ℕ) (contents : Lis
   pub fits : index < 2 ^ 16
   pub value : IsSomeAnd (constant_at pool index) (λ constant. HasText pool descriptor (λ text. IsValueOf text constant))
 
--- a field's constant, by the contents of its attributes ConstantValue, of which there is at most one
-abbrev pub SpellsConstant : List Constant → ℕ → List (List ℕ) → Option ℕ → Type 0
-SpellsConstant pool descriptor [] None = Unit {0}
-SpellsConstant pool descriptor (contents ∷ []) (Some index) = SpellsValue pool descriptor contents index
-SpellsConstant pool descriptor contents constant = ⊥
+-- a field_info and a method_info begin alike: flags, a name, a descriptor and attributes (JVMS §4.5, §4.6)
+pub record SpellsMember (pool : List Constant) (flags name descriptor : ℕ) (bytes : List ℕ) (attribute_list : List Attribute) : Type 0 where
+  pub attributes : List ℕ
+  pub spelled : bytes ≡ u2 flags ++ u2 name ++ u2 descriptor ++ attributes
+  pub flags_fit : flags < 2 ^ 16
+  pub name_fits : name < 2 ^ 16
+  pub descriptor_fits : descriptor < 2 ^ 16
+  pub attributes_spelled : SpellsAttributes pool attributes attribute_list
 
 -- a field_info
 pub record SpellsField (pool : List Constant) (bytes : List ℕ) (field : Field) : Type 0 where
-  pub attributes : List ℕ
   pub attribute_list : List Attribute
-  pub spelled : bytes ≡ u2 field.flags.0 ++ u2 field.name ++ u2 field.descriptor ++ attributes
-  pub flags_fit : field.flags.0 < 2 ^ 16
-  pub name_fits : field.name < 2 ^ 16
-  pub descriptor_fits : field.descriptor < 2 ^ 16
+  pub member : SpellsMember pool field.flags.0 field.name field.descriptor bytes attribute_list
   pub named : NamesField pool field.name field.descriptor
-  pub attributes_spelled : SpellsAttributes pool attributes attribute_list
-  pub constant : SpellsConstant pool field.descriptor (contents_named pool (codes "ConstantValue") attribute_list) field.constant
-
--- a method's body, by the contents of its attributes Code, of which there is at most one
-abbrev pub SpellsCodeOf : List Constant → List (List ℕ) → Option Body → Type 0
-SpellsCodeOf pool [] None = Unit {0}
-SpellsCodeOf pool (contents ∷ []) (Some body) = SpellsBody pool contents body
-SpellsCodeOf pool contents body = ⊥
+  pub constant : SpellsOnce (SpellsValue pool field.descriptor) (contents_named pool (codes "ConstantValue") attribute_list) field.constant
 
 -- the words of the parameters and of `this`, which a static method hasn't, are at most 255 (JVMS §4.3.3)
 abbrev pub HasFewWords : ℕ → List ℕ → Type 0
@@ -82,13 +73,8 @@ pub record IsMethod (pool : List Constant) (method : Method) : Type 0 where
 
 -- a method_info
 pub record SpellsMethod (pool : List Constant) (bytes : List ℕ) (method : Method) : Type 0 where
-  pub attributes : List ℕ
   pub attribute_list : List Attribute
-  pub spelled : bytes ≡ u2 method.flags.0 ++ u2 method.name ++ u2 method.descriptor ++ attributes
-  pub flags_fit : method.flags.0 < 2 ^ 16
-  pub name_fits : method.name < 2 ^ 16
-  pub descriptor_fits : method.descriptor < 2 ^ 16
+  pub member : SpellsMember pool method.flags.0 method.name method.descriptor bytes attribute_list
   pub named : NamesMethod pool method.name method.descriptor
-  pub attributes_spelled : SpellsAttributes pool attributes attribute_list
-  pub body : SpellsCodeOf pool (contents_named pool (codes "Code") attribute_list) method.body
+  pub body : SpellsOnce (SpellsBody pool) (contents_named pool (codes "Code") attribute_list) method.body
   pub rules : IsMethod pool method

@@ -70,7 +70,7 @@ type_item types.Double = Some Double
 type_item other = None
 
 abbrev pub frame_item : MapFrame → Option Feature
-frame_item frame = first_of (map type_item (frame.locals ++ frame.stack))
+frame_item frame = first_of (map type_item frame.locals ++ map type_item frame.stack)
 
 -- the opcodes of instructions with an operand or a result of type float, and those of the others of type double
 -- (JVMS §6.5): constants, loads, stores, arithmetic, conversions, comparisons and returns
@@ -136,6 +136,5 @@ abbrev pub unsupported : ClassFile → Option Feature
 unsupported class =
     first_of (
     map (constant_item class.pool) class.pool
-    ++ map (λ field. descriptor_item_at class.pool field.descriptor) class.fields
-    ++ map (method_item class.pool) class.methods
+    ++ (map (λ field. descriptor_item_at class.pool field.descriptor) class.fields ++ map (method_item class.pool) class.methods)
     )

@@ -1,15 +1,16 @@
 // Fields (JVMS §4.5).
 ghost use Rattle.std.specs.Prelude.{◌≡◌, ℕ, IsSomeAnd, IfOk, IsOkAnd, MatchOption, IsTrue, ◌↔◌, Option as Maybe, List as Items};
-ghost use Rattle.cb_classfile.specs.Members.{SpellsConstant, SpellsValue, IsValueOf, IsNarrow};
-ghost use Rattle.cb_classfile.specs.Attributes.{IsTold};
+ghost use Rattle.cb_classfile.specs.Members.{SpellsValue, IsValueOf, IsNarrow};
+ghost use Rattle.cb_classfile.specs.Attributes.{IsTold, SpellsOnce};
 ghost use Rattle.cb_classfile.specs.Pool.{HasText};
 
 use crate::FieldFlags;
 use crate::ascii::has_text;
-use crate::attribute::{Occurrence, attributes_named};
+use crate::attribute::Occurrence;
 use crate::constants::Constants;
 use crate::fault::Fault;
-use crate::numbers::{triple_at, u2_at};
+use crate::member::member_at;
+use crate::numbers::u2_at;
 use crate::table::Entry;
 use cb_plain::List;
 use cb_text::Constant;
@@ -41,16 +42,15 @@ impl Entry for Field {
         constants: &Constants<'_>,
         bytes: &'a [u8],
     ) -> Result<(Field, &'a [u8]), Fault> {
-        let (flags, name, descriptor, rest) = triple_at(bytes)?;
-        if !constants.names_field(name, descriptor) {
+        let (member, rest) = member_at(constants, b"ConstantValue", bytes)?;
+        if !constants.names_field(member.name, member.descriptor) {
             return Err(Fault::Malformed);
         }
-        let (occurrence, rest) = attributes_named(constants, b"ConstantValue", rest)?;
-        let constant = constant_of(constants, descriptor, occurrence)?;
+        let constant = constant_of(constants, member.descriptor, member.occurrence)?;
         let field = Field {
-            flags: FieldFlags(flags),
-            name,
-            descriptor,
+            flags: FieldFlags(member.flags),
+            name: member.name,
+            descriptor: member.descriptor,
             constant,
         };
         Ok((field, rest))
@@ -64,9 +64,9 @@ fn constant_of(
     occurrence: Occurrence<'_>,
 ) -> Result<Option<u16>, Fault>
     ensures found { IfOk result (λ constant. (contents : Items (Items ℕ)) → IsTold occurrence.entry contents
-        → SpellsConstant constants.now descriptor contents constant) }
+        → SpellsOnce (SpellsValue constants.now descriptor) contents constant) }
     ensures only { (contents : Items (Items ℕ)) (constant : Maybe ℕ) → IsTold occurrence.entry contents
-        → SpellsConstant constants.now descriptor contents constant → IsOkAnd result (λ read. read ≡ constant) }
+        → SpellsOnce (SpellsValue constants.now descriptor) contents constant → IsOkAnd result (λ read. read ≡ constant) }
 {
     match occurrence {
         Occurrence::Never => Ok(None),

@@ -22,6 +22,7 @@ mod handler;
 mod interface;
 mod laws;
 mod map_type;
+mod member;
 mod method;
 mod needed;
 mod numbers;

@@ -1,17 +1,18 @@
 // Methods (JVMS §4.6).
 ghost use Rattle.std.specs.Prelude.{◌≡◌, ◌↔◌, ℕ, IfOk, IsTrue, MatchResult, Some, codes, Option as Maybe, List as Items};
-ghost use Rattle.cb_classfile.specs.Attributes.{IsTold};
+ghost use Rattle.cb_classfile.specs.Attributes.{IsTold, SpellsOnce};
+ghost use Rattle.cb_classfile.specs.Code.{SpellsBody};
 ghost use Rattle.cb_classfile.specs.Flags.{acc_abstract, HasFlag};
-ghost use Rattle.cb_classfile.specs.Members.{SpellsCodeOf, IsMethod, HasCodeWhereAsked, HasFewWords, IsInitialiser, MayBeAbstract};
+ghost use Rattle.cb_classfile.specs.Members.{IsMethod, HasCodeWhereAsked, HasFewWords, IsInitialiser, MayBeAbstract};
 ghost use Rattle.cb_classfile.specs.Pool.{HasText, text_at};
 ghost use Rattle.cb_classfile.specs.declared.body.Body.{Body as AnyBody};
 
 use crate::ascii::has_text;
-use crate::attribute::{Occurrence, attributes_named};
+use crate::attribute::Occurrence;
 use crate::body::body_of;
 use crate::constants::Constants;
 use crate::fault::Fault;
-use crate::numbers::triple_at;
+use crate::member::member_at;
 use crate::table::Entry;
 use crate::{Body, MethodFlags};
 use bitflags::Flags;
@@ -44,16 +45,15 @@ impl Entry for Method {
         constants: &Constants<'_>,
         bytes: &'a [u8],
     ) -> Result<(Method, &'a [u8]), Fault> {
-        let (flags, name, descriptor, rest) = triple_at(bytes)?;
-        if !constants.names_method(name, descriptor) {
+        let (member, rest) = member_at(constants, b"Code", bytes)?;
+        if !constants.names_method(member.name, member.descriptor) {
             return Err(Fault::Malformed);
         }
-        let (occurrence, rest) = attributes_named(constants, b"Code", rest)?;
-        let body = body_in(alloc, constants, occurrence)?;
+        let body = body_in(alloc, constants, member.occurrence)?;
         let method = Method {
-            flags: MethodFlags(flags),
-            name,
-            descriptor,
+            flags: MethodFlags(member.flags),
+            name: member.name,
+            descriptor: member.descriptor,
             body,
         };
         if !is_method(constants, &method) {
@@ -70,9 +70,9 @@ fn body_in(
     occurrence: Occurrence<'_>,
 ) -> Result<Option<Body>, Fault>
     ensures found { IfOk result (λ body. (contents : Items (Items ℕ)) → IsTold occurrence.entry contents
-        → SpellsCodeOf constants.now contents body) }
+        → SpellsOnce (SpellsBody constants.now) contents body) }
     ensures only { (contents : Items (Items ℕ)) (body : Maybe AnyBody) → IsTold occurrence.entry contents
-        → SpellsCodeOf constants.now contents body
+        → SpellsOnce (SpellsBody constants.now) contents body
         → MatchResult result (λ read. read ≡ body) (λ fault. fault ≡ Fault.OutOfMemory) }
 {
     match occurrence {

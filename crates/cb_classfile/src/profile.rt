@@ -1,8 +1,10 @@
 // What this machine leaves out of class files, in the order in which it is looked for.
-ghost use Rattle.std.specs.Prelude.{◌≡◌, ◌++◌, map, option_and_then};
+ghost use Rattle.std.specs.Prelude.{◌≡◌, ◌++◌, map, option_and_then, List as Items, Option as Maybe};
 ghost use Rattle.cb_text.specs.Pool.{constant_at};
+ghost use Rattle.cb_text.specs.declared.constant.Constant.{Constant as AnyConstant};
 ghost use Rattle.cb_classfile.specs.Pool.{text_at};
-ghost use Rattle.cb_classfile.specs.Profile.{first_of, feature_of, is_float, is_double, opcode_item, operand_item, insn_item, type_item, frame_item, body_items, class_item, constant_item, descriptor_item_at, is_finalizer, method_item, unsupported};
+ghost use Rattle.cb_classfile.specs.Profile.{first_of, feature_of, is_float, is_double, opcode_item, operand_item, body_items, class_item, constant_item, descriptor_item_at, is_finalizer, method_item, unsupported};
+ghost use Rattle.cb_classfile.specs.declared.feature.Feature.{Feature as AnyFeature};
 
 use crate::ascii::has_text;
 use crate::constants::Constants;
@@ -27,20 +29,107 @@ pub(crate) fn unsupported(constants: &Constants<'_>, class: &ClassFile) -> Optio
     requires { class.now.pool ≡ constants.now }
     ensures { result ≡ unsupported class.now }
 {
-    match item_outside_methods(constants, class) {
+    let fields = class.fields.as_slice();
+    let methods = class.methods.as_slice();
+    match constants_item(constants) {
         Some(item) => Some(item),
-        None => methods_item(constants, class.methods.as_slice()),
+        None => first_item_of_both(constants, fields, methods),
     }
 }
 
-/// The first item of the constants and the fields.
-fn item_outside_methods(constants: &Constants<'_>, class: &ClassFile) -> Option<Feature>
-    ensures { result ≡ first_of (map (constant_item constants.now) constants.now
-        ++ map (λ field. descriptor_item_at constants.now field.descriptor) class.now.fields) }
+/// What may have items that this machine leaves out.
+trait Part {
+    /// Its first item, where the pool has these constants.
+    ghost item: { Items AnyConstant → Self → Maybe AnyFeature };
+
+    /// Its first item, if it has one.
+    fn item(&self, constants: &Constants<'_>) -> Option<Feature>
+        ensures { result ≡ item constants.now self.now };
+}
+
+/// The first item of the parts, in order.
+fn first_item<T: Part>(constants: &Constants<'_>, parts: &[T]) -> Option<Feature>
+    ensures { result ≡ first_of (map (T.item constants.now) parts.now) }
 {
-    match constants_item(constants) {
+    for part in parts {
+        let item = part.item(constants);
+        if item.is_some() {
+            return item;
+        }
+    }
+    None
+}
+
+/// The first item of the parts of one list, and then of another.
+fn first_item_of_both<T: Part, U: Part>(
+    constants: &Constants<'_>,
+    front: &[T],
+    back: &[U],
+) -> Option<Feature>
+    ensures { result ≡ first_of (map (T.item constants.now) front.now ++ map (U.item constants.now) back.now) }
+{
+    match first_item(constants, front) {
         Some(item) => Some(item),
-        None => fields_item(constants, class.fields.as_slice()),
+        None => first_item(constants, back),
+    }
+}
+
+/// The first floating-point type of its descriptor.
+impl Part for Field {
+    ghost use Rattle.cb_classfile.specs.Profile.{descriptor_item_at};
+
+    ghost item = { λ pool field. descriptor_item_at pool field.descriptor };
+
+    fn item(&self, constants: &Constants<'_>) -> Option<Feature> {
+        descriptor_item(constants, self.descriptor)
+    }
+}
+
+/// The first item of its flags, its name, its descriptor and its body.
+impl Part for Method {
+    ghost use Rattle.cb_classfile.specs.Profile.{method_item};
+
+    ghost item = { method_item };
+
+    fn item(&self, constants: &Constants<'_>) -> Option<Feature> {
+        method_item(constants, self)
+    }
+}
+
+/// The first item of its locals, and then of its stack.
+impl Part for MapFrame {
+    ghost use Rattle.cb_classfile.specs.Profile.{frame_item};
+
+    ghost item = { λ _ frame. frame_item frame };
+
+    fn item(&self, constants: &Constants<'_>) -> Option<Feature> {
+        first_item_of_both(constants, self.locals.as_slice(), self.stack.as_slice())
+    }
+}
+
+/// The item of a floating-point type.
+impl Part for MapType {
+    ghost use Rattle.cb_classfile.specs.Profile.{type_item};
+
+    ghost item = { λ _ kind. type_item kind };
+
+    fn item(&self, _: &Constants<'_>) -> Option<Feature> {
+        match self {
+            MapType::Float => Some(Feature::Float),
+            MapType::Double => Some(Feature::Double),
+            _ => None,
+        }
+    }
+}
+
+/// The item of the opcode, or else of the operand, of an instruction with its place.
+impl Part for (u32, Insn) {
+    ghost use Rattle.cb_classfile.specs.Profile.{insn_item};
+
+    ghost item = { λ _ placed. insn_item placed.1 };
+
+    fn item(&self, _: &Constants<'_>) -> Option<Feature> {
+        opcode_item(self.1.opcode).or_else(|| operand_item(&self.1.operand))
     }
 }
 
@@ -111,33 +200,7 @@ fn feature_of(floating: Floating) -> Feature
     }
 }
 
-/// The first item of the fields' descriptors.
-fn fields_item(constants: &Constants<'_>, fields: &[Field]) -> Option<Feature>
-    ensures { result ≡ first_of (map (λ field. descriptor_item_at constants.now field.descriptor) fields.now) }
-{
-    for field in fields {
-        let item = descriptor_item(constants, field.descriptor);
-        if item.is_some() {
-            return item;
-        }
-    }
-    None
-}
-
-/// The first item of the methods.
-fn methods_item(constants: &Constants<'_>, methods: &[Method]) -> Option<Feature>
-    ensures { result ≡ first_of (map (method_item constants.now) methods.now) }
-{
-    for method in methods {
-        let item = method_item(constants, method);
-        if item.is_some() {
-            return item;
-        }
-    }
-    None
-}
-
-/// The first item of a method: of its flags, its name, its descriptor and its body.
+/// The first item of a method.
 fn method_item(constants: &Constants<'_>, method: &Method) -> Option<Feature>
     ensures { result ≡ method_item constants.now method.now }
 {
@@ -150,7 +213,10 @@ fn method_item(constants: &Constants<'_>, method: &Method) -> Option<Feature>
     if is_finalizer(constants, method) {
         return Some(Feature::Finalize);
     }
-    descriptor_item(constants, method.descriptor).or_else(|| body_item(&method.body))
+    match descriptor_item(constants, method.descriptor) {
+        Some(item) => Some(item),
+        None => body_item(constants, &method.body),
+    }
 }
 
 /// Whether the method is named `finalize`, and takes and gives nothing.
@@ -161,77 +227,11 @@ fn is_finalizer(constants: &Constants<'_>, method: &Method) -> bool
 }
 
 /// The first item of a body: of its frames, and of its instructions by place.
-#[tactic(auto, using(crate::proofs::First::first_of_both))]
-fn body_item(body: &Option<Body>) -> Option<Feature>
+fn body_item(constants: &Constants<'_>, body: &Option<Body>) -> Option<Feature>
     ensures { result ≡ first_of (body_items body.now) }
 {
     let body = body.as_ref()?;
-    frames_item(body.frames.as_slice()).or_else(|| code_item(body.code.as_slice()))
-}
-
-/// The first item of the frames.
-fn frames_item(frames: &[MapFrame]) -> Option<Feature>
-    ensures { result ≡ first_of (map frame_item frames.now) }
-{
-    for frame in frames {
-        let item = frame_item(frame);
-        if item.is_some() {
-            return item;
-        }
-    }
-    None
-}
-
-/// The first item of a frame: of its locals, and of its stack.
-#[tactic(auto, using(crate::proofs::First::first_of_each))]
-fn frame_item(frame: &MapFrame) -> Option<Feature>
-    ensures { result ≡ frame_item frame.now }
-{
-    types_item(frame.locals.as_slice()).or_else(|| types_item(frame.stack.as_slice()))
-}
-
-/// The first item of the types.
-fn types_item(types: &[MapType]) -> Option<Feature>
-    ensures { result ≡ first_of (map type_item types.now) }
-{
-    for kind in types {
-        let item = type_item(*kind);
-        if item.is_some() {
-            return item;
-        }
-    }
-    None
-}
-
-/// The item of a type.
-fn type_item(kind: MapType) -> Option<Feature>
-    ensures { result ≡ type_item kind }
-{
-    match kind {
-        MapType::Float => Some(Feature::Float),
-        MapType::Double => Some(Feature::Double),
-        _ => None,
-    }
-}
-
-/// The first item of the instructions.
-fn code_item(code: &[(u32, Insn)]) -> Option<Feature>
-    ensures { result ≡ first_of (map (λ placed. insn_item placed.1) code.now) }
-{
-    for placed in code {
-        let item = insn_item(&placed.1);
-        if item.is_some() {
-            return item;
-        }
-    }
-    None
-}
-
-/// The item of an instruction.
-fn insn_item(insn: &Insn) -> Option<Feature>
-    ensures { result ≡ insn_item insn.now }
-{
-    opcode_item(insn.opcode).or_else(|| operand_item(&insn.operand))
+    first_item_of_both(constants, body.frames.as_slice(), body.code.as_slice())
 }
 
 /// The item of an opcode: a floating-point type, a subroutine, `invokedynamic` or a monitor.

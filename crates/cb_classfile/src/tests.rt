@@ -128,6 +128,7 @@ fn classes_keep_the_rules_on_their_tables(rt: HostRuntime) -> Result<(), Fail> {
         this_class of index 0                  | 0021 0000 0004 () () () ()                   | malformed
         this_class of an array                 | 0021 0018 0004 () () () ()                   | malformed
         a superinterface                       | 0021 0002 0004 (0020) () () ()               | read
+        one that stands twice                  | 0021 0002 0004 (0020, 0020) () () ()         | read
         an array as superinterface             | 0021 0002 0004 (0018) () () ()               | malformed
         a superinterface that is no Class      | 0021 0002 0004 (0001) () () ()               | malformed
         an interface                           | 0600 0002 0004 () (0019 0005 000A ()) () ()  | read
@@ -280,6 +281,7 @@ fn frames_have_kinds_and_types(rt: HostRuntime) -> Result<(), Fail> {
         full                                 | FF 0000 (01) (01)                                 | read
         full without a stack                 | FF 0000 (01)                                      | malformed
         a delta that is cut                  | FB 00                                             | malformed
+        a place past the end of the code     | FB FFFF                                           | read
         each tag but those of floating point | FF 0000 (00, 01, 04, 05, 06, 07 0002, 08 0000) () | read
         the type of an array                 | 40 07 0018                                        | read
         an Object of no Class                | 40 07 0001                                        | malformed
@@ -370,6 +372,43 @@ fn direct_calls_of_interface_methods_come_with_version_52(rt: HostRuntime) -> Re
         let bytes = spelled(rt.alloc(), &[version, POOL, INSNS.0, insn, INSNS.1])?;
         let found = answer(rt.alloc(), &bytes)?;
         assert_eq!(rt; found.as_str(), want, "{insn} at {version}");
+    }
+    Ok(())
+}
+
+#[test]
+fn what_the_verifier_looks_at_is_read(rt: HostRuntime) -> Result<(), Fail> {
+    let constructor = "0001 0015 002D (0007 {0000 0001 {B1} () ()})";
+    for (constants, around, part, what) in [
+        (
+            "01 '()I'",
+            METHODS,
+            constructor,
+            "a constructor that gives an int",
+        ),
+        (
+            "01 '255*[I', 07 002D",
+            INSNS,
+            "BD 002E",
+            "anewarray of 255 dimensions",
+        ),
+        (
+            "0C 0015 0006, 0A 0002 002D",
+            INSNS,
+            "B6 002E",
+            "invokevirtual of a constructor",
+        ),
+        (
+            "0C 0005 0026, 0A 0002 002D",
+            INSNS,
+            "B6 002E",
+            "invokevirtual of 255 words",
+        ),
+    ] {
+        let file = [SE_8, POOL, ",", constants, around.0, part, around.1];
+        let bytes = spelled(rt.alloc(), &file)?;
+        let found = answer(rt.alloc(), &bytes)?;
+        assert_eq!(rt; found.as_str(), "read", "{what}");
     }
     Ok(())
 }
