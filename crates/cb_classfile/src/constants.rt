@@ -62,8 +62,8 @@ impl<'a> Constants<'a> {
     pub(crate) fn text(&self, index: u16) -> Option<&'a [u16]>
         ensures { MatchOption result (text_at self.now index ≡ None) (λ text. text_at self.now index ≡ Some text.now) }
     {
-        match self.pool.get(index)? {
-            Constant::Utf8(units) => Some(units.as_slice()),
+        match self.pool.get(index) {
+            Some(Constant::Utf8(units)) => Some(units.as_slice()),
             _ => None,
         }
     }
@@ -72,8 +72,8 @@ impl<'a> Constants<'a> {
     pub(crate) fn class(&self, index: u16) -> Option<&'a [u16]>
         ensures { MatchOption result (class_at self.now index ≡ None) (λ name. class_at self.now index ≡ Some name.now) }
     {
-        match self.pool.get(index)? {
-            Constant::Class(name) => self.text(*name),
+        match self.pool.get(index) {
+            Some(Constant::Class(name)) => self.text(*name),
             _ => None,
         }
     }
