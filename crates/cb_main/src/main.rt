@@ -1,10 +1,13 @@
 //! The program `cbvm`: the real folder, input and outputs, handed to the top call.
 #![tactic(auto)]
 
-ghost use Rattle.std.specs.Prelude.{◌≡◌, ◌≢◌, ◌↔◌, List, ℕ, drop, map, string_bytes};
+ghost use Rattle.std.specs.Prelude.{◌≡◌, ◌≢◌, ◌↔◌, List, ℕ, drop, map, string_bytes, IfSome};
+ghost use Rattle.std.specs.Io.KnownBytes.{Appends};
 ghost use Rattle.std.specs.Process.{exit_status};
 ghost use Rattle.cb_io.specs.Faults.{CountsFaults};
-ghost use Rattle.cb_runner.specs.Answer.{status_of};
+ghost use Rattle.cb_machine.specs.Expression.{Expression};
+ghost use Rattle.cb_machine.specs.Printing.{printed};
+ghost use Rattle.cb_runner.specs.Answer.{IsCutShort, NamesProgram, status_of};
 ghost use Rattle.cb_runner.specs.Words.{IsRun};
 ghost use Rattle.cb_runner.specs.declared.cause.Cause.{Cause};
 
@@ -79,8 +82,14 @@ fn exit_code<F: Folder, S: Source, O: Sink, E: Sink>(
     out: &mut O,
     err: &mut E,
 ) -> ExitCode
-    ensures status { (cause : Cause) × (exit_status result ≡ status_of cause) }
+    ensures status { (cause : Cause) × (exit_status result ≡ status_of cause)
+        × IfSome (F.files folder.old) (λ files. (cause ≡ Cause.Returned)
+        ↔ (((program : List Expression) × NamesProgram (map string_bytes words.now) files program)
+        × ¬ IsCutShort cause)) }
     ensures usage { (exit_status result ≡ 120) ↔ ((name : List ℕ) → IsRun name (map string_bytes words.now) → ⊥) }
+    ensures printed { IfSome (F.files folder.old) (λ files. (program : List Expression)
+        → NamesProgram (map string_bytes words.now) files program → exit_status result ≡ 0
+        → Appends (O.taken out.old) (O.taken out.new) (printed program)) }
     ensures folder_fault { CountsFaults (F.faults folder.old) (F.faults folder.new) (exit_status result ≡ 124) }
     ensures output_fault { CountsFaults (O.faults out.old) (O.faults out.new) (exit_status result ≡ 126) }
     ensures err_kept { (E.taken err.new ≡ E.taken err.old) × (E.faults err.new ≡ E.faults err.old) }
