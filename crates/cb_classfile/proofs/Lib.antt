@@ -1,19 +1,27 @@
 pub mod Answering
+pub mod Blocks
 pub mod Bodies
+pub mod BodyParts
+pub mod ClassParts
 pub mod Classes
 mod Distinct
 mod Facts
+pub mod Failing
 pub mod Finding
 mod First
 pub mod Framing
 pub mod Fronts
 mod Indices
+pub mod HandlerParts
+pub mod MemberParts
 pub mod Members
 mod Numbering
-mod OneBody
-mod OneClass
-mod OneFrame
-mod OneItem
-mod OneMember
+pub mod OneBody
+pub mod OneClass
+pub mod OneFrame
+pub mod OneItem
+pub mod OneMember
+pub mod Pairs
+pub mod Sequence
 pub mod Tabling
 pub mod Words

@@ -6,41 +6,9 @@ use Rattle.cb_classfile.specs.declared.frame_form.FrameForm.TheVariants as forms
 use Rattle.cb_classfile.specs.declared.frame_map.MapFrame.{MapFrame}
 use Rattle.cb_classfile.specs.declared.map_type.MapType.{MapType}
 use Rattle.cb_classfile.specs.declared.map_type.MapType.TheVariants.{Top, Integer, Float, Double, Long, Null, UninitializedThis, Object, Uninitialized}
-use Rattle.cb_classfile.specs.FrameMap.{SpellsType, SpellsDelta, SpellsLocals, SpellsStack, SpellsFrame, SpellsFrames, form_of_frame}
-use Rattle.cb_classfile.specs.Tables.{u2}
-use Rattle.cb_classfile.proofs.Framing.{Parts, parted, frame_same}
-use Rattle.cb_classfile.proofs.OneItem.{IsExact, one_front, one_whole, respelled, one_u2, exact_u2, exact_empty, exact_count, exact_table}
-
--- the tag of a type
-tag_of : MapType → ℕ
-tag_of Top = 0
-tag_of Integer = 1
-tag_of Float = 2
-tag_of Double = 3
-tag_of Long = 4
-tag_of Null = 5
-tag_of UninitializedThis = 6
-tag_of (Object class) = 7
-tag_of (Uninitialized place) = 8
-
--- the bytes behind the tag
-behind_tag : MapType → List ℕ
-behind_tag (Object class) = u2 class
-behind_tag (Uninitialized place) = u2 place
-behind_tag other = []
-
--- a type is spelled by these
-type_spelled : (pool : List Constant) (bytes : List ℕ) (type : MapType) → SpellsType pool bytes type → bytes ≡ tag_of type ∷ behind_tag type
-unfolding tag_of behind_tag
-type_spelled pool bytes (Object class) spelled = spelled.2
-type_spelled pool bytes (Uninitialized place) spelled = spelled.1
-type_spelled pool bytes Top spelled = spelled
-type_spelled pool bytes Integer spelled = spelled
-type_spelled pool bytes Float spelled = spelled
-type_spelled pool bytes Double spelled = spelled
-type_spelled pool bytes Long spelled = spelled
-type_spelled pool bytes Null spelled = spelled
-type_spelled pool bytes UninitializedThis spelled = spelled
+use Rattle.cb_classfile.specs.FrameMap.{SpellsType, SpellsDelta, SpellsLocals, SpellsStack, SpellsFormed, SpellsFrame, SpellsFrames, form_of_frame}
+use Rattle.cb_classfile.proofs.Framing.{frame_same, tag_of, behind_tag, type_spelled}
+use Rattle.cb_classfile.proofs.OneItem.{IsExact, one_whole, respelled, one_u2, exact_u1, exact_u2, exact_empty, exact_count, exact_then, exact_table}
 
 -- of two types of one tag, both are one
 tagged_same : (pool : List Constant) (one other : MapType) (first second rest behind : List ℕ) → SpellsType pool first one → SpellsType pool second other → tag_of one ≡ tag_of other → behind_tag one ++ rest ≡ behind_tag other ++ behind → (one ≡ other) × (rest ≡ behind)
@@ -61,7 +29,7 @@ tagged_same pool (Uninitialized place) (Uninitialized other) first second rest b
 tagged_same pool one other first second rest behind spelled spelled_too tags same = absurd (omega (arith, tags))
 
 -- at most one type stands at the front
-exact_type : (pool : List Constant) → IsExact (SpellsType pool)
+pub exact_type : (pool : List Constant) → IsExact (SpellsType pool)
 exact_type pool = record {
   same = λ one other first second rest behind spelled spelled_too same.
       let alike : tag_of one ∷ (behind_tag one ++ rest) ≡ tag_of other ∷ (behind_tag other ++ behind) = respelled rest behind (type_spelled pool first one spelled) (type_spelled pool second other spelled_too) same in
@@ -71,7 +39,7 @@ exact_type pool = record {
 }
 
 -- the delta of a frame of a form and kind
-exact_delta : (form : FrameForm) (kind : ℕ) → IsExact (SpellsDelta form kind)
+pub exact_delta : (form : FrameForm) (kind : ℕ) → IsExact (SpellsDelta form kind)
 exact_delta forms.Same kind = exact_empty (λ delta. delta ≡ kind) (λ one other is is_too. is ∙ sym is_too)
 exact_delta forms.SameOneItem kind = exact_empty (λ delta. delta + 64 ≡ kind) (λ one other is is_too. omega (arith, is, is_too))
 exact_delta forms.Reserved kind = record { same = λ one other first second rest behind spelled spelled_too same. absurd spelled }
@@ -82,35 +50,27 @@ exact_none : IsExact (λ (bytes : List ℕ) (types : List MapType). (types ≡ [
 exact_none = exact_empty (λ types. types ≡ []) (λ one other none none_too. none ∙ sym none_too)
 
 -- its locals
-exact_locals : (pool : List Constant) (form : FrameForm) (kind : ℕ) → IsExact (SpellsLocals pool form kind)
+pub exact_locals : (pool : List Constant) (form : FrameForm) (kind : ℕ) → IsExact (SpellsLocals pool form kind)
 exact_locals pool forms.Append kind = exact_count (kind - 251) (exact_type pool)
 exact_locals pool forms.Full kind = exact_table (exact_type pool)
 exact_locals pool form kind = exact_none
 
 -- its stack
-exact_stack : (pool : List Constant) (form : FrameForm) → IsExact (SpellsStack pool form)
+pub exact_stack : (pool : List Constant) (form : FrameForm) → IsExact (SpellsStack pool form)
 exact_stack pool forms.SameOneItem = exact_count 1 (exact_type pool)
 exact_stack pool forms.SameOneItemExtended = exact_count 1 (exact_type pool)
 exact_stack pool forms.Full = exact_table (exact_type pool)
 exact_stack pool form = exact_none
 
--- of two frames by their parts, both are one
-parts_same : (pool : List Constant) (bytes : List ℕ) (one other : MapFrame) (rest behind : List ℕ) → Parts pool one bytes rest → Parts pool other bytes behind → (one ≡ other) × (rest ≡ behind)
-parts_same pool bytes one other rest behind parts parts_too =
-    let cells : one.kind ∷ parts.behind_kind ≡ other.kind ∷ parts_too.behind_kind = sym parts.kind ∙ parts_too.kind in
-    let kind : one.kind ≡ other.kind = cc in
-    let left : parts.behind_kind ≡ parts_too.behind_kind = cc in
-    let form = form_of_frame other.kind in
-    let delta = one_front (exact_delta form other.kind) left (rw kind at parts.delta) parts_too.delta in
-    let locals = one_front (exact_locals pool form other.kind) delta.1 (rw kind at parts.locals) parts_too.locals in
-    let stack = one_front (exact_stack pool form) locals.1 (rw kind at parts.stack) parts_too.stack in
-    (frame_same one.kind one.delta one.locals one.stack other kind delta.0 locals.0 stack.0, stack.1)
-
 -- at most one frame stands at the front
-exact_frame : (pool : List Constant) → IsExact (SpellsFrame pool)
+exact_formed : (pool : List Constant) (form : FrameForm) (kind : ℕ) → IsExact (SpellsFormed pool form kind)
+exact_formed pool form kind = exact_then (exact_delta form kind) (λ delta. exact_then (exact_locals pool form kind) (λ locals. exact_stack pool form))
+
+pub exact_frame : (pool : List Constant) → IsExact (SpellsFrame pool)
 exact_frame pool = record {
   same = λ one other first second rest behind spelled spelled_too same.
-      parts_same pool (first ++ rest) one other rest behind (parted pool (first ++ rest) one rest (first, spelled, refl)) (parted pool (first ++ rest) other behind (second, spelled_too, same));
+      let parts = (exact_then exact_u1 (λ kind. exact_formed pool (form_of_frame kind) kind)).same _ _ _ _ _ _ spelled spelled_too same in
+      (frame_same one.kind one.delta one.locals one.stack other (ap (λ p. p.0) parts.0) (ap (λ p. p.1.0) parts.0) (ap (λ p. p.1.1.0) parts.0) (ap (λ p. p.1.1.1) parts.0), parts.1);
 }
 
 -- the contents of attributes StackMapTable tell at most one list of frames

@@ -1,12 +1,13 @@
 -- At most one item of a kind stands at the front of some bytes.
-use Rattle.std.proofs.Common.{◌≡◌, ℕ, ◌^◌, ◌<◌, List, [], ◌∷◌, ◌++◌, length, take, Option, Some, None, refl, sym, ◌∙◌, ap, arith, append_assoc}
+use Rattle.std.proofs.Common.{◌≡◌, ℕ, ◌^◌, ◌<◌, List, [], ◌∷◌, ◌++◌, length, take, Option, Some, None, refl, sym, ◌∙◌, ap, subst, arith, append_assoc}
 use Rattle.std.specs.Int.{Width, w16, w32, to_be_bytes}
 use Rattle.std.proofs.Math.Seq.{take-append_seam}
 use Rattle.std.proofs.lemmas.List.{append_cancel_left}
 use Rattle.std.proofs.lemmas.Option.{same_Some}
-use Rattle.cb_text.proofs.BigEndian.{IsWidth, width_16, width_32, number_again}
+use Rattle.cb_text.proofs.Laws.{IsWidth, width_16, width_32, number_again}
 use Rattle.cb_classfile.specs.Attributes.{SpellsOnce}
-use Rattle.cb_classfile.specs.Tables.{u2, u4, SpellsEach, SpellsCount, SpellsTable, BeginsWith}
+use Rattle.cb_classfile.specs.Reading.{IsFront, IsWhole}
+use Rattle.cb_classfile.specs.Tables.{u2, u4, SpellsBlock, SpellsU1, SpellsU2, SpellsPair, SpellsTriple, SpellsEach, SpellsCount, SpellsTable, BeginsWith, ThenOf}
 
 -- of two items at the front of the same bytes, both are one
 pub record IsExact {Item : Type 0} (Spells : List ℕ → Item → Type 0) : Type 0 where
@@ -19,6 +20,13 @@ one_front exact same (first, spelled, split) (second, spelled_too, split_too) = 
 -- so whole bytes spell at most one
 pub one_whole : {Item : Type 0} {Spells : List ℕ → Item → Type 0} {bytes : List ℕ} {one other : Item} → IsExact Spells → Spells bytes one → Spells bytes other → one ≡ other
 one_whole exact spelled spelled_too = (exact.same _ _ _ _ [] [] spelled spelled_too refl).0
+
+-- so what is found is all that stands there
+pub front : {Item : Type 0} {Spells : List ℕ → Item → Type 0} {bytes : List ℕ} {item : Item} {rest : List ℕ} → IsExact Spells → BeginsWith Spells bytes item rest → IsFront Spells bytes item rest
+front exact begins = record { found = begins; only = λ other behind too. one_front exact refl begins too }
+
+pub whole : {Item : Type 0} {Spells : List ℕ → Item → Type 0} {bytes : List ℕ} {item : Item} → IsExact Spells → Spells bytes item → IsWhole Spells bytes item
+whole exact spelled = record { found = spelled; only = λ other too. one_whole exact spelled too }
 
 -- the same bytes in other words
 pub respelled : {first front second start : List ℕ} (rest behind : List ℕ) → first ≡ front → second ≡ start → first ++ rest ≡ second ++ behind → front ++ rest ≡ start ++ behind
@@ -36,13 +44,45 @@ one_number w limit {one} {other} {rest} {behind} width fits fits_too same =
 pub one_u2 : {one other : ℕ} {rest behind : List ℕ} → one < 2 ^ 16 → other < 2 ^ 16 → u2 one ++ rest ≡ u2 other ++ behind → (one ≡ other) × (rest ≡ behind)
 one_u2 fits fits_too same = one_number w16 (2 ^ 16) width_16 fits fits_too same
 
--- and so of three numbers, one behind the other
-pub one_head : {first second third one two three : ℕ} {rest behind : List ℕ} → (first < 2 ^ 16) × (second < 2 ^ 16) × (third < 2 ^ 16) → (one < 2 ^ 16) × (two < 2 ^ 16) × (three < 2 ^ 16) → u2 first ++ (u2 second ++ (u2 third ++ rest)) ≡ u2 one ++ (u2 two ++ (u2 three ++ behind)) → (first ≡ one) × (second ≡ two) × (third ≡ three) × (rest ≡ behind)
-one_head fit fit_too same =
-    let left = one_u2 fit.0 fit_too.0 same in
-    let middle = one_u2 fit.1 fit_too.1 left.1 in
-    let right = one_u2 fit.2 fit_too.2 middle.1 in
-    (left.0, middle.0, right.0, right.1)
+-- a number of one byte and one of two are exact
+pub exact_u1 : IsExact SpellsU1
+exact_u1 = record {
+  same = λ one other first second rest behind spelled spelled_too same.
+      let cells : one ∷ rest ≡ other ∷ behind = respelled rest behind spelled spelled_too same in
+      let number : one ≡ other = cc in
+      let left : rest ≡ behind = cc in
+      (number, left);
+}
+
+pub exact_u2 : IsExact SpellsU2
+exact_u2 = record {
+  same = λ one other first second rest behind spelled spelled_too same.
+      one_u2 spelled.0 spelled_too.0 (respelled rest behind spelled.1 spelled_too.1 same);
+}
+
+-- and so are two and three numbers
+pub pair_same : (one two : ℕ) (other : ℕ × ℕ) → one ≡ other.0 → two ≡ other.1 → (one, two) ≡ other
+pair_same one two other first second = rw (first, second) refl
+
+triple_same : (one two three : ℕ) (other : ℕ × ℕ × ℕ) → one ≡ other.0 → two ≡ other.1 → three ≡ other.2 → (one, two, three) ≡ other
+triple_same one two three other first second third = rw (first, second, third) refl
+
+pub exact_pair : IsExact SpellsPair
+exact_pair = record {
+  same = λ one other first second rest behind spelled spelled_too same.
+      let left = one_u2 {rest = u2 one.1 ++ rest} {behind = u2 other.1 ++ behind} spelled.0 spelled_too.0 (respelled rest behind spelled.2 spelled_too.2 same) in
+      let right = one_u2 spelled.1 spelled_too.1 left.1 in
+      (pair_same one.0 one.1 other left.0 right.0, right.1);
+}
+
+pub exact_triple : IsExact SpellsTriple
+exact_triple = record {
+  same = λ one other first second rest behind spelled spelled_too same.
+      let left = one_u2 {rest = u2 one.1 ++ (u2 one.2 ++ rest)} {behind = u2 other.1 ++ (u2 other.2 ++ behind)} spelled.0 spelled_too.0 (respelled rest behind spelled.3 spelled_too.3 same) in
+      let middle = one_u2 {rest = u2 one.2 ++ rest} {behind = u2 other.2 ++ behind} spelled.1 spelled_too.1 left.1 in
+      let right = one_u2 spelled.2 spelled_too.2 middle.1 in
+      (triple_same one.0 one.1 one.2 other left.0 middle.0 right.0, right.1);
+}
 
 -- at most one list of a length stands at the front
 pub one_list : {one other rest behind : List ℕ} → length one ≡ length other → one ++ rest ≡ other ++ behind → (one ≡ other) × (rest ≡ behind)
@@ -56,11 +96,11 @@ one_block fits fits_too same =
     let long = one_number w32 (2 ^ 32) width_32 fits fits_too same in
     one_list long.0 long.1
 
--- a number of two bytes is exact
-pub exact_u2 : IsExact (λ bytes number. (number < 2 ^ 16) × (bytes ≡ u2 number))
-exact_u2 = record {
+-- bytes behind their number are exact
+pub exact_block : IsExact SpellsBlock
+exact_block = record {
   same = λ one other first second rest behind spelled spelled_too same.
-      one_u2 spelled.0 spelled_too.0 (respelled rest behind spelled.1 spelled_too.1 same);
+      one_block spelled.0 spelled_too.0 (respelled rest behind spelled.1 spelled_too.1 same);
 }
 
 -- what has no bytes is exact, where one alone is so
@@ -108,3 +148,18 @@ pub one_once : {Item : Type 0} (Spells : List ℕ → Item → Type 0) (contents
 one_once Spells [] None None alone spelled spelled_too = refl
 one_once Spells (contents ∷ []) (Some one) (Some other) alone spelled spelled_too = ap Some (alone contents one other spelled spelled_too)
 one_once Spells contents one other alone spelled spelled_too = absurd assumption
+
+-- of a pair whose parts are those of another, both are one
+both_same : {Item Next : Type 0} (item : Item) (next : Next) (other : Item × Next) → item ≡ other.0 → next ≡ other.1 → (item, next) ≡ other
+both_same item next other first second = λ i. (first i, second i)
+
+-- an exact item and one behind it that is exact too are exact
+pub exact_then : {Item Next : Type 0} {Spells : List ℕ → Item → Type 0} {Behind : Item → List ℕ → Next → Type 0} → IsExact Spells → ((item : Item) → IsExact (Behind item)) → IsExact (ThenOf Spells Behind)
+exact_then {Item} {Next} {Spells} {Behind} exact exact_behind = record {
+  same = λ one other first second rest behind spelled spelled_too same.
+      let split = sym (append_assoc spelled.first spelled.second rest) ∙ respelled rest behind spelled.spelled spelled_too.spelled same ∙ append_assoc spelled_too.first spelled_too.second behind in
+      let head = exact.same _ _ _ _ _ _ spelled.here spelled_too.here split in
+      let moved : Behind other.0 spelled.second one.1 = subst (λ item. Behind item spelled.second one.1) head.0 spelled.behind in
+      let tail = (exact_behind other.0).same _ _ _ _ _ _ moved spelled_too.behind head.1 in
+      (both_same one.0 one.1 other head.0 tail.0, tail.1);
+}

@@ -1,8 +1,10 @@
--- What an answer of the reader rests on.
+-- What an answer of the readers rests on.
 use Rattle.std.specs.Prelude.{◌≡◌, ℕ, List, Some}
 use Rattle.cb_classfile.specs.declared.class.ClassFile.{ClassFile}
 use Rattle.cb_classfile.specs.declared.fault.ClassFault.{ClassFault}
 use Rattle.cb_classfile.specs.declared.fault.ClassFault.TheVariants.{BadVersion, Malformed, Unsupported, OutOfMemory}
+use Rattle.cb_classfile.specs.declared.fault.ReadFault.{ReadFault}
+use Rattle.cb_classfile.specs.declared.fault.ReadFault.TheVariants as unread
 use Rattle.cb_classfile.specs.Class.{HasVersion, IsAccepted, SpellsClass}
 use Rattle.cb_classfile.specs.Profile.{unsupported}
 
@@ -19,14 +21,15 @@ HasNoOtherVersion bytes = (major : ℕ) → HasVersion bytes major → IsAccepte
 abbrev pub SpellsNone : List ℕ → Type 0
 SpellsNone bytes = (class : ClassFile) → ¬ SpellsClass bytes class
 
-abbrev pub Stands : List ℕ → ClassFault → Type 0
-Stands bytes (BadVersion major) = HasVersion bytes major × (¬ IsAccepted major)
-Stands bytes Malformed = SpellsNone bytes × HasNoOtherVersion bytes
-Stands bytes (Unsupported item) = (class : ClassFile) × IsAcceptedClass bytes class × (unsupported class ≡ Some item)
-Stands bytes OutOfMemory = HasNoOtherVersion bytes
+-- why no class was read stands in the bytes
+abbrev pub StandsUnread : List ℕ → ReadFault → Type 0
+StandsUnread bytes (unread.BadVersion major) = HasVersion bytes major × (¬ IsAccepted major)
+StandsUnread bytes unread.Malformed = SpellsNone bytes × HasNoOtherVersion bytes
+StandsUnread bytes unread.OutOfMemory = HasNoOtherVersion bytes
 
--- the answer for an accepted class: its first item that is left out, or want of memory
-abbrev pub IsRefusal : ClassFile → ClassFault → Type 0
-IsRefusal class (Unsupported item) = unsupported class ≡ Some item
-IsRefusal class OutOfMemory = Unit {0}
-IsRefusal class fault = ⊥
+-- and why no class that this machine takes was
+abbrev pub Stands : List ℕ → ClassFault → Type 0
+Stands bytes (BadVersion major) = StandsUnread bytes (unread.BadVersion major)
+Stands bytes Malformed = StandsUnread bytes unread.Malformed
+Stands bytes (Unsupported item) = (class : ClassFile) × IsAcceptedClass bytes class × (unsupported class ≡ Some item)
+Stands bytes OutOfMemory = StandsUnread bytes unread.OutOfMemory

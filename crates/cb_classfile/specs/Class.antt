@@ -5,20 +5,26 @@ use Rattle.cb_text.specs.declared.constant.Constant.{Constant}
 use Rattle.cb_text.specs.Pool.{SpellsPool}
 use Rattle.cb_names.specs.Names.{IsClassName}
 use Rattle.cb_classfile.specs.declared.class.ClassFile.{ClassFile}
+use Rattle.cb_classfile.specs.declared.field.Field.{Field}
+use Rattle.cb_classfile.specs.declared.method.Method.{Method}
 use Rattle.cb_classfile.specs.Attributes.{Attribute, SpellsAttributes}
-use Rattle.cb_classfile.specs.Code.{CallsClasses}
+use Rattle.cb_classfile.specs.Needed.{CallsClasses}
 use Rattle.cb_classfile.specs.Flags.{acc_static, acc_interface, acc_abstract, HasFlag}
 use Rattle.cb_classfile.specs.Members.{SpellsField, SpellsMethod}
 use Rattle.cb_classfile.specs.Pool.{text_at, class_at, HasClass, AreNamed}
-use Rattle.cb_classfile.specs.Tables.{u2, u4, SpellsTable}
+use Rattle.cb_classfile.specs.Tables.{u2, u4, BeginsWith, SpellsTable, SpellsTriple, Then}
 
 abbrev pub magic : ℕ
 magic = 0xCAFEBABE
 
--- the first eight bytes are those of a class file of this major version
+-- the eight bytes with which a class file begins: the magic number, and the minor and the major version
+abbrev pub SpellsVersion : List ℕ → ℕ × ℕ → Type 0
+SpellsVersion bytes version =
+    (version.0 < 2 ^ 16) × (version.1 < 2 ^ 16) × (bytes ≡ u4 magic ++ u2 version.0 ++ u2 version.1)
+
+-- the bytes begin as a class file of this major version does
 abbrev pub HasVersion : List ℕ → ℕ → Type 0
-HasVersion bytes major =
-    (minor : ℕ) × (rest : List ℕ) × (minor < 2 ^ 16) × (major < 2 ^ 16) × (bytes ≡ u4 magic ++ u2 minor ++ u2 major ++ rest)
+HasVersion bytes major = (minor : ℕ) × (rest : List ℕ) × BeginsWith SpellsVersion bytes (minor, major) rest
 
 -- the versions of Java SE 6, 7 and 8
 abbrev pub IsAccepted : ℕ → Type 0
@@ -53,46 +59,50 @@ pub record HasClasses (class : ClassFile) : Type 0 where
 abbrev pub Differ : List Constant → List (ℕ × ℕ) → Type 0
 Differ pool members = AllPairs (λ one other. one ≢ other) (map (λ member. signature pool member.0 member.1) members)
 
--- what is asked of a class beyond its tables
-pub record IsClass (class : ClassFile) : Type 0 where
+-- what is asked of a class beyond its tables, apart from how its members compare
+pub record KeepsRulesAlone (class : ClassFile) : Type 0 where
   pub classes : HasClasses class
   pub as_interface : HasFlag class.flags.0 acc_interface → IsInterface class
   -- up to version 51 invokespecial and invokestatic name methods of classes alone (JVMS §4.9.1)
   pub calls : class.major < 52 → AllByRecursion (λ method. IfSome method.body (CallsClasses class.pool)) class.methods
-  -- a field or method of one name and descriptor stands once (JVMS §4.5, §4.6)
-  pub fields_differ : Differ class.pool (map (λ field. (field.name, field.descriptor)) class.fields)
-  pub methods_differ : Differ class.pool (map (λ method. (method.name, method.descriptor)) class.methods)
 
--- the tables behind the pool, each in turn, and nothing behind the last. The attributes of a class are skipped
+-- a field or method of one name and descriptor stands once (JVMS §4.5, §4.6)
+abbrev pub FieldsDiffer : ClassFile → Type 0
+FieldsDiffer class = Differ class.pool (map (λ field. (field.name, field.descriptor)) class.fields)
+
+abbrev pub MethodsDiffer : ClassFile → Type 0
+MethodsDiffer class = Differ class.pool (map (λ method. (method.name, method.descriptor)) class.methods)
+
+-- what is asked of a class beyond its tables
+pub record IsClass (class : ClassFile) : Type 0 where
+  pub alone : KeepsRulesAlone class
+  pub fields_differ : FieldsDiffer class
+  pub methods_differ : MethodsDiffer class
+
+-- the flags and the indices of the class and its superclass, and the tables behind them, each in turn
+abbrev pub SpellsEachTable : List Constant → List ℕ → (ℕ × ℕ × ℕ) × (List ℕ × (List Field × (List Method × List Attribute))) → Type 0
+SpellsEachTable pool =
+    Then SpellsTriple (Then (SpellsTable (SpellsInterface pool)) (Then (SpellsTable (SpellsField pool)) (Then (SpellsTable (SpellsMethod pool)) (SpellsAttributes pool))))
+
+-- what stands behind the pool. The attributes of a class are skipped
 pub record SpellsTables (bytes : List ℕ) (class : ClassFile) : Type 0 where
-  pub interfaces : List ℕ
-  pub fields : List ℕ
-  pub methods : List ℕ
-  pub attributes : List ℕ
-  pub attribute_list : List Attribute
-  pub spelled : bytes ≡ u2 class.flags.0 ++ u2 class.this_class ++ u2 class.super_class ++ (interfaces ++ (fields ++ (methods ++ attributes)))
-  pub flags_fit : class.flags.0 < 2 ^ 16
-  pub this_fits : class.this_class < 2 ^ 16
-  pub super_fits : class.super_class < 2 ^ 16
-  pub interfaces_spelled : SpellsTable (SpellsInterface class.pool) interfaces class.interfaces
-  pub fields_spelled : SpellsTable (SpellsField class.pool) fields class.fields
-  pub methods_spelled : SpellsTable (SpellsMethod class.pool) methods class.methods
-  pub attributes_spelled : SpellsAttributes class.pool attributes attribute_list
+  pub attributes : List Attribute
+  pub spelled : SpellsEachTable class.pool bytes ((class.flags.0, class.this_class, class.super_class), (class.interfaces, (class.fields, (class.methods, attributes))))
 
 -- what stands behind the version: the pool and the tables
 pub record SpellsContents (bytes : List ℕ) (class : ClassFile) : Type 0 where
-  pub pool : List ℕ
-  pub tables : List ℕ
-  pub spelled : bytes ≡ pool ++ tables
-  pub pool_spelled : SpellsPool pool class.pool
+  pub spelled : Then SpellsPool SpellsTables bytes (class.pool, class)
   pub pool_named : AreNamed class.pool
-  pub tables_spelled : SpellsTables tables class
   pub rules : IsClass class
 
+-- a class of this version, and one of this version and pool, by what stands behind its version and its pool
+abbrev pub SpellsClassOf : ℕ → ℕ → List ℕ → ClassFile → Type 0
+SpellsClassOf minor major bytes class = (class.minor ≡ minor) × (class.major ≡ major) × SpellsContents bytes class
+
+abbrev pub SpellsClassOn : ℕ → ℕ → List Constant → List ℕ → ClassFile → Type 0
+SpellsClassOn minor major pool bytes class =
+    (class.minor ≡ minor) × (class.major ≡ major) × (class.pool ≡ pool) × SpellsTables bytes class
+
 -- a ClassFile
-pub record SpellsClass (bytes : List ℕ) (class : ClassFile) : Type 0 where
-  pub contents : List ℕ
-  pub spelled : bytes ≡ u4 magic ++ u2 class.minor ++ u2 class.major ++ contents
-  pub minor_fits : class.minor < 2 ^ 16
-  pub major_fits : class.major < 2 ^ 16
-  pub contents_spelled : SpellsContents contents class
+abbrev pub SpellsClass : List ℕ → ClassFile → Type 0
+SpellsClass bytes class = Then SpellsVersion SpellsContents bytes ((class.minor, class.major), class)

@@ -1,5 +1,5 @@
 -- The attribute StackMapTable (JVMS §4.7.4).
-use Rattle.std.specs.Prelude.{◌≡◌, ℕ, ◌+◌, ◌-◌, ◌^◌, ◌<◌, List, [], ◌∷◌, ◌++◌, IsSome, nat_lt, if◌then◌else◌}
+use Rattle.std.specs.Prelude.{◌≡◌, ℕ, ◌+◌, ◌-◌, ◌^◌, ◌<◌, List, [], ◌∷◌, IsSome, nat_lt, if◌then◌else◌}
 use Rattle.cb_text.specs.declared.constant.Constant.{Constant}
 use Rattle.cb_classfile.specs.declared.frame_map.MapFrame.{MapFrame}
 use Rattle.cb_classfile.specs.declared.map_type.MapType.{MapType}
@@ -7,7 +7,7 @@ use Rattle.cb_classfile.specs.declared.map_type.MapType.TheVariants.{Top, Intege
 use Rattle.cb_classfile.specs.declared.frame_form.FrameForm.{FrameForm}
 use Rattle.cb_classfile.specs.declared.frame_form.FrameForm.TheVariants as forms
 use Rattle.cb_classfile.specs.Pool.{class_at}
-use Rattle.cb_classfile.specs.Tables.{u2, SpellsCount, SpellsTable}
+use Rattle.cb_classfile.specs.Tables.{u2, SpellsCount, SpellsTable, SpellsU1, Then, ThenOf}
 
 -- a verification_type_info, by its tag
 abbrev pub SpellsType : List Constant → List ℕ → MapType → Type 0
@@ -53,16 +53,13 @@ SpellsStack pool forms.SameOneItemExtended bytes stack = SpellsCount (SpellsType
 SpellsStack pool forms.Full bytes stack = SpellsTable (SpellsType pool) bytes stack
 SpellsStack pool form bytes stack = (stack ≡ []) × (bytes ≡ [])
 
--- a stack_map_frame: its kind, and the parts that its form has
-pub record SpellsFrame (pool : List Constant) (bytes : List ℕ) (frame : MapFrame) : Type 0 where
-  pub delta : List ℕ
-  pub locals : List ℕ
-  pub stack : List ℕ
-  pub spelled : bytes ≡ frame.kind ∷ delta ++ locals ++ stack
-  pub fits : frame.kind < 2 ^ 8
-  pub delta_spelled : SpellsDelta (form_of_frame frame.kind) frame.kind delta frame.delta
-  pub locals_spelled : SpellsLocals pool (form_of_frame frame.kind) frame.kind locals frame.locals
-  pub stack_spelled : SpellsStack pool (form_of_frame frame.kind) stack frame.stack
+-- a stack_map_frame: its kind, and the parts that the form of its kind has
+abbrev pub SpellsFormed : List Constant → FrameForm → ℕ → List ℕ → ℕ × (List MapType × List MapType) → Type 0
+SpellsFormed pool form kind = Then (SpellsDelta form kind) (Then (SpellsLocals pool form kind) (SpellsStack pool form))
+
+abbrev pub SpellsFrame : List Constant → List ℕ → MapFrame → Type 0
+SpellsFrame pool bytes frame =
+    ThenOf SpellsU1 (λ kind. SpellsFormed pool (form_of_frame kind) kind) bytes (frame.kind, (frame.delta, (frame.locals, frame.stack)))
 
 -- the frames of code, by the contents of its attributes StackMapTable, of which there is at most one
 abbrev pub SpellsFrames : List Constant → List (List ℕ) → List MapFrame → Type 0

@@ -6,7 +6,19 @@ pub mod Faults
 pub mod Flags
 pub mod FrameMap
 pub mod Members
+pub mod Messages
+pub mod Needed
 pub mod Pool
 pub mod Profile
+pub mod Reading
 pub mod Tables
 pub mod Texts
+-- what the public clauses cite of the crates below
+pub use Rattle.cb_insn.specs.Forms
+pub use Rattle.cb_insn.specs.Grammar
+pub use Rattle.cb_insn.specs.Places
+pub use Rattle.cb_names.specs.Descriptors
+pub use Rattle.cb_names.specs.Names
+pub use Rattle.cb_names.specs.Types
+pub use Rattle.cb_text.specs.Naming
+pub use Rattle.cb_text.specs.Text

@@ -1,16 +1,17 @@
 -- Fields and methods (JVMS §4.5, §4.6, §4.7.2).
-use Rattle.std.specs.Prelude.{◌≡◌, ◌⊎◌, ◌↔◌, ℕ, ◌+◌, ◌^◌, ◌<◌, ◌≤◌, List, ◌++◌, Some, IsSome, IsSomeAnd, codes}
+use Rattle.std.specs.Prelude.{◌≡◌, ◌⊎◌, ◌↔◌, ℕ, ◌+◌, ◌^◌, ◌<◌, ◌≤◌, List, Some, IsSome, IsSomeAnd, codes}
 use Rattle.cb_text.specs.declared.constant.Constant.{Constant}
 use Rattle.cb_text.specs.declared.constant.Constant.TheVariants as constants
 use Rattle.cb_text.specs.Pool.{constant_at}
 use Rattle.cb_names.specs.Descriptors.{IsMethodDescriptor}
 use Rattle.cb_classfile.specs.declared.field.Field.{Field}
+use Rattle.cb_classfile.specs.declared.member.Member.{Member}
 use Rattle.cb_classfile.specs.declared.method.Method.{Method}
-use Rattle.cb_classfile.specs.Attributes.{Attribute, SpellsAttributes, SpellsOnce, contents_named}
+use Rattle.cb_classfile.specs.Attributes.{Attribute, SpellsAttributes, SpellsOnce, TellsOfName, contents_named}
 use Rattle.cb_classfile.specs.Code.{SpellsBody}
 use Rattle.cb_classfile.specs.Flags.{acc_static, acc_native, acc_abstract, HasFlag}
 use Rattle.cb_classfile.specs.Pool.{text_at, HasText, NamesField, NamesMethod}
-use Rattle.cb_classfile.specs.Tables.{u2}
+use Rattle.cb_classfile.specs.Tables.{u2, SpellsTriple, Then}
 
 -- the types whose values are ints
 abbrev pub IsNarrow : List ℕ → Type 0
@@ -31,19 +32,20 @@ pub record SpellsValue (pool : List Constant) (descriptor : ℕ) (contents : Lis
   pub fits : index < 2 ^ 16
   pub value : IsSomeAnd (constant_at pool index) (λ constant. HasText pool descriptor (λ text. IsValueOf text constant))
 
--- a field_info and a method_info begin alike: flags, a name, a descriptor and attributes (JVMS §4.5, §4.6)
-pub record SpellsMember (pool : List Constant) (flags name descriptor : ℕ) (bytes : List ℕ) (attribute_list : List Attribute) : Type 0 where
-  pub attributes : List ℕ
-  pub spelled : bytes ≡ u2 flags ++ u2 name ++ u2 descriptor ++ attributes
-  pub flags_fit : flags < 2 ^ 16
-  pub name_fits : name < 2 ^ 16
-  pub descriptor_fits : descriptor < 2 ^ 16
-  pub attributes_spelled : SpellsAttributes pool attributes attribute_list
+-- a field_info and a method_info are alike: flags, the indices of a name and a descriptor, and attributes (JVMS §4.5,
+-- §4.6)
+abbrev pub SpellsMember : List Constant → List ℕ → (ℕ × ℕ × ℕ) × List Attribute → Type 0
+SpellsMember pool = Then SpellsTriple (SpellsAttributes pool)
+
+-- what is told of one: its numbers, and of its attributes those of a name
+pub record TellsMember (pool : List Constant) (attribute : List ℕ) (told : Member) (member : (ℕ × ℕ × ℕ) × List Attribute) : Type 0 where
+  pub head : member.0 ≡ (told.flags, told.name, told.descriptor)
+  pub occurrence : TellsOfName pool attribute told.occurrence member.1
 
 -- a field_info
 pub record SpellsField (pool : List Constant) (bytes : List ℕ) (field : Field) : Type 0 where
   pub attribute_list : List Attribute
-  pub member : SpellsMember pool field.flags.0 field.name field.descriptor bytes attribute_list
+  pub member : SpellsMember pool bytes ((field.flags.0, field.name, field.descriptor), attribute_list)
   pub named : NamesField pool field.name field.descriptor
   pub constant : SpellsOnce (SpellsValue pool field.descriptor) (contents_named pool (codes "ConstantValue") attribute_list) field.constant
 
@@ -74,7 +76,7 @@ pub record IsMethod (pool : List Constant) (method : Method) : Type 0 where
 -- a method_info
 pub record SpellsMethod (pool : List Constant) (bytes : List ℕ) (method : Method) : Type 0 where
   pub attribute_list : List Attribute
-  pub member : SpellsMember pool method.flags.0 method.name method.descriptor bytes attribute_list
+  pub member : SpellsMember pool bytes ((method.flags.0, method.name, method.descriptor), attribute_list)
   pub named : NamesMethod pool method.name method.descriptor
   pub body : SpellsOnce (SpellsBody pool) (contents_named pool (codes "Code") attribute_list) method.body
   pub rules : IsMethod pool method

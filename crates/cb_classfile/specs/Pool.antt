@@ -1,33 +1,16 @@
 -- What an index of the constant pool names (JVMS §4.4).
-use Rattle.std.specs.Prelude.{◌≡◌, ◌⊎◌, ℕ, true, List, Option, Some, None, IsSomeAnd, option_and_then, codes, nat_eq}
+use Rattle.std.specs.Prelude.{◌≡◌, ◌⊎◌, ℕ, true, List, Some, IsSomeAnd, codes, nat_eq}
 use Rattle.std.specs.List.{AllByRecursion, ends_with}
 use Rattle.cb_text.specs.declared.constant.Constant.{Constant}
-use Rattle.cb_text.specs.declared.constant.Constant.TheVariants.{Utf8, Class, Fieldref, Methodref, InterfaceMethodref, NameAndType, MethodType, InvokeDynamic}
+use Rattle.cb_text.specs.declared.constant.Constant.TheVariants.{Class, Fieldref, Methodref, InterfaceMethodref, NameAndType, MethodType, InvokeDynamic}
 use Rattle.cb_text.specs.Pool.{constant_at}
+pub use Rattle.cb_text.specs.Naming.{text_at, class_at}
 use Rattle.cb_names.specs.Names.{IsUnqualifiedName, IsMethodName, IsClassName}
 use Rattle.cb_names.specs.Descriptors.{IsFieldDescriptor, IsArrayDescriptor, IsMethodDescriptor}
-
--- the units of a text
-abbrev pub units_of : Constant → Option (List ℕ)
-units_of (Utf8 units) = Some units
-units_of other = None
-
--- the text at an index
-abbrev pub text_at : List Constant → ℕ → Option (List ℕ)
-text_at pool index = option_and_then units_of (constant_at pool index)
 
 -- the index names a text that is so
 abbrev pub HasText : List Constant → ℕ → (List ℕ → Type 0) → Type 0
 HasText pool index Is = IsSomeAnd (text_at pool index) Is
-
--- the index of a class's name
-abbrev pub name_of_class : Constant → Option ℕ
-name_of_class (Class name) = Some name
-name_of_class other = None
-
--- the name of the class at an index, which may be an array's descriptor
-abbrev pub class_at : List Constant → ℕ → Option (List ℕ)
-class_at pool index = option_and_then (text_at pool) (option_and_then name_of_class (constant_at pool index))
 
 -- the index names a class whose name is so
 abbrev pub HasClass : List Constant → ℕ → (List ℕ → Type 0) → Type 0

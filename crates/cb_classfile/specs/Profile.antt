@@ -4,6 +4,8 @@ use Rattle.std.specs.List.{starts_with}
 use Rattle.cb_text.specs.declared.constant.Constant.{Constant}
 use Rattle.cb_text.specs.declared.constant.Constant.TheVariants as constants
 use Rattle.cb_insn.specs.declared.insn.Insn.{Insn}
+use Rattle.cb_insn.specs.declared.opcode.TheConstants as opcodes
+use Rattle.cb_classfile.specs.declared.array_code.TheConstants as array_codes
 use Rattle.cb_insn.specs.declared.insn.Operand.{Operand}
 use Rattle.cb_insn.specs.declared.insn.Operand.TheVariants.{ArrayCode}
 use Rattle.cb_names.specs.declared.floating.Floating.{Floating}
@@ -79,34 +81,36 @@ is_between low high opcode = nat_le low opcode && nat_le opcode high
 
 abbrev pub is_float : ℕ → Bool
 is_float opcode =
-    is_between 0x0B 0x0D opcode
-    || opcode == 0x17 || is_between 0x22 0x25 opcode || opcode == 0x30
-    || opcode == 0x38 || is_between 0x43 0x46 opcode || opcode == 0x51
-    || opcode == 0x62 || opcode == 0x66 || opcode == 0x6A || opcode == 0x6E || opcode == 0x72 || opcode == 0x76
-    || opcode == 0x86 || opcode == 0x89 || is_between 0x8B 0x8D opcode || opcode == 0x90
-    || is_between 0x95 0x96 opcode || opcode == 0xAE
+    is_between opcodes.FCONST_0 opcodes.FCONST_2 opcode
+    || opcode == opcodes.FLOAD || is_between opcodes.FLOAD_0 opcodes.FLOAD_3 opcode || opcode == opcodes.FALOAD
+    || opcode == opcodes.FSTORE || is_between opcodes.FSTORE_0 opcodes.FSTORE_3 opcode || opcode == opcodes.FASTORE
+    || opcode == opcodes.FADD || opcode == opcodes.FSUB || opcode == opcodes.FMUL
+    || opcode == opcodes.FDIV || opcode == opcodes.FREM || opcode == opcodes.FNEG
+    || opcode == opcodes.I2F || opcode == opcodes.L2F || is_between opcodes.F2I opcodes.F2D opcode || opcode == opcodes.D2F
+    || is_between opcodes.FCMPL opcodes.FCMPG opcode || opcode == opcodes.FRETURN
 
 abbrev pub is_double : ℕ → Bool
 is_double opcode =
-    is_between 0x0E 0x0F opcode
-    || opcode == 0x18 || is_between 0x26 0x29 opcode || opcode == 0x31
-    || opcode == 0x39 || is_between 0x47 0x4A opcode || opcode == 0x52
-    || opcode == 0x63 || opcode == 0x67 || opcode == 0x6B || opcode == 0x6F || opcode == 0x73 || opcode == 0x77
-    || opcode == 0x87 || opcode == 0x8A || is_between 0x8E 0x8F opcode
-    || is_between 0x97 0x98 opcode || opcode == 0xAF
+    is_between opcodes.DCONST_0 opcodes.DCONST_1 opcode
+    || opcode == opcodes.DLOAD || is_between opcodes.DLOAD_0 opcodes.DLOAD_3 opcode || opcode == opcodes.DALOAD
+    || opcode == opcodes.DSTORE || is_between opcodes.DSTORE_0 opcodes.DSTORE_3 opcode || opcode == opcodes.DASTORE
+    || opcode == opcodes.DADD || opcode == opcodes.DSUB || opcode == opcodes.DMUL
+    || opcode == opcodes.DDIV || opcode == opcodes.DREM || opcode == opcodes.DNEG
+    || opcode == opcodes.I2D || opcode == opcodes.L2D || is_between opcodes.D2I opcodes.D2L opcode
+    || is_between opcodes.DCMPL opcodes.DCMPG opcode || opcode == opcodes.DRETURN
 
 -- the item of an opcode: besides these, the subroutines (jsr, ret, jsr_w), invokedynamic, and the monitors
 abbrev pub opcode_item : ℕ → Option Feature
 opcode_item opcode =
     if is_float opcode then Some Float
     else if is_double opcode then Some Double
-    else if is_between 0xA8 0xA9 opcode || opcode == 0xC9 then Some Jsr
-    else if opcode == 0xBA then Some InvokeDynamic
-    else item_if (is_between 0xC2 0xC3 opcode) Monitor
+    else if opcode == opcodes.JSR || opcode == opcodes.RET || opcode == opcodes.JSR_W then Some Jsr
+    else if opcode == opcodes.INVOKEDYNAMIC then Some InvokeDynamic
+    else item_if (opcode == opcodes.MONITORENTER || opcode == opcodes.MONITOREXIT) Monitor
 
 -- the item of a new array, by its code (JVMS table 6.5.newarray-A)
 abbrev pub operand_item : Operand → Option Feature
-operand_item (ArrayCode code) = if code == 6 then Some Float else item_if (code == 7) Double
+operand_item (ArrayCode code) = if code == array_codes.FLOAT then Some Float else item_if (code == array_codes.DOUBLE) Double
 operand_item other = None
 
 abbrev pub insn_item : Insn → Option Feature

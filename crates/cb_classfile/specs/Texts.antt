@@ -1,5 +1,5 @@
 -- What the texts of a pool are, each looked at once.
-use Rattle.std.specs.Prelude.{◌≡◌, ◌↔◌, ℕ, ◌+◌, List, length, slice_get, Some, IsTrue, IsSomeAnd, MatchOption}
+use Rattle.std.specs.Prelude.{◌≡◌, ◌↔◌, ℕ, ◌+◌, List, Option, slice_get, slice_index, Some, IsTrue, IfSome, MatchOption}
 use Rattle.cb_text.specs.declared.constant.Constant.{Constant}
 use Rattle.cb_names.specs.Names.{IsUnqualifiedName, IsMethodName, IsClassName}
 use Rattle.cb_names.specs.Descriptors.{IsFieldDescriptor, IsArrayDescriptor, IsMethodDescriptor, floating_in}
@@ -15,9 +15,14 @@ pub record AreFacts (text : List ℕ) (facts : TextFacts) : Type 0 where
   pub field_descriptor : IsTrue facts.field_descriptor ↔ IsFieldDescriptor text
   pub words : MatchOption facts.parameter_words ((words : ℕ) → IsMethodDescriptor text words → ⊥) (λ words. IsMethodDescriptor text words)
   pub exact : (words : ℕ) → IsMethodDescriptor text words → facts.parameter_words ≡ Some words
-  pub floating : facts.floating ≡ floating_in text
+  -- of a descriptor it is told
+  pub floating : IfSome facts.floating (λ floating. floating ≡ floating_in text)
 
--- the facts of the texts of a pool, at the places of its constants
-pub record Describe (pool : List Constant) (facts : List TextFacts) : Type 0 where
-  pub long : length facts ≡ length pool
-  pub each : (before : ℕ) (text : List ℕ) → text_at pool (before + 1) ≡ Some text → IsSomeAnd (slice_get facts before) (AreFacts text)
+-- these are facts of the texts of a pool, at the places of its constants. A text may have none, as those behind the last
+abbrev pub Describe : List Constant → List (Option TextFacts) → Type 0
+Describe pool facts =
+    (before : ℕ) → IfSome (slice_get facts before) (λ told. IfSome told (λ known. (text : List ℕ) → text_at pool (before + 1) ≡ Some text → AreFacts text known))
+
+-- two indices have one number exactly where they name equal texts, or both name none
+abbrev pub TellTexts : List Constant → List ℕ → Type 0
+TellTexts pool numbers = (one other : ℕ) → (slice_index numbers one ≡ slice_index numbers other) ↔ (text_at pool one ≡ text_at pool other)

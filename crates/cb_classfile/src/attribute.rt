@@ -1,12 +1,12 @@
 // Attributes (JVMS §4.7).
-ghost use Rattle.std.specs.Prelude.{◌≡◌, ◌∷◌, ◌++◌, [], ℕ, List, IfOk, IsOkAnd};
-ghost use Rattle.cb_classfile.specs.Attributes.{Attribute, SpellsAttribute, SpellsAttributes, IsTold, contents_named};
-ghost use Rattle.cb_classfile.specs.Tables.{BeginsWith};
+ghost use Rattle.std.specs.Prelude.{◌∷◌, ◌++◌, [], ℕ, List};
+ghost use Rattle.cb_classfile.specs.Attributes.{SpellsAttribute, SpellsAttributes, IsTold, TellsAttribute, TellsOfName};
+ghost use Rattle.cb_classfile.specs.Reading.{Tells, TellsWhole};
 
 use crate::ascii::has_text;
 use crate::constants::Constants;
 use crate::fault::Fault;
-use crate::numbers::{u2_at, u4_at};
+use crate::numbers::{block_at, u2_at};
 
 /// How often attributes of a name stand in a table, and what the only one contains.
 #[derive(Clone, Copy, Debug)]
@@ -25,17 +25,12 @@ pub(crate) fn attributes_named<'a>(
     name: &[u8],
     bytes: &'a [u8],
 ) -> Result<(Occurrence<'a>, &'a [u8]), Fault>
-    ensures found { IfOk result (λ read. (attributes : List Attribute)
-        × BeginsWith (SpellsAttributes constants.now) bytes.now attributes read.1.now
-        × IsTold read.0 (contents_named constants.now name.now attributes)) }
-    ensures only { (attributes : List Attribute) (rest : List ℕ)
-        → BeginsWith (SpellsAttributes constants.now) bytes.now attributes rest
-        → IsOkAnd result (λ read. IsTold read.0 (contents_named constants.now name.now attributes) × (read.1.now ≡ rest)) }
+    ensures { Tells (SpellsAttributes constants.now) (TellsOfName constants.now name.now) bytes.now result }
 {
     let (count, mut rest) = u2_at(bytes)?;
     let mut occurrence = Occurrence::Never;
     for _ in 0..count {
-        let (index, contents, after) = attribute_at(constants, rest)?;
+        let ((index, contents), after) = attribute_at(constants, rest)?;
         if has_text(constants, index, name) {
             occurrence = one_more(occurrence, contents);
         }
@@ -50,11 +45,7 @@ pub(crate) fn all_attributes_named<'a>(
     name: &[u8],
     bytes: &'a [u8],
 ) -> Result<Occurrence<'a>, Fault>
-    ensures found { IfOk result (λ occurrence. (attributes : List Attribute)
-        × SpellsAttributes constants.now bytes.now attributes
-        × IsTold occurrence (contents_named constants.now name.now attributes)) }
-    ensures only { (attributes : List Attribute) → SpellsAttributes constants.now bytes.now attributes
-        → IsOkAnd result (λ occurrence. IsTold occurrence (contents_named constants.now name.now attributes)) }
+    ensures { TellsWhole (SpellsAttributes constants.now) (TellsOfName constants.now name.now) bytes.now result }
 {
     let (occurrence, rest) = attributes_named(constants, name, bytes)?;
     match rest {
@@ -77,18 +68,13 @@ fn one_more<'a>(occurrence: Occurrence<'a>, contents: &'a [u8]) -> Occurrence<'a
 fn attribute_at<'a>(
     constants: &Constants<'_>,
     bytes: &'a [u8],
-) -> Result<(u16, &'a [u8], &'a [u8]), Fault>
-    ensures found { IfOk result (λ read. BeginsWith (SpellsAttribute constants.now) bytes.now (read.0, read.1.now) read.2.now) }
-    ensures only { (attribute : Attribute) (rest : List ℕ) → BeginsWith (SpellsAttribute constants.now) bytes.now attribute rest
-        → IsOkAnd result (λ read. (read.0 ≡ attribute.0) × (read.1.now ≡ attribute.1) × (read.2.now ≡ rest)) }
+) -> Result<((u16, &'a [u8]), &'a [u8]), Fault>
+    ensures { Tells (SpellsAttribute constants.now) TellsAttribute bytes.now result }
 {
     let (index, rest) = u2_at(bytes)?;
-    let (length, rest) = u4_at(rest)?;
+    let (contents, rest) = block_at(rest)?;
     if constants.text(index).is_none() {
         return Err(Fault::Malformed);
     }
-    match rest.split_at_checked(length as usize) {
-        Some((contents, rest)) => Ok((index, contents, rest)),
-        None => Err(Fault::Malformed),
-    }
+    Ok(((index, contents), rest))
 }

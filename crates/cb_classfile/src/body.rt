@@ -1,19 +1,15 @@
 // The attribute Code (JVMS §4.7.3).
-ghost use Rattle.std.specs.Prelude.{◌≡◌, ◌^◌, ◌<◌, ◌++◌, ℕ, List as Items, length, IfOk, IsOkAnd, MatchResult};
-ghost use Rattle.std.specs.List.{AllByRecursion};
-ghost use Rattle.cb_insn.specs.Grammar.{SpellsCode};
-ghost use Rattle.cb_insn.specs.declared.insn.Insn.{Insn as AnyInsn};
-ghost use Rattle.cb_classfile.specs.Code.{SpellsBody, SpellsFramesIn, HasConstant};
-ghost use Rattle.cb_classfile.specs.Tables.{u4};
-ghost use Rattle.cb_classfile.specs.declared.frame_map.MapFrame.{MapFrame};
-ghost use Rattle.cb_classfile.specs.declared.body.Body.{Body as AnyBody};
+ghost use Rattle.std.specs.Prelude.{◌≡◌, ◌^◌, ◌<◌, length};
+ghost use Rattle.cb_classfile.specs.Code.{SpellsBody, SpellsCodeBytes, SpellsFramesIn, SpellsInstructions};
+ghost use Rattle.cb_classfile.specs.Reading.{ReadsWhole, Tells};
+ghost use Rattle.cb_classfile.specs.Tables.{TellsBytes};
 
 use crate::attribute::{Occurrence, all_attributes_named};
 use crate::constants::Constants;
 use crate::fault::Fault;
 use crate::handler::are_placed;
 use crate::needed::have_constants;
-use crate::numbers::{pair_at, u4_at};
+use crate::numbers::{block_at, pair_at};
 use crate::table::{table, whole_table};
 use crate::{Frames, Handlers};
 use cb_insn::{Code, decode};
@@ -43,11 +39,9 @@ pub(crate) fn body_of(
     constants: &Constants<'_>,
     contents: &[u8],
 ) -> Result<Body, Fault>
-    ensures found { IfOk result (λ body. SpellsBody constants.now contents.now body) }
-    ensures only { (body : AnyBody) → SpellsBody constants.now contents.now body
-        → MatchResult result (λ read. read ≡ body) (λ fault. fault ≡ Fault.OutOfMemory) }
+    ensures { ReadsWhole (SpellsBody constants.now) contents.now result }
 {
-    let (max_stack, max_locals, rest) = pair_at(contents)?;
+    let ((max_stack, max_locals), rest) = pair_at(contents)?;
     let (bytes, rest) = code_at(rest)?;
     let code = code_of(alloc, constants, bytes)?;
     let (handlers, rest) = table(alloc, constants, rest)?;
@@ -66,9 +60,7 @@ pub(crate) fn body_of(
 
 /// The frames in the attributes of a body.
 fn frames_of(alloc: Global, constants: &Constants<'_>, bytes: &[u8]) -> Result<Frames, Fault>
-    ensures found { IfOk result (λ frames. SpellsFramesIn constants.now bytes.now frames) }
-    ensures only { (frames : Items MapFrame) → SpellsFramesIn constants.now bytes.now frames
-        → MatchResult result (λ read. read ≡ frames) (λ fault. fault ≡ Fault.OutOfMemory) }
+    ensures { ReadsWhole (SpellsFramesIn constants.now) bytes.now result }
 {
     match all_attributes_named(constants, b"StackMapTable", bytes)? {
         Occurrence::Never => Ok(Frames::new(alloc)),
@@ -79,30 +71,19 @@ fn frames_of(alloc: Global, constants: &Constants<'_>, bytes: &[u8]) -> Result<F
 
 /// The bytes of the code behind their length at the front, and what stands behind them.
 fn code_at(bytes: &[u8]) -> Result<(&[u8], &[u8]), Fault>
-    ensures found { IfOk result (λ read. (0 < length read.0.now) × (length read.0.now < 2 ^ 16)
-        × (bytes.now ≡ u4 (length read.0.now) ++ (read.0.now ++ read.1.now))) }
-    ensures only { (code rest : Items ℕ) → 0 < length code → length code < 2 ^ 16
-        → bytes.now ≡ u4 (length code) ++ (code ++ rest)
-        → IsOkAnd result (λ read. (read.0.now ≡ code) × (read.1.now ≡ rest)) }
+    ensures { Tells SpellsCodeBytes TellsBytes bytes.now result }
 {
-    let (length, rest) = u4_at(bytes)?;
-    if length == 0 || length as usize > MAX_CODE_LENGTH {
+    let (code, rest) = block_at(bytes)?;
+    if code.is_empty() || code.len() > MAX_CODE_LENGTH {
         return Err(Fault::Malformed);
     }
-    match rest.split_at_checked(length as usize) {
-        Some((code, rest)) => Ok((code, rest)),
-        None => Err(Fault::Malformed),
-    }
+    Ok((code, rest))
 }
 
 /// The instructions of the code, each with a constant of the kind that it needs.
 fn code_of(alloc: Global, constants: &Constants<'_>, bytes: &[u8]) -> Result<Code, Fault>
     requires { length bytes.now < 2 ^ 16 }
-    ensures found { IfOk result (λ code. SpellsCode code bytes.now
-        × AllByRecursion (λ placed. HasConstant constants.now placed.1) code) }
-    ensures only { (code : Items (ℕ × AnyInsn)) → SpellsCode code bytes.now
-        → AllByRecursion (λ placed. HasConstant constants.now placed.1) code
-        → MatchResult result (λ read. read ≡ code) (λ fault. fault ≡ Fault.OutOfMemory) }
+    ensures { ReadsWhole (SpellsInstructions constants.now) bytes.now result }
 {
     let code = decode(alloc, bytes)?;
     if !have_constants(constants, code.as_slice()) {

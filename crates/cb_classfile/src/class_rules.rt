@@ -1,8 +1,8 @@
 // What is asked of a class beyond its tables (JVMS §4.1).
-ghost use Rattle.std.specs.Prelude.{◌≡◌, ◌↔◌, ◌<◌, IsTrue, IfOk, IfSome, map, Some};
+ghost use Rattle.std.specs.Prelude.{◌≡◌, ◌↔◌, ◌<◌, IsTrue, IfOk, IfSome, Some};
 ghost use Rattle.std.specs.List.{AllByRecursion};
-ghost use Rattle.cb_classfile.specs.Class.{Differ, HasClasses, IsClass, IsInterface, object};
-ghost use Rattle.cb_classfile.specs.Code.{CallsClasses};
+ghost use Rattle.cb_classfile.specs.Class.{FieldsDiffer, HasClasses, IsClass, IsInterface, KeepsRulesAlone, MethodsDiffer, object};
+ghost use Rattle.cb_classfile.specs.Needed.{CallsClasses};
 ghost use Rattle.cb_classfile.specs.Flags.{acc_interface, acc_static, HasFlag};
 ghost use Rattle.cb_classfile.specs.Pool.{class_at};
 
@@ -10,6 +10,7 @@ use crate::ascii::is_spelled;
 use crate::constants::Constants;
 use crate::differ::do_differ;
 use crate::needed::call_classes;
+use crate::text_numbers::{do_differ_by, numbers_of_texts};
 use crate::{ClassFile, ClassFlags, Field, FieldFlags, Method};
 use bitflags::Flags;
 use std::alloc::{AllocError, Global};
@@ -17,9 +18,40 @@ use std::alloc::{AllocError, Global};
 /// The first version in which a method of an interface may be called directly (JVMS §4.9.1).
 const DIRECT_INTERFACE_CALLS: u16 = 52;
 
-/// Whether a class keeps the rules on its names, flags, members and calls. Takes time in the length of the pool's texts
-/// and in the number of members, each times the logarithm of how many there are, and in the number of instructions.
-pub(crate) fn is_class(
+/// How many fields or methods are compared in pairs: for so few this takes less time than to number the pool's texts.
+const MOST_IN_PAIRS: usize = 256;
+
+/// Whether a class keeps the rules on its names, flags, members and calls beyond its tables (JVMS §4.1, §4.5, §4.6,
+/// §4.9.1). Takes no memory, and time in the number of instructions, in that of pairs of fields and in that of pairs of
+/// methods, for each of which two names and two descriptors may be compared.
+pub fn is_class(constants: &Constants<'_>, class: &ClassFile) -> bool
+    requires { class.now.pool ≡ constants.now }
+    ensures { IsTrue result ↔ IsClass class.now }
+{
+    keeps_rules_alone(constants, class)
+        && fields_differ(constants, class)
+        && methods_differ(constants, class)
+}
+
+/// Whether no two fields have the same name and the same descriptor (JVMS §4.5).
+fn fields_differ(constants: &Constants<'_>, class: &ClassFile) -> bool
+    requires { class.now.pool ≡ constants.now }
+    ensures { IsTrue result ↔ FieldsDiffer class.now }
+{
+    do_differ(constants, class.fields.as_slice())
+}
+
+/// Whether no two methods have the same name and the same descriptor (JVMS §4.6).
+fn methods_differ(constants: &Constants<'_>, class: &ClassFile) -> bool
+    requires { class.now.pool ≡ constants.now }
+    ensures { IsTrue result ↔ MethodsDiffer class.now }
+{
+    do_differ(constants, class.methods.as_slice())
+}
+
+/// The same, in time linear in the class but for a logarithm: where there are many fields or methods, the texts of the
+/// pool are numbered once, and compared by their numbers.
+pub(crate) fn is_class_by_numbers(
     alloc: Global,
     constants: &Constants<'_>,
     class: &ClassFile,
@@ -27,13 +59,35 @@ pub(crate) fn is_class(
     requires { class.now.pool ≡ constants.now }
     ensures { IfOk result (λ is. IsTrue is ↔ IsClass class.now) }
 {
-    Ok(
-        has_classes(constants, class)
-            && is_interface_where_flagged(constants, class)
-            && calls_classes_where_asked(constants, class)
-            && fields_differ(alloc, constants, class.fields.as_slice())?
-            && methods_differ(alloc, constants, class.methods.as_slice())?,
-    )
+    if class.fields.len() <= MOST_IN_PAIRS && class.methods.len() <= MOST_IN_PAIRS {
+        return Ok(is_class(constants, class));
+    }
+    Ok(keeps_rules_alone(constants, class) && members_differ_by_numbers(alloc, constants, class)?)
+}
+
+/// Whether no two fields and no two methods have the same name and the same descriptor.
+fn members_differ_by_numbers(
+    alloc: Global,
+    constants: &Constants<'_>,
+    class: &ClassFile,
+) -> Result<bool, AllocError>
+    requires { class.now.pool ≡ constants.now }
+    ensures { IfOk result (λ differ. IsTrue differ ↔ (FieldsDiffer class.now × MethodsDiffer class.now)) }
+{
+    let numbers = numbers_of_texts(alloc, constants)?;
+    let fields = do_differ_by(alloc, &numbers, class.fields.as_slice())?;
+    let methods = do_differ_by(alloc, &numbers, class.methods.as_slice())?;
+    Ok(fields && methods)
+}
+
+/// Whether a class keeps the rules that don't compare its members.
+fn keeps_rules_alone(constants: &Constants<'_>, class: &ClassFile) -> bool
+    requires { class.now.pool ≡ constants.now }
+    ensures { IsTrue result ↔ KeepsRulesAlone class.now }
+{
+    has_classes(constants, class)
+        && is_interface_where_flagged(constants, class)
+        && calls_classes_where_asked(constants, class)
 }
 
 /// Whether its own name is one, and its superclass as it should be.
@@ -104,52 +158,4 @@ fn method_calls_classes(constants: &Constants<'_>, method: &Method) -> bool
         Some(body) => call_classes(constants, body.code.as_slice()),
         None => true,
     }
-}
-
-/// Whether no two fields have the same name and the same descriptor (JVMS §4.5).
-fn fields_differ(
-    alloc: Global,
-    constants: &Constants<'_>,
-    fields: &[Field],
-) -> Result<bool, AllocError>
-    ensures { IfOk result (λ differ. IsTrue differ
-        ↔ Differ constants.now (map (λ field. (field.name, field.descriptor)) fields.now)) }
-{
-    let members = field_signatures(alloc, fields)?;
-    do_differ(alloc, constants, &members)
-}
-
-/// Whether no two methods have the same name and the same descriptor (JVMS §4.6).
-fn methods_differ(
-    alloc: Global,
-    constants: &Constants<'_>,
-    methods: &[Method],
-) -> Result<bool, AllocError>
-    ensures { IfOk result (λ differ. IsTrue differ
-        ↔ Differ constants.now (map (λ method. (method.name, method.descriptor)) methods.now)) }
-{
-    let members = method_signatures(alloc, methods)?;
-    do_differ(alloc, constants, &members)
-}
-
-/// The indices of the name and of the descriptor of each field.
-fn field_signatures(alloc: Global, fields: &[Field]) -> Result<Vec<(u16, u16)>, AllocError>
-    ensures { IfOk result (λ members. members.items ≡ map (λ field. (field.name, field.descriptor)) fields.now) }
-{
-    let mut members = Vec::new(alloc);
-    for field in fields {
-        members.push((field.name, field.descriptor))?;
-    }
-    Ok(members)
-}
-
-/// The indices of the name and of the descriptor of each method.
-fn method_signatures(alloc: Global, methods: &[Method]) -> Result<Vec<(u16, u16)>, AllocError>
-    ensures { IfOk result (λ members. members.items ≡ map (λ method. (method.name, method.descriptor)) methods.now) }
-{
-    let mut members = Vec::new(alloc);
-    for method in methods {
-        members.push((method.name, method.descriptor))?;
-    }
-    Ok(members)
 }

@@ -7,20 +7,21 @@ ghost use Rattle.cb_classfile.specs.Pool.{text_at, class_at, HasText, HasClass, 
 ghost use Rattle.cb_classfile.specs.Texts.{AreFacts, Describe};
 
 use crate::ascii::has_text;
-use crate::texts::TextFacts;
-use cb_names::Floating;
+use crate::texts::{TextFacts, facts_of_text};
+use cb_names::{Floating, floating_in};
 use cb_text::{Constant, Pool};
 use std::marker::Model;
 
 /// `)V`, with which the descriptor of a method ends that gives nothing (JVMS §4.3.3).
 const GIVES_NOTHING: &[u16] = &[b')' as u16, b'V' as u16];
 
-/// The constants of a class file, as its tables name them by their indices, and what their texts are. Each question
-/// takes constant time, but for `are_named`.
+/// The constants of a class file, as its tables name them by their indices, with what their texts are. What a text is
+/// stands in a table, or is found where it is asked for: a question takes constant time where the table has the text, and
+/// else time in its length. No question takes memory.
 #[derive(Debug, Drop)]
-pub(crate) struct Constants<'a> {
+pub struct Constants<'a> {
     pool: &'a Pool,
-    facts: &'a [TextFacts],
+    facts: &'a [Option<TextFacts>],
 }
 
 impl<'a> Model for Constants<'a> {
@@ -36,8 +37,15 @@ impl<'a> Model for Constants<'a> {
 }
 
 impl<'a> Constants<'a> {
-    /// The constants of a pool, of whose texts these are the facts.
-    pub(crate) fn new(pool: &'a Pool, facts: &'a [TextFacts]) -> Constants<'a>
+    /// The constants of a pool, whose texts are looked at where it is asked what they are.
+    pub fn new(pool: &'a Pool) -> Constants<'a>
+        ensures { result ≡ pool.now }
+    {
+        Constants { pool, facts: &[] }
+    }
+
+    /// The constants of a pool, of whose texts these are the facts, as `facts_of` gives them.
+    pub fn described(pool: &'a Pool, facts: &'a [Option<TextFacts>]) -> Constants<'a>
         requires { Describe pool.now facts.now }
         ensures { result ≡ pool.now }
     {
@@ -62,24 +70,18 @@ impl<'a> Constants<'a> {
     pub(crate) fn text(&self, index: u16) -> Option<&'a [u16]>
         ensures { MatchOption result (text_at self.now index ≡ None) (λ text. text_at self.now index ≡ Some text.now) }
     {
-        match self.pool.get(index) {
-            Some(Constant::Utf8(units)) => Some(units.as_slice()),
-            _ => None,
-        }
+        self.pool.text(index)
     }
 
     /// The name of the class at an index.
     pub(crate) fn class(&self, index: u16) -> Option<&'a [u16]>
         ensures { MatchOption result (class_at self.now index ≡ None) (λ name. class_at self.now index ≡ Some name.now) }
     {
-        match self.pool.get(index) {
-            Some(Constant::Class(name)) => self.text(*name),
-            _ => None,
-        }
+        self.pool.class(index)
     }
 
     /// Whether the indices name the name and the descriptor of a field (JVMS §4.4.6).
-    pub(crate) fn names_field(&self, name: u16, descriptor: u16) -> bool
+    pub fn names_field(&self, name: u16, descriptor: u16) -> bool
         ensures { IsTrue result ↔ NamesField self.now name descriptor }
     {
         self.facts(name).is_some_and(|facts| facts.unqualified_name)
@@ -89,7 +91,7 @@ impl<'a> Constants<'a> {
     }
 
     /// Whether the indices name the name and the descriptor of a method (JVMS §4.4.6).
-    pub(crate) fn names_method(&self, name: u16, descriptor: u16) -> bool
+    pub fn names_method(&self, name: u16, descriptor: u16) -> bool
         ensures { IsTrue result ↔ NamesMethod self.now name descriptor }
     {
         self.facts(name).is_some_and(|facts| facts.method_name)
@@ -97,7 +99,7 @@ impl<'a> Constants<'a> {
     }
 
     /// Whether the index names a class that is no array (JVMS §4.4.1).
-    pub(crate) fn is_class(&self, index: u16) -> bool
+    pub fn is_class(&self, index: u16) -> bool
         ensures { IsTrue result ↔ HasClass self.now index IsClassName }
     {
         match self.pool.get(index) {
@@ -107,7 +109,7 @@ impl<'a> Constants<'a> {
     }
 
     /// How many words the parameters of the method descriptor at an index take (JVMS §4.3.3).
-    pub(crate) fn parameter_words(&self, descriptor: u16) -> Option<u8>
+    pub fn parameter_words(&self, descriptor: u16) -> Option<u8>
         ensures words { MatchOption result ((words : ℕ) → HasText self.now descriptor (λ text. IsMethodDescriptor text words) → ⊥)
             (λ words. HasText self.now descriptor (λ text. IsMethodDescriptor text words)) }
         ensures exact { (words : ℕ) → HasText self.now descriptor (λ text. IsMethodDescriptor text words) → result ≡ Some words }
@@ -116,15 +118,19 @@ impl<'a> Constants<'a> {
     }
 
     /// The first floating-point type in the descriptor at an index.
-    pub(crate) fn floating(&self, index: u16) -> Option<Floating>
+    pub fn floating(&self, index: u16) -> Option<Floating>
         ensures { result ≡ option_and_then floating_in (text_at self.now index) }
     {
-        self.facts(index)?.floating
+        let text = self.text(index)?;
+        match self.facts(index)?.floating {
+            Some(floating) => floating,
+            None => floating_in(text),
+        }
     }
 
     /// Whether the names and descriptors of each constant follow their grammars (JVMS §4.4). Takes time in the number
     /// of constants.
-    pub(crate) fn are_named(&self) -> bool
+    pub fn are_named(&self) -> bool
         ensures { IsTrue result ↔ AreNamed self.now }
     {
         for index in 1..self.len() {
@@ -225,11 +231,14 @@ impl<'a> Constants<'a> {
     }
 
     /// What the text at an index is.
-    fn facts(&self, index: u16) -> Option<&'a TextFacts>
+    fn facts(&self, index: u16) -> Option<TextFacts>
         ensures { MatchOption result (text_at self.now index ≡ None)
-            (λ facts. IsSomeAnd (text_at self.now index) (λ text. AreFacts text facts.now)) }
+            (λ facts. IsSomeAnd (text_at self.now index) (λ text. AreFacts text facts)) }
     {
-        self.text(index)?;
-        Some(&self.facts[usize::from(index) - 1])
+        let text = self.text(index)?;
+        match self.facts.get(usize::from(index) - 1) {
+            Some(Some(facts)) => Some(*facts),
+            _ => Some(facts_of_text(text)),
+        }
     }
 }

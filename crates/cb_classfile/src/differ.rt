@@ -2,97 +2,87 @@
 ghost use Rattle.std.specs.Prelude.{◌≡◌, ◌≢◌, ◌↔◌, ℕ, List, map, IfOk, IsTrue, slice_index, unwrap_or, Some, if◌then◌else◌};
 ghost use Rattle.std.specs.BTreeMap.{get_by};
 ghost use Rattle.std.specs.Cmp.Lexicographic.{slice_cmp};
-ghost use Rattle.std.specs.List.{AllPairs};
+ghost use Rattle.std.specs.List.{AllByRecursion, AllPairs};
 ghost use Rattle.std.specs.Ordering.{nat_cmp};
 ghost use Rattle.std.specs.Str.{bytes_eq};
-ghost use Rattle.cb_classfile.specs.Class.{Differ};
+ghost use Rattle.cb_classfile.specs.Class.{Differ, signature};
 ghost use Rattle.cb_classfile.specs.Pool.{text_at};
 
 use crate::constants::Constants;
+use crate::{Field, Method};
 use std::alloc::{AllocError, Global};
 use std::collections::{BTreeMap, BTreeSet};
 
-/// Whether no two of the members, each the indices of its name and of its descriptor, have the same texts there.
-/// Takes time in the length of the pool's texts and in the number of members, each times the logarithm of how many
-/// there are.
-pub(crate) fn do_differ(
-    alloc: Global,
-    constants: &Constants<'_>,
-    members: &[(u16, u16)],
-) -> Result<bool, AllocError>
-    ensures { IfOk result (λ differ. IsTrue differ
-        ↔ Differ constants.now members.now) }
-{
-    let numbers = numbers_of_texts(alloc, constants)?;
-    let pairs = pairs_of(alloc, &numbers, members)?;
-    are_distinct(alloc, &pairs)
+/// What has a name and a descriptor.
+pub trait Named {
+    /// The indices of its name and of its descriptor.
+    ghost indices: { Self → ℕ × ℕ };
+
+    /// The indices of its name and of its descriptor.
+    fn indices(&self) -> (u16, u16)
+        ensures { result ≡ indices self.now };
 }
 
-/// The numbers of the name and of the descriptor of each member.
-fn pairs_of(
-    alloc: Global,
-    numbers: &[u16],
-    members: &[(u16, u16)],
-) -> Result<Vec<(u16, u16)>, AllocError>
-    ensures { IfOk result (λ pairs. pairs.items
-        ≡ map (λ member. (slice_index numbers.now member.0, slice_index numbers.now member.1)) members.now) }
-{
-    members
-        .iter()
-        .map(|member| (number_at(numbers, member.0), number_at(numbers, member.1)))
-        .collect(alloc)
+impl Named for Field {
+    ghost indices = { λ field. (field.name, field.descriptor) };
+
+    fn indices(&self) -> (u16, u16) {
+        (self.name, self.descriptor)
+    }
 }
 
-/// Whether no two of the pairs are equal.
-fn are_distinct(alloc: Global, pairs: &[(u16, u16)]) -> Result<bool, AllocError>
-    ensures { IfOk result (λ distinct. IsTrue distinct ↔ AllPairs (λ one other. one ≢ other) pairs.now) }
+impl Named for Method {
+    ghost indices = { λ method. (method.name, method.descriptor) };
+
+    fn indices(&self) -> (u16, u16) {
+        (self.name, self.descriptor)
+    }
+}
+
+/// Whether no two of the members have the same name and the same descriptor. Takes no memory, and time in the number of
+/// pairs, for each of which two names and two descriptors may be compared.
+pub fn do_differ<M: Named>(constants: &Constants<'_>, members: &[M]) -> bool
+    ensures { IsTrue result ↔ Differ constants.now (map M.indices members.now) }
 {
-    let mut seen = BTreeSet::new(alloc);
-    for pair in pairs {
-        if !seen.insert(*pair)? {
-            return Ok(false);
+    let mut rest = members;
+    while let Some((first, behind)) = rest.split_first() {
+        if !differs_from(constants, first, behind) {
+            return false;
         }
+        rest = behind;
     }
-    Ok(true)
+    true
 }
 
-/// A number for each index, which is the same for two where they name equal texts or both name none.
-fn numbers_of_texts(alloc: Global, constants: &Constants<'_>) -> Result<Vec<u16>, AllocError>
-    ensures { IfOk result (λ numbers. (one other : ℕ)
-        → (slice_index numbers.items one ≡ slice_index numbers.items other) ↔ (text_at constants.now one ≡ text_at constants.now other)) }
+/// Whether a member differs from each of the others in name or descriptor.
+fn differs_from<M: Named>(constants: &Constants<'_>, member: &M, others: &[M]) -> bool
+    ensures { IsTrue result ↔ AllByRecursion (λ other. signature constants.now (M.indices member.now).0 (M.indices member.now).1
+        ≢ signature constants.now (M.indices other).0 (M.indices other).1) others.now }
 {
-    let mut first = BTreeMap::new(alloc);
-    let mut numbers = Vec::new(alloc);
-    for index in 0..constants.len() {
-        let number = match constants.text(index) {
-            Some(text) => first_index(&mut first, text, index)?,
-            None => 0,
-        };
-        numbers.push(number)?;
-    }
-    Ok(numbers)
+    let member = member.indices();
+    others
+        .iter()
+        .all(|other| differ(constants, member, other.indices()))
 }
 
-/// The index that the map has for a text. Where it has none, it gets this one.
-fn first_index<'a>(
-    first: &mut BTreeMap<&'a [u16], u16>,
-    text: &'a [u16],
-    index: u16,
-) -> Result<u16, AllocError>
-    ensures number { IfOk result (λ number. number ≡ unwrap_or (get_by (λ key. slice_cmp nat_cmp text.now key.now) first.old) index) }
-    ensures others { IfOk result (λ number. (other : List ℕ) → get_by (λ key. slice_cmp nat_cmp other key.now) first.new
-        ≡ (if bytes_eq text.now other then Some number else get_by (λ key. slice_cmp nat_cmp other key.now) first.old)) }
+/// Whether two members differ in name or descriptor.
+fn differ(constants: &Constants<'_>, one: (u16, u16), other: (u16, u16)) -> bool
+    ensures { IsTrue result
+        ↔ (signature constants.now one.0 one.1 ≢ signature constants.now other.0 other.1) }
 {
-    if let Some(number) = first.get(&text) {
-        return Ok(*number);
-    }
-    first.insert(text, index)?;
-    Ok(index)
+    !is_same(constants, one.0, other.0) || !is_same(constants, one.1, other.1)
 }
 
-/// The number of an index.
-fn number_at(numbers: &[u16], index: u16) -> u16
-    ensures { result ≡ slice_index numbers.now index }
+/// Whether two indices name equal texts, or both name none.
+fn is_same(constants: &Constants<'_>, one: u16, other: u16) -> bool
+    ensures { IsTrue result ↔ (text_at constants.now one ≡ text_at constants.now other) }
 {
-    numbers.get(usize::from(index)).copied().unwrap_or(0)
+    if one == other {
+        return true;
+    }
+    match (constants.text(one), constants.text(other)) {
+        (Some(one), Some(other)) => one == other,
+        (None, None) => true,
+        _ => false,
+    }
 }

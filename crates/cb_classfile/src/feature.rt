@@ -1,41 +1,56 @@
 // What this machine leaves out of class files.
-use thiserror::Error;
+ghost use Rattle.std.specs.Prelude.{Some};
+ghost use Rattle.cb_classfile.specs.Messages.{feature_text};
+
+use std::error::Error;
+use std::fmt;
 
 /// An item that this machine's profile leaves out: floating point, method handles and `invokedynamic`, reference
 /// objects, threads, native methods, finalizers and subroutines. It is printed by its words.
-#[derive(Clone, Copy, Debug, PartialEq, Eq, Error)]
+#[derive(Clone, Copy, Debug, PartialEq, Eq)]
 pub enum Feature {
     /// A constant, descriptor, frame type or instruction of type float.
-    #[error("float")]
     Float,
     /// The same of type double.
-    #[error("double")]
     Double,
     /// A MethodHandle constant (JVMS §4.4.8).
-    #[error("method handle")]
     MethodHandle,
     /// A MethodType constant (JVMS §4.4.9).
-    #[error("method type")]
     MethodType,
     /// An InvokeDynamic constant or the instruction `invokedynamic` (JVMS §4.4.10).
-    #[error("invokedynamic")]
     InvokeDynamic,
     /// A class under `java/lang/ref/`.
-    #[error("java/lang/ref")]
     LangRef,
     /// A synchronized method.
-    #[error("synchronized")]
     Synchronized,
     /// A native method.
-    #[error("native")]
     Native,
     /// A method `finalize()V`.
-    #[error("finalize")]
     Finalize,
     /// `monitorenter` or `monitorexit`.
-    #[error("monitor")]
     Monitor,
     /// `jsr`, `jsr_w` or `ret`.
-    #[error("jsr")]
     Jsr,
 }
+
+impl fmt::Display for Feature {
+    ghost output = { λ feature. Some (feature_text feature) };
+
+    fn fmt<W: fmt::Write>(&self, f: &mut fmt::Formatter<W>) -> fmt::Result {
+        f.write_str(match self {
+            Feature::Float => "float",
+            Feature::Double => "double",
+            Feature::MethodHandle => "method handle",
+            Feature::MethodType => "method type",
+            Feature::InvokeDynamic => "invokedynamic",
+            Feature::LangRef => "java/lang/ref",
+            Feature::Synchronized => "synchronized",
+            Feature::Native => "native",
+            Feature::Finalize => "finalize",
+            Feature::Monitor => "monitor",
+            Feature::Jsr => "jsr",
+        })
+    }
+}
+
+impl Error for Feature {}

@@ -1,8 +1,9 @@
 // Fields (JVMS §4.5).
-ghost use Rattle.std.specs.Prelude.{◌≡◌, ℕ, IsSomeAnd, IfOk, IsOkAnd, MatchOption, IsTrue, ◌↔◌, Option as Maybe, List as Items};
-ghost use Rattle.cb_classfile.specs.Members.{SpellsValue, IsValueOf, IsNarrow};
+ghost use Rattle.std.specs.Prelude.{ℕ, IsTrue, ◌↔◌, List as Items};
 ghost use Rattle.cb_classfile.specs.Attributes.{IsTold, SpellsOnce};
+ghost use Rattle.cb_classfile.specs.Members.{SpellsValue, IsValueOf, IsNarrow};
 ghost use Rattle.cb_classfile.specs.Pool.{HasText};
+ghost use Rattle.cb_classfile.specs.Reading.{ReadsWhole};
 
 use crate::FieldFlags;
 use crate::ascii::has_text;
@@ -63,10 +64,8 @@ fn constant_of(
     descriptor: u16,
     occurrence: Occurrence<'_>,
 ) -> Result<Option<u16>, Fault>
-    ensures found { IfOk result (λ constant. (contents : Items (Items ℕ)) → IsTold occurrence.entry contents
-        → SpellsOnce (SpellsValue constants.now descriptor) contents constant) }
-    ensures only { (contents : Items (Items ℕ)) (constant : Maybe ℕ) → IsTold occurrence.entry contents
-        → SpellsOnce (SpellsValue constants.now descriptor) contents constant → IsOkAnd result (λ read. read ≡ constant) }
+    ensures { (contents : Items (Items ℕ)) → IsTold occurrence.entry contents
+        → ReadsWhole (SpellsOnce (SpellsValue constants.now descriptor)) contents result }
 {
     match occurrence {
         Occurrence::Never => Ok(None),
@@ -77,9 +76,7 @@ fn constant_of(
 
 /// The index in the contents of an attribute `ConstantValue`.
 fn value_of(constants: &Constants<'_>, descriptor: u16, contents: &[u8]) -> Result<u16, Fault>
-    ensures found { IfOk result (λ index. SpellsValue constants.now descriptor contents.now index) }
-    ensures only { (index : ℕ) → SpellsValue constants.now descriptor contents.now index
-        → IsOkAnd result (λ read. read ≡ index) }
+    ensures { ReadsWhole (SpellsValue constants.now descriptor) contents.now result }
 {
     let (index, rest) = u2_at(contents)?;
     match (rest, constants.constant(index)) {
@@ -88,8 +85,8 @@ fn value_of(constants: &Constants<'_>, descriptor: u16, contents: &[u8]) -> Resu
     }
 }
 
-/// Whether the constant may be the value of a field of this descriptor.
-fn is_value_of(constants: &Constants<'_>, descriptor: u16, constant: &Constant) -> bool
+/// Whether the constant may be the value of a field of the descriptor at an index (JVMS table 4.7.2-A).
+pub fn is_value_of(constants: &Constants<'_>, descriptor: u16, constant: &Constant) -> bool
     ensures { IsTrue result ↔ HasText constants.now descriptor (λ text. IsValueOf text constant.now) }
 {
     match constant {

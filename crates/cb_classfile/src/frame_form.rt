@@ -4,7 +4,7 @@ ghost use Rattle.cb_classfile.specs.FrameMap.{form_of_frame};
 
 /// What stands behind the kind of a frame (JVMS §4.7.4).
 #[derive(Clone, Copy, Debug, PartialEq, Eq)]
-pub(crate) enum FrameForm {
+pub enum FrameForm {
     /// Nothing: the locals are those of the frame before, and the stack is empty.
     Same,
     /// One stack item.
@@ -24,7 +24,7 @@ pub(crate) enum FrameForm {
 }
 
 /// The form of a frame of this kind.
-pub(crate) fn form_of_frame(kind: u8) -> FrameForm
+pub fn form_of_frame(kind: u8) -> FrameForm
     ensures { result ≡ form_of_frame kind }
 {
     match kind {

@@ -1,8 +1,7 @@
 // The attribute StackMapTable (JVMS §4.7.4).
-ghost use Rattle.std.specs.Prelude.{◌≡◌, ℕ, List as Items, IfOk, IsOkAnd, MatchResult};
+ghost use Rattle.std.specs.Prelude.{◌≡◌};
 ghost use Rattle.cb_classfile.specs.FrameMap.{SpellsDelta, SpellsLocals, SpellsStack, form_of_frame};
-ghost use Rattle.cb_classfile.specs.Tables.{BeginsWith};
-ghost use Rattle.cb_classfile.specs.declared.map_type.MapType.{MapType as AnyType};
+ghost use Rattle.cb_classfile.specs.Reading.{Reads};
 
 use crate::MapTypes;
 use crate::constants::Constants;
@@ -57,9 +56,7 @@ impl Entry for MapFrame {
 /// The delta of a frame, and what stands behind it.
 fn delta_at(form: FrameForm, kind: u8, bytes: &[u8]) -> Result<(u16, &[u8]), Fault>
     requires { form ≡ form_of_frame kind }
-    ensures found { IfOk result (λ read. BeginsWith (SpellsDelta form kind) bytes.now read.0 read.1.now) }
-    ensures only { (delta : ℕ) (rest : Items ℕ) → BeginsWith (SpellsDelta form kind) bytes.now delta rest
-        → IsOkAnd result (λ read. (read.0 ≡ delta) × (read.1.now ≡ rest)) }
+    ensures { Reads (SpellsDelta form kind) bytes.now result }
 {
     match form {
         FrameForm::Same => Ok((u16::from(kind), bytes)),
@@ -81,10 +78,7 @@ fn locals_at<'a>(
     bytes: &'a [u8],
 ) -> Result<(MapTypes, &'a [u8]), Fault>
     requires { form ≡ form_of_frame kind }
-    ensures found { IfOk result (λ read. BeginsWith (SpellsLocals constants.now form kind) bytes.now read.0 read.1.now) }
-    ensures only { (locals : Items AnyType) (rest : Items ℕ)
-        → BeginsWith (SpellsLocals constants.now form kind) bytes.now locals rest
-        → MatchResult result (λ read. (read.0 ≡ locals) × (read.1.now ≡ rest)) (λ fault. fault ≡ Fault.OutOfMemory) }
+    ensures { Reads (SpellsLocals constants.now form kind) bytes.now result }
 {
     match form {
         FrameForm::Append => entries(alloc, constants, u16::from(kind - 251), bytes),
@@ -100,10 +94,7 @@ fn stack_at<'a>(
     form: FrameForm,
     bytes: &'a [u8],
 ) -> Result<(MapTypes, &'a [u8]), Fault>
-    ensures found { IfOk result (λ read. BeginsWith (SpellsStack constants.now form) bytes.now read.0 read.1.now) }
-    ensures only { (stack : Items AnyType) (rest : Items ℕ)
-        → BeginsWith (SpellsStack constants.now form) bytes.now stack rest
-        → MatchResult result (λ read. (read.0 ≡ stack) × (read.1.now ≡ rest)) (λ fault. fault ≡ Fault.OutOfMemory) }
+    ensures { Reads (SpellsStack constants.now form) bytes.now result }
 {
     match form {
         FrameForm::SameOneItem | FrameForm::SameOneItemExtended => {

@@ -1,7 +1,7 @@
 // The exception table (JVMS §4.7.3).
-ghost use Rattle.std.specs.Prelude.{◌≡◌, ◌↔◌, ℕ, List as Items, IsTrue};
+ghost use Rattle.std.specs.Prelude.{◌≡◌, ◌↔◌, IsTrue};
 ghost use Rattle.std.specs.List.{AllByRecursion};
-ghost use Rattle.cb_insn.specs.Grammar.{SpellsCode};
+ghost use Rattle.cb_insn.specs.Places.{Rise, places};
 ghost use Rattle.cb_classfile.specs.Code.{IsPlaced};
 
 use crate::constants::Constants;
@@ -38,8 +38,8 @@ impl Entry for Handler {
         constants: &Constants<'_>,
         bytes: &'a [u8],
     ) -> Result<(Handler, &'a [u8]), Fault> {
-        let (start, end, rest) = pair_at(bytes)?;
-        let (handler, catch_type, rest) = pair_at(rest)?;
+        let ((start, end), rest) = pair_at(bytes)?;
+        let ((handler, catch_type), rest) = pair_at(rest)?;
         if catch_type != 0 && constants.class(catch_type).is_none() {
             return Err(Fault::Malformed);
         }
@@ -53,10 +53,10 @@ impl Entry for Handler {
     }
 }
 
-/// Whether the places of each entry are those of instructions. Takes time in their number, times the logarithm of that
-/// of the instructions.
-pub(crate) fn are_placed(code: &Code, size: usize, handlers: &[Handler]) -> bool
-    requires { (bytes : Items ℕ) × SpellsCode code.now bytes }
+/// Whether each entry covers an instruction at least, and its places are those of instructions, or the end that of code
+/// of this size (JVMS §4.7.3). Takes time in the number of entries, times the logarithm of that of the instructions.
+pub fn are_placed(code: &Code, size: usize, handlers: &[Handler]) -> bool
+    requires { Rise (places code.now) }
     ensures { IsTrue result ↔ AllByRecursion (IsPlaced code.now size) handlers.now }
 {
     handlers.iter().all(|entry| is_placed(code, size, *entry))
@@ -64,7 +64,7 @@ pub(crate) fn are_placed(code: &Code, size: usize, handlers: &[Handler]) -> bool
 
 /// Whether those of an entry are.
 fn is_placed(code: &Code, size: usize, entry: Handler) -> bool
-    requires { (bytes : Items ℕ) × SpellsCode code.now bytes }
+    requires { Rise (places code.now) }
     ensures { IsTrue result ↔ IsPlaced code.now size entry }
 {
     entry.start < entry.end

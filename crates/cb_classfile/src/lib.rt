@@ -1,10 +1,12 @@
 //! Class files: the records that the bytes of whole class files spell, read exactly by their grammar (JVMS chapter 4),
-//! and the first item, if any, that this machine leaves out.
+//! the rules of the grammar beyond its tables, each as a question, and the first item, if any, that this machine leaves
+//! out.
 //!
 //! `specs/` has the grammar, a file for each table of the standard, and the profile. No clause says that memory is to
 //! be had: that no call always gives up is shown by tests alone.
 #![tactic(auto)]
 
+pub mod array_code;
 mod ascii;
 mod attribute;
 mod body;
@@ -24,6 +26,7 @@ mod laws;
 mod map_type;
 mod member;
 mod method;
+mod naming;
 mod needed;
 mod numbers;
 mod profile;
@@ -31,17 +34,29 @@ mod read;
 mod table;
 #[cfg(test)]
 mod tests;
+mod text_numbers;
 mod texts;
 
 pub use body::Body;
 pub use class::ClassFile;
-pub use fault::ClassFault;
+pub use class_rules::is_class;
+pub use constants::Constants;
+pub use differ::{Named, do_differ};
+pub use fault::{ClassFault, ReadFault};
 pub use feature::Feature;
-pub use field::{Field, Fields};
+pub use field::{Field, Fields, is_value_of};
 pub use flags::{ClassFlags, FieldFlags, MethodFlags};
+pub use frame_form::{FrameForm, form_of_frame};
 pub use frame_map::{Frames, MapFrame};
-pub use handler::{Handler, Handlers};
+pub use handler::{Handler, Handlers, are_placed};
 pub use laws::one_class;
 pub use map_type::{MapType, MapTypes};
-pub use method::{Method, Methods};
-pub use read::read_class;
+pub use method::{Method, Methods, is_method};
+pub use needed::{ConstantKind, call_classes, have_constants, index_in, kind_needed};
+pub use profile::{unsupported, unsupported_in};
+pub use read::{read_any_class, read_class};
+pub use texts::{TextFacts, facts_of};
+
+// What a record is made of: its constant pool, and the instructions of its methods.
+pub use cb_insn::{Code, Insn, Operand, Pair, Pairs, Targets, is_place, opcode};
+pub use cb_text::{Constant, Member, MemberKind, NameAndType, Pool, Units};

@@ -1,8 +1,6 @@
 // What fields and methods have alike (JVMS §4.5, §4.6).
-ghost use Rattle.std.specs.Prelude.{◌≡◌, ℕ, List, IfOk, IsOkAnd};
-ghost use Rattle.cb_classfile.specs.Attributes.{Attribute, IsTold, contents_named};
-ghost use Rattle.cb_classfile.specs.Members.{SpellsMember};
-ghost use Rattle.cb_classfile.specs.Tables.{BeginsWith};
+ghost use Rattle.cb_classfile.specs.Members.{SpellsMember, TellsMember};
+ghost use Rattle.cb_classfile.specs.Reading.{Tells};
 
 use crate::attribute::{Occurrence, attributes_named};
 use crate::constants::Constants;
@@ -28,15 +26,9 @@ pub(crate) fn member_at<'a>(
     attribute: &[u8],
     bytes: &'a [u8],
 ) -> Result<(Member<'a>, &'a [u8]), Fault>
-    ensures found { IfOk result (λ read. (attributes : List Attribute)
-        × BeginsWith (SpellsMember constants.now read.0.flags read.0.name read.0.descriptor) bytes.now attributes read.1.now
-        × IsTold read.0.occurrence (contents_named constants.now attribute.now attributes)) }
-    ensures only { (flags name descriptor : ℕ) (attributes : List Attribute) (rest : List ℕ)
-        → BeginsWith (SpellsMember constants.now flags name descriptor) bytes.now attributes rest
-        → IsOkAnd result (λ read. (read.0.flags ≡ flags) × (read.0.name ≡ name) × (read.0.descriptor ≡ descriptor)
-        × IsTold read.0.occurrence (contents_named constants.now attribute.now attributes) × (read.1.now ≡ rest)) }
+    ensures { Tells (SpellsMember constants.now) (TellsMember constants.now attribute.now) bytes.now result }
 {
-    let (flags, name, descriptor, rest) = triple_at(bytes)?;
+    let ((flags, name, descriptor), rest) = triple_at(bytes)?;
     let (occurrence, rest) = attributes_named(constants, attribute, rest)?;
     let member = Member {
         flags,

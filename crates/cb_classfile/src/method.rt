@@ -1,11 +1,11 @@
 // Methods (JVMS §4.6).
-ghost use Rattle.std.specs.Prelude.{◌≡◌, ◌↔◌, ℕ, IfOk, IsTrue, MatchResult, Some, codes, Option as Maybe, List as Items};
+ghost use Rattle.std.specs.Prelude.{◌≡◌, ◌↔◌, ℕ, IsTrue, Some, codes, List as Items};
 ghost use Rattle.cb_classfile.specs.Attributes.{IsTold, SpellsOnce};
 ghost use Rattle.cb_classfile.specs.Code.{SpellsBody};
 ghost use Rattle.cb_classfile.specs.Flags.{acc_abstract, HasFlag};
 ghost use Rattle.cb_classfile.specs.Members.{IsMethod, HasCodeWhereAsked, HasFewWords, IsInitialiser, MayBeAbstract};
 ghost use Rattle.cb_classfile.specs.Pool.{HasText, text_at};
-ghost use Rattle.cb_classfile.specs.declared.body.Body.{Body as AnyBody};
+ghost use Rattle.cb_classfile.specs.Reading.{ReadsWhole};
 
 use crate::ascii::has_text;
 use crate::attribute::Occurrence;
@@ -69,11 +69,8 @@ fn body_in(
     constants: &Constants<'_>,
     occurrence: Occurrence<'_>,
 ) -> Result<Option<Body>, Fault>
-    ensures found { IfOk result (λ body. (contents : Items (Items ℕ)) → IsTold occurrence.entry contents
-        → SpellsOnce (SpellsBody constants.now) contents body) }
-    ensures only { (contents : Items (Items ℕ)) (body : Maybe AnyBody) → IsTold occurrence.entry contents
-        → SpellsOnce (SpellsBody constants.now) contents body
-        → MatchResult result (λ read. read ≡ body) (λ fault. fault ≡ Fault.OutOfMemory) }
+    ensures { (contents : Items (Items ℕ)) → IsTold occurrence.entry contents
+        → ReadsWhole (SpellsOnce (SpellsBody constants.now)) contents result }
 {
     match occurrence {
         Occurrence::Never => Ok(None),
@@ -82,8 +79,9 @@ fn body_in(
     }
 }
 
-/// Whether a method keeps the rules on flags, names and code.
-fn is_method(constants: &Constants<'_>, method: &Method) -> bool
+/// Whether a method keeps the rules on flags, names and code that are asked beyond its tables (JVMS §4.3.3, §4.6,
+/// §4.7.3).
+pub fn is_method(constants: &Constants<'_>, method: &Method) -> bool
     ensures { IsTrue result ↔ IsMethod constants.now method.now }
 {
     has_few_words(constants, method)

@@ -8,9 +8,9 @@ ghost use Rattle.cb_classfile.specs.declared.feature.Feature.{Feature as AnyFeat
 
 use crate::ascii::has_text;
 use crate::constants::Constants;
-use crate::{Body, ClassFile, Feature, Field, MapFrame, MapType, Method, MethodFlags};
+use crate::{Body, ClassFile, Feature, Field, MapFrame, MapType, Method, MethodFlags, array_code};
 use bitflags::Flags;
-use cb_insn::{Insn, Operand};
+use cb_insn::{Insn, Operand, opcode};
 use cb_names::Floating;
 use cb_text::Constant;
 
@@ -23,9 +23,16 @@ const REFERENCES: &[u16] = &[
 ];
 
 /// The first item of a class that this machine leaves out, if there is one: in its pool by index, in its fields'
-/// descriptors, and in its methods. Takes time in the number of constants, fields, frame types and instructions, and
-/// no memory.
-pub(crate) fn unsupported(constants: &Constants<'_>, class: &ClassFile) -> Option<Feature>
+/// descriptors, and in its methods. Takes no memory, and time in the number of constants, fields, frame types and
+/// instructions and in the length of the descriptors, each as often as it is named.
+pub fn unsupported(class: &ClassFile) -> Option<Feature>
+    ensures { result ≡ unsupported class.now }
+{
+    unsupported_in(&Constants::new(&class.pool), class)
+}
+
+/// The same, by constants with what their texts are: in time that is linear in the class where they have a table.
+pub fn unsupported_in(constants: &Constants<'_>, class: &ClassFile) -> Option<Feature>
     requires { class.now.pool ≡ constants.now }
     ensures { result ≡ unsupported class.now }
 {
@@ -245,9 +252,9 @@ fn opcode_item(opcode: u8) -> Option<Feature>
         return Some(Feature::Double);
     }
     match opcode {
-        0xA8..=0xA9 | 0xC9 => Some(Feature::Jsr),
-        0xBA => Some(Feature::InvokeDynamic),
-        0xC2..=0xC3 => Some(Feature::Monitor),
+        opcode::JSR | opcode::RET | opcode::JSR_W => Some(Feature::Jsr),
+        opcode::INVOKEDYNAMIC => Some(Feature::InvokeDynamic),
+        opcode::MONITORENTER | opcode::MONITOREXIT => Some(Feature::Monitor),
         _ => None,
     }
 }
@@ -258,8 +265,25 @@ fn is_float(opcode: u8) -> bool
 {
     matches!(
         opcode,
-        0x0B..=0x0D | 0x17 | 0x22..=0x25 | 0x30 | 0x38 | 0x43..=0x46 | 0x51 | 0x62 | 0x66 | 0x6A | 0x6E | 0x72 | 0x76
-            | 0x86 | 0x89 | 0x8B..=0x8D | 0x90 | 0x95..=0x96 | 0xAE
+        opcode::FCONST_0..=opcode::FCONST_2
+            | opcode::FLOAD
+            | opcode::FLOAD_0..=opcode::FLOAD_3
+            | opcode::FALOAD
+            | opcode::FSTORE
+            | opcode::FSTORE_0..=opcode::FSTORE_3
+            | opcode::FASTORE
+            | opcode::FADD
+            | opcode::FSUB
+            | opcode::FMUL
+            | opcode::FDIV
+            | opcode::FREM
+            | opcode::FNEG
+            | opcode::I2F
+            | opcode::L2F
+            | opcode::F2I..=opcode::F2D
+            | opcode::D2F
+            | opcode::FCMPL..=opcode::FCMPG
+            | opcode::FRETURN
     )
 }
 
@@ -269,8 +293,24 @@ fn is_double(opcode: u8) -> bool
 {
     matches!(
         opcode,
-        0x0E..=0x0F | 0x18 | 0x26..=0x29 | 0x31 | 0x39 | 0x47..=0x4A | 0x52 | 0x63 | 0x67 | 0x6B | 0x6F | 0x73 | 0x77
-            | 0x87 | 0x8A | 0x8E..=0x8F | 0x97..=0x98 | 0xAF
+        opcode::DCONST_0..=opcode::DCONST_1
+            | opcode::DLOAD
+            | opcode::DLOAD_0..=opcode::DLOAD_3
+            | opcode::DALOAD
+            | opcode::DSTORE
+            | opcode::DSTORE_0..=opcode::DSTORE_3
+            | opcode::DASTORE
+            | opcode::DADD
+            | opcode::DSUB
+            | opcode::DMUL
+            | opcode::DDIV
+            | opcode::DREM
+            | opcode::DNEG
+            | opcode::I2D
+            | opcode::L2D
+            | opcode::D2I..=opcode::D2L
+            | opcode::DCMPL..=opcode::DCMPG
+            | opcode::DRETURN
     )
 }
 
@@ -279,8 +319,8 @@ fn operand_item(operand: &Operand) -> Option<Feature>
     ensures { result ≡ operand_item operand.now }
 {
     match operand {
-        Operand::ArrayCode(6) => Some(Feature::Float),
-        Operand::ArrayCode(7) => Some(Feature::Double),
+        Operand::ArrayCode(array_code::FLOAT) => Some(Feature::Float),
+        Operand::ArrayCode(array_code::DOUBLE) => Some(Feature::Double),
         _ => None,
     }
 }

@@ -1,7 +1,8 @@
 // Tables: the number of their entries, and the entries, one after the other (JVMS §4).
-ghost use Rattle.std.specs.Prelude.{◌≡◌, ◌^◌, ◌<◌, ℕ, List as Items, IfOk, MatchResult};
+ghost use Rattle.std.specs.Prelude.{ℕ, List as Items};
 ghost use Rattle.cb_text.specs.declared.constant.Constant.{Constant as AnyConstant};
-ghost use Rattle.cb_classfile.specs.Tables.{BeginsWith, SpellsCount, SpellsTable};
+ghost use Rattle.cb_classfile.specs.Reading.{Reads, ReadsWhole};
+ghost use Rattle.cb_classfile.specs.Tables.{SpellsCount, SpellsTable};
 
 use crate::constants::Constants;
 use crate::fault::Fault;
@@ -20,9 +21,7 @@ pub(crate) trait Entry: Sized {
         constants: &Constants<'_>,
         bytes: &'a [u8],
     ) -> Result<(Self, &'a [u8]), Fault>
-        ensures found { IfOk result (λ read. BeginsWith (spells constants.now) bytes.now read.0 read.1.now) }
-        ensures only { (entry : Self) (rest : Items ℕ) → BeginsWith (spells constants.now) bytes.now entry rest
-            → MatchResult result (λ read. (read.0 ≡ entry) × (read.1.now ≡ rest)) (λ fault. fault ≡ Fault.OutOfMemory) };
+        ensures { Reads (spells constants.now) bytes.now result };
 }
 
 /// So many entries at the front, and what stands behind them.
@@ -32,9 +31,7 @@ pub(crate) fn entries<'a, T: Entry + Drop>(
     count: u16,
     bytes: &'a [u8],
 ) -> Result<(List<T>, &'a [u8]), Fault>
-    ensures found { IfOk result (λ read. BeginsWith (SpellsCount (T.spells constants.now) count) bytes.now read.0 read.1.now) }
-    ensures only { (entries : Items T) (rest : Items ℕ) → BeginsWith (SpellsCount (T.spells constants.now) count) bytes.now entries rest
-        → MatchResult result (λ read. (read.0 ≡ entries) × (read.1.now ≡ rest)) (λ fault. fault ≡ Fault.OutOfMemory) }
+    ensures { Reads (SpellsCount (T.spells constants.now) count) bytes.now result }
 {
     let mut entries = List::new(alloc);
     let mut rest = bytes;
@@ -52,9 +49,7 @@ pub(crate) fn table<'a, T: Entry + Drop>(
     constants: &Constants<'_>,
     bytes: &'a [u8],
 ) -> Result<(List<T>, &'a [u8]), Fault>
-    ensures found { IfOk result (λ read. BeginsWith (SpellsTable (T.spells constants.now)) bytes.now read.0 read.1.now) }
-    ensures only { (entries : Items T) (rest : Items ℕ) → BeginsWith (SpellsTable (T.spells constants.now)) bytes.now entries rest
-        → MatchResult result (λ read. (read.0 ≡ entries) × (read.1.now ≡ rest)) (λ fault. fault ≡ Fault.OutOfMemory) }
+    ensures { Reads (SpellsTable (T.spells constants.now)) bytes.now result }
 {
     let (count, rest) = u2_at(bytes)?;
     let (entries, rest) = entries(alloc, constants, count, rest)?;
@@ -67,9 +62,7 @@ pub(crate) fn whole_table<T: Entry + Drop>(
     constants: &Constants<'_>,
     bytes: &[u8],
 ) -> Result<List<T>, Fault>
-    ensures found { IfOk result (λ entries. SpellsTable (T.spells constants.now) bytes.now entries) }
-    ensures only { (entries : Items T) → SpellsTable (T.spells constants.now) bytes.now entries
-        → MatchResult result (λ read. read ≡ entries) (λ fault. fault ≡ Fault.OutOfMemory) }
+    ensures { ReadsWhole (SpellsTable (T.spells constants.now)) bytes.now result }
 {
     let (entries, rest) = table(alloc, constants, bytes)?;
     match rest {

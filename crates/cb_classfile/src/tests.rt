@@ -4,6 +4,7 @@ mod costs;
 mod described;
 mod files;
 mod left_out;
+mod opened;
 mod real_classes;
 mod spelled;
 

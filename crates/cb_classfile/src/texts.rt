@@ -1,77 +1,135 @@
 // What the texts of a pool are.
-ghost use Rattle.std.specs.Prelude.{◌≡◌, ℕ, List, IfOk, Some};
+ghost use Rattle.std.specs.Prelude.{◌≡◌, ℕ, List, IfOk, IfSome, Some};
+ghost use Rattle.cb_names.specs.Descriptors.{floating_in};
+ghost use Rattle.cb_names.specs.Types.{IsElement, SpellsType, element_of, element_text, type_of};
 ghost use Rattle.cb_classfile.specs.Pool.{text_at};
 ghost use Rattle.cb_classfile.specs.Texts.{AreFacts, Describe};
 
 use cb_names::{
-    Floating, floating_in, is_array_descriptor, is_class_name, is_field_descriptor, is_method_name,
-    is_unqualified_name, parameter_words,
+    BaseType, ElementType, FieldType, Floating, field_type, floating_in, is_array_descriptor,
+    name_kinds, parameter_words,
 };
 use cb_text::{Constant, Pool};
 use std::alloc::{AllocError, Global};
 
-/// What a text is. A constant that is no text is none of these.
+/// What a text is as a name and as a descriptor (JVMS §4.2, §4.3). `Constants` asks it.
 #[derive(Clone, Copy, Debug)]
-pub(crate) struct TextFacts {
+pub struct TextFacts {
     /// A name without `.`, `;`, `[` and `/`.
-    pub(crate) unqualified_name: bool,
+    pub unqualified_name: bool,
     /// A method's name.
-    pub(crate) method_name: bool,
+    pub method_name: bool,
     /// The name of a class or interface.
-    pub(crate) class_name: bool,
+    pub class_name: bool,
     /// A field descriptor with a dimension at least.
-    pub(crate) array_descriptor: bool,
+    pub array_descriptor: bool,
     /// A field descriptor.
-    pub(crate) field_descriptor: bool,
+    pub field_descriptor: bool,
     /// A method descriptor whose parameters take so many words.
-    pub(crate) parameter_words: Option<u8>,
-    /// The first floating-point type that it names as a descriptor.
-    pub(crate) floating: Option<Floating>,
+    pub parameter_words: Option<u8>,
+    /// The first floating-point type that it names as a descriptor, told where it is one.
+    pub floating: Option<Option<Floating>>,
 }
 
-/// What a constant is that is no text.
-const NO_FACTS: TextFacts = TextFacts {
-    unqualified_name: false,
-    method_name: false,
-    class_name: false,
-    array_descriptor: false,
-    field_descriptor: false,
-    parameter_words: None,
-    floating: None,
-};
+/// The greatest length of a text that isn't looked at before it is asked for where no constant names it as a name or a
+/// descriptor. Of many class files these are most texts, and each question about one takes constant time still.
+const LONGEST_LEFT: usize = 64;
 
-/// What the texts of a pool are, at the places of its constants. Takes time in the length of the texts.
-pub(crate) fn facts_of(alloc: Global, pool: &Pool) -> Result<Vec<TextFacts>, AllocError>
+/// What the texts of a pool are, at the places of its constants. A short text that no constant names as a name or a
+/// descriptor has none, as other constants. `AllocError` where no memory was to be had. Takes time in the length of the
+/// texts.
+pub fn facts_of(alloc: Global, pool: &Pool) -> Result<Vec<Option<TextFacts>>, AllocError>
     ensures { IfOk result (λ facts. Describe pool.now facts.items) }
 {
-    let mut facts = Vec::new(alloc);
+    let named = named_texts(alloc, pool)?;
+    let mut facts = Vec::with_capacity(alloc, usize::from(pool.len()))?;
     for index in 1..pool.len() {
-        facts.push(facts_at(pool, index))?;
+        let is_named = named.get(usize::from(index)).copied().unwrap_or(false);
+        facts.push(facts_at(pool, index, is_named))?;
     }
     Ok(facts)
 }
 
-/// What the text at an index is.
-fn facts_at(pool: &Pool, index: u16) -> TextFacts
-    ensures { (text : List ℕ) → text_at pool.now index ≡ Some text → AreFacts text result }
+/// What the text at an index is, unless it is short and isn't named.
+fn facts_at(pool: &Pool, index: u16, is_named: bool) -> Option<TextFacts>
+    ensures { IfSome result (λ facts. (text : List ℕ) → text_at pool.now index ≡ Some text → AreFacts text facts) }
 {
-    match pool.get(index) {
-        Some(Constant::Utf8(units)) => facts_of_text(units.as_slice()),
-        _ => NO_FACTS,
+    let text = pool.text(index)?;
+    if is_named || text.len() > LONGEST_LEFT {
+        Some(facts_of_text(text))
+    } else {
+        None
+    }
+}
+
+/// Which indices constants name as those of names and descriptors. No clause says so: what isn't marked is looked at
+/// where it is asked for.
+fn named_texts(alloc: Global, pool: &Pool) -> Result<Vec<bool>, AllocError> {
+    let mut named = vec![in alloc; false; usize::from(pool.len())]?;
+    for constant in pool.constants() {
+        match constant {
+            Constant::Class(name) | Constant::MethodType(name) => mark(&mut named, *name),
+            Constant::NameAndType(name, descriptor) => {
+                mark(&mut named, *name);
+                mark(&mut named, *descriptor);
+            }
+            _ => {}
+        }
+    }
+    Ok(named)
+}
+
+/// Marks an index, if it is one.
+fn mark(named: &mut Vec<bool>, index: u16) {
+    if let Some(slot) = named.get_mut(usize::from(index)) {
+        *slot = true;
     }
 }
 
 /// What a text is. Takes time in its length.
-fn facts_of_text(text: &[u16]) -> TextFacts
+pub(crate) fn facts_of_text(text: &[u16]) -> TextFacts
     ensures { AreFacts text.now result }
 {
+    let names = name_kinds(text);
+    let field = field_type(text);
+    let parameter_words = parameter_words(text);
     TextFacts {
-        unqualified_name: is_unqualified_name(text),
-        method_name: is_method_name(text),
-        class_name: is_class_name(text),
+        unqualified_name: names.unqualified,
+        method_name: names.method,
+        class_name: names.class,
         array_descriptor: is_array_descriptor(text),
-        field_descriptor: is_field_descriptor(text),
-        parameter_words: parameter_words(text),
-        floating: floating_in(text),
+        field_descriptor: field.is_some(),
+        parameter_words,
+        floating: floating_told(text, field, parameter_words),
+    }
+}
+
+/// The first floating-point type of a text, told where it is a field descriptor, of this type, or a method descriptor.
+/// A field descriptor isn't walked once more.
+fn floating_told(
+    text: &[u16],
+    field: Option<FieldType<'_>>,
+    parameter_words: Option<u8>,
+) -> Option<Option<Floating>>
+    requires { IfSome field (λ type. SpellsType text.now (type_of type)) }
+    ensures { IfSome result (λ floating. floating ≡ floating_in text.now) }
+{
+    match field {
+        Some(found) => Some(floating_of_element(found.element)),
+        None if parameter_words.is_some() => Some(floating_in(text)),
+        None => None,
+    }
+}
+
+/// The floating-point type that a type is, where it is no array's.
+fn floating_of_element(element: ElementType<'_>) -> Option<Floating>
+    requires { IsElement (element_of element) }
+    ensures { result ≡ floating_in (element_text (element_of element.entry)) }
+{
+    match element {
+        ElementType::Base(BaseType::Float) => Some(Floating::Float),
+        ElementType::Base(BaseType::Double) => Some(Floating::Double),
+        ElementType::Base(_) => None,
+        ElementType::Class(_) => None,
     }
 }

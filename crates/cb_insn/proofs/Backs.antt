@@ -12,7 +12,7 @@ use Rattle.cb_insn.specs.declared.form.Form.TheVariants as forms
 use Rattle.cb_insn.specs.declared.insn.Pair.{Pair}
 use Rattle.cb_insn.specs.Grammar.{u2, s2, s4, offset, table_bytes, lookup_bytes, KeysRise, IsPadding, SpellsOperand}
 use Rattle.cb_insn.specs.Faults.{u2_at, s2_at, s4_at, count_of, padding_length, table_low, table_high, table_count, table_length, lookup_number, lookup_count, lookup_length, operand_length, is_bad, numbers_at, keys_fall, targets_in, table_offsets, lookup_offsets}
-use Rattle.cb_insn.specs.Reads.{target_of, pairs_of, operand_of, operand_targets}
+use Rattle.cb_insn.specs.Inner.{target_of, pairs_of, operand_of, operand_targets}
 use Rattle.cb_insn.proofs.NumberBytes.{IsBytes, drop_bytes, u2_below, u2_back, s2_back, s2_fits, s4_back, s4_fits, two_back}
 use Rattle.cb_insn.proofs.Spelling.{IsWithin, offset_of_target, offset_bytes, offsets_spelled, offsets_fit, numbers_count, pair_bytes, pairs_spelled, pairs_fit, keys_fit, pairs_count, rise_back, is_padding}
 

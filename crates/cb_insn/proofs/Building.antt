@@ -10,8 +10,8 @@ use Rattle.cb_insn.specs.declared.fault.InsnFault.{InsnFault}
 use Rattle.cb_insn.specs.declared.fault.InsnFault.TheVariants as faults
 use Rattle.cb_insn.specs.Grammar.{SpellsInsn, SpellsFrom, SpellsCode, targets_of}
 use Rattle.cb_insn.specs.Places.{places}
-use Rattle.cb_insn.specs.Faults.{Whole, IsPlace, First, Next, HasBadTarget, reading_at, targets_at}
-use Rattle.cb_insn.specs.Reads.{IsRead, IsMarked, MarksPlaces, Misses, Stands}
+use Rattle.cb_insn.specs.Faults.{Whole, IsPlace, First, Next, HasBadTarget, standing_at, targets_at}
+use Rattle.cb_insn.specs.Inner.{IsRead, IsMarked, MarksPlaces, Misses, IsFaultOf}
 use Rattle.cb_insn.proofs.NumberBytes.{IsBytes, drop_bytes}
 use Rattle.cb_insn.proofs.Spelling.{IsWithin}
 use Rattle.cb_insn.proofs.Walking.{apart, whole_size, whole_same}
@@ -56,7 +56,7 @@ pub record Built (bytes : List ℕ) (starts : List Bool) (pc : ℕ) (code : List
 pub built_start : (bytes : List ℕ) (starts : List Bool) → Built bytes starts 0 []
 built_start bytes starts = record { place = First; within = omega arith; spelled = refl; reached = tt; earlier = λ at place before. absurd (omega arith) }
 
-pub built_more : (bytes rest : List ℕ) (starts : List Bool) (pc size : ℕ) (code new : List (ℕ × Insn)) (insn : Insn) → Built bytes starts pc code → IsBytes bytes → pc < length bytes → rest ≡ drop pc bytes → IsRead pc insn rest → reading_at pc rest ≡ Whole size → All (IsMarked starts) (targets_at pc rest) → new ≡ code ++ (pc, insn) ∷ [] → Built bytes starts (pc + size) new
+pub built_more : (bytes rest : List ℕ) (starts : List Bool) (pc size : ℕ) (code new : List (ℕ × Insn)) (insn : Insn) → Built bytes starts pc code → IsBytes bytes → pc < length bytes → rest ≡ drop pc bytes → IsRead pc insn rest → standing_at pc rest ≡ Whole size → All (IsMarked starts) (targets_at pc rest) → new ≡ code ++ (pc, insn) ∷ [] → Built bytes starts (pc + size) new
 built_more bytes rest starts pc size code new insn built are inside is_rest read whole marked is_new = record {
   place = Next pc size built.place inside reads;
   within = omega (arith, sized.1, length-drop pc bytes);
@@ -64,8 +64,8 @@ built_more bytes rest starts pc size code new insn built are inside is_rest read
   reached = subst (AllByRecursion (AreMarked starts)) (sym is_new) (all_push (AreMarked starts) code (pc, insn) built.reached here_marked);
   earlier = earlier;
 } where
-  reads : reading_at pc (drop pc bytes) ≡ Whole size
-  reads = ap (reading_at pc) (sym is_rest) ∙ whole
+  reads : standing_at pc (drop pc bytes) ≡ Whole size
+  reads = ap (standing_at pc) (sym is_rest) ∙ whole
 
   sized : (0 < size) × (size ≤ length (drop pc bytes))
   sized = whole_size pc (drop pc bytes) size reads
@@ -110,7 +110,7 @@ built_end bytes starts pc code built marks ended short = record {
       subst (Contains (places code)) (sym same) (mapped (λ p. p.0) code (mark.place, one.0) one.1)
 
 -- a target without a mark is the first that is no place
-pub built_miss : (bytes rest : List ℕ) (starts : List Bool) (pc : ℕ) (code : List (ℕ × Insn)) (fault : InsnFault) → Built bytes starts pc code → IsPlace bytes (length bytes) → MarksPlaces starts bytes → pc < length bytes → rest ≡ drop pc bytes → Misses pc (targets_at pc rest) starts fault → Stands bytes fault
+pub built_miss : (bytes rest : List ℕ) (starts : List Bool) (pc : ℕ) (code : List (ℕ × Insn)) (fault : InsnFault) → Built bytes starts pc code → IsPlace bytes (length bytes) → MarksPlaces starts bytes → pc < length bytes → rest ≡ drop pc bytes → Misses pc (targets_at pc rest) starts fault → IsFaultOf bytes fault
 built_miss bytes rest starts pc code (faults.BadTarget at) built whole marks inside is_rest (is_at, (target, among, astray)) =
     subst (HasBadTarget bytes) (sym is_at) (record {
       whole = whole;

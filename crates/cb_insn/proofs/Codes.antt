@@ -9,8 +9,8 @@ use Rattle.cb_insn.specs.declared.fault.InsnFault.{InsnFault}
 use Rattle.cb_insn.specs.declared.fault.InsnFault.TheVariants as faults
 use Rattle.cb_insn.specs.Grammar.{SpellsInsn, SpellsFrom, SpellsCode, targets_of}
 use Rattle.cb_insn.specs.Places.{places}
-use Rattle.cb_insn.specs.Faults.{Reading, Whole, IsCut, IsBadOpcode, IsBadOperand, IsPlace, First, Next, HasFault, HasBadTarget, reading_at, targets_at}
-use Rattle.cb_insn.specs.Reads.{IsRead, Stands}
+use Rattle.cb_insn.specs.Faults.{Fault, Whole, Faulty, IsCut, IsBadOpcode, IsBadOperand, IsPlace, First, Next, HasFault, HasBadTarget, standing_at, targets_at}
+use Rattle.cb_insn.specs.Inner.{IsRead, IsFaultOf}
 use Rattle.cb_insn.proofs.Walking.{apart, whole_same, none_behind}
 use Rattle.cb_insn.proofs.Heads.{FrontReads, spelled_reads, read_same}
 use Rattle.cb_insn.proofs.Written.{insn_some}
@@ -20,14 +20,14 @@ pub one_insn : (pc : ℕ) (one other : Insn) (first next rest behind : List ℕ)
 one_insn pc one other first next rest behind spells spells_too same =
     let read = spelled_reads pc one first rest spells in
     let read_too = spelled_reads pc other next behind spells_too in
-    let size : length first ≡ length next = whole_same _ _ _ (subst (λ b. reading_at pc b ≡ Whole (length first)) same read.whole) read_too.whole in (
+    let size : length first ≡ length next = whole_same _ _ _ (subst (λ b. standing_at pc b ≡ Whole (length first)) same read.whole) read_too.whole in (
       read_same pc one other (next ++ behind) (subst (IsRead pc one) same read.read) read_too.read,
       size,
       sym (drop_at first rest (length first) refl) ∙ ap (drop (length first)) same ∙ ap (λ n. drop n (next ++ behind)) size ∙ drop_at next behind (length next) refl,
     )
 
 -- bytes spell one code
-one_from : (pc : ℕ) (one other : List (ℕ × Insn)) (bytes : List ℕ) → SpellsFrom pc one bytes → SpellsFrom pc other bytes → one ≡ other
+pub one_from : (pc : ℕ) (one other : List (ℕ × Insn)) (bytes : List ℕ) → SpellsFrom pc one bytes → SpellsFrom pc other bytes → one ≡ other
 one_from pc [] [] bytes spells spells_too = refl
 one_from pc [] ((at, insn) ∷ other) bytes none (first, rest, is_at, spells, is, more) =
     absurd (omega (arith, insn_some pc insn first spells, length-append first rest, ap length is, ap length none))
@@ -40,19 +40,16 @@ one_from pc ((at, insn) ∷ one) ((place, next) ∷ other) bytes (first, rest, i
     let insn_same : insn ≡ next = same.0 in
     ap (λ p. (p, insn) ∷ one) at_same ∙ ap (λ i. (place, i) ∷ one) insn_same ∙ ap (λ c. (place, next) ∷ c) others
 
-pub one_code_spelled : (bytes : List ℕ) (one other : List (ℕ × Insn)) → SpellsCode one bytes → SpellsCode other bytes → one ≡ other
-one_code_spelled bytes one other spells spells_too = one_from 0 one other bytes spells.spelled spells_too.spelled
-
 -- the instructions from a place on stand at the places from there on
 pub record Covers (bytes : List ℕ) (pc : ℕ) (code : List (ℕ × Insn)) : Type 0 where
   pub whole : IsPlace bytes (length bytes)
   pub sound : AllByRecursion (λ placed. IsPlace bytes placed.0 × (placed.0 < length bytes)) code
   pub found : (at : ℕ) → IsPlace bytes at → pc ≤ at → at < length bytes → (insn : Insn) × Contains code (at, insn) × (targets_at at (drop at bytes) ≡ map pos (targets_of insn.operand))
 
-here : {X : Type 0} (x : X) (xs : List X) → Contains (x ∷ xs) x
+pub here : {X : Type 0} (x : X) (xs : List X) → Contains (x ∷ xs) x
 here x xs = (0, omega arith, refl)
 
-there : {X : Type 0} (x y : X) (xs : List X) → Contains xs y → Contains (x ∷ xs) y
+pub there : {X : Type 0} (x y : X) (xs : List X) → Contains xs y → Contains (x ∷ xs) y
 there x y xs has = Contains-append_right (x ∷ []) xs y has
 
 pub covers : (bytes rest : List ℕ) (pc : ℕ) (code : List (ℕ × Insn)) → SpellsFrom pc code rest → IsPlace bytes pc → drop pc bytes ≡ rest → pc ≤ length bytes → Covers bytes pc code
@@ -121,10 +118,10 @@ mapped f (y ∷ xs) x (zero, below, is) = subst (Contains (map f (y ∷ xs))) (a
 mapped f (y ∷ xs) x (suc k, below, is) = there (f y) (f x) (map f xs) (mapped f xs x (k, omega arith, is))
 
 -- code that is spelled has no fault
-no_fault_in : (bytes : List ℕ) (pc : ℕ) (fault : Reading) → ((size : ℕ) → fault ≢ Whole size) → IsPlace bytes (length bytes) → HasFault bytes pc fault → ⊥
-no_fault_in bytes pc fault is_fault whole has = none_behind bytes pc (length bytes) fault is_fault whole has has.within
+pub no_fault_in : (bytes : List ℕ) (pc : ℕ) (fault : Fault) → IsPlace bytes (length bytes) → HasFault bytes pc fault → ⊥
+no_fault_in bytes pc fault whole has = none_behind bytes pc (length bytes) fault whole has has.within
 
-no_bad_target : (bytes : List ℕ) (code : List (ℕ × Insn)) (pc : ℕ) → SpellsCode code bytes → HasBadTarget bytes pc → ⊥
+pub no_bad_target : (bytes : List ℕ) (code : List (ℕ × Insn)) (pc : ℕ) → SpellsCode code bytes → HasBadTarget bytes pc → ⊥
 no_bad_target bytes code pc spells has =
     let all = code_covers bytes code spells in
     let one = all.found pc has.place (omega arith) has.within in
@@ -134,70 +131,61 @@ no_bad_target bytes code pc spells has =
     let start = all_at (λ p. IsPlace bytes p.0 × (p.0 < length bytes)) code placed.0 all.sound placed.1 in
     has.astray (target.0, subst (IsPlace bytes) placed.2 start.0, omega (arith, start.1, placed.2), sym target.2)
 
-pub no_fault : (bytes : List ℕ) (code : List (ℕ × Insn)) (fault : InsnFault) → SpellsCode code bytes → Stands bytes fault → fault ≡ faults.OutOfMemory
-no_fault bytes code (faults.Cut pc) spells has = absurd (no_fault_in bytes pc IsCut (λ size is. cc) (code_covers bytes code spells).whole has)
-no_fault bytes code (faults.BadOpcode pc) spells has = absurd (no_fault_in bytes pc IsBadOpcode (λ size is. cc) (code_covers bytes code spells).whole has)
-no_fault bytes code (faults.BadOperand pc) spells has = absurd (no_fault_in bytes pc IsBadOperand (λ size is. cc) (code_covers bytes code spells).whole has)
+pub no_fault : (bytes : List ℕ) (code : List (ℕ × Insn)) (fault : InsnFault) → SpellsCode code bytes → IsFaultOf bytes fault → fault ≡ faults.OutOfMemory
+no_fault bytes code (faults.Cut pc) spells has = absurd (no_fault_in bytes pc IsCut (code_covers bytes code spells).whole has)
+no_fault bytes code (faults.BadOpcode pc) spells has = absurd (no_fault_in bytes pc IsBadOpcode (code_covers bytes code spells).whole has)
+no_fault bytes code (faults.BadOperand pc) spells has = absurd (no_fault_in bytes pc IsBadOperand (code_covers bytes code spells).whole has)
 no_fault bytes code (faults.BadTarget pc) spells has = absurd (no_bad_target bytes code pc spells has)
 no_fault bytes code faults.OutOfMemory spells has = refl
 
 -- there is one fault at most
-same_place : (bytes : List ℕ) (pc other : ℕ) (fault next : Reading) → ((size : ℕ) → fault ≢ Whole size) → ((size : ℕ) → next ≢ Whole size) → HasFault bytes pc fault → HasFault bytes other next → (pc ≡ other) × (fault ≡ next)
-same_place bytes pc other fault next is_fault is_next has has_too = by_order (cases_order pc other) where
+pub same_place : (bytes : List ℕ) (pc other : ℕ) (fault next : Fault) → HasFault bytes pc fault → HasFault bytes other next → (pc ≡ other) × (fault ≡ next)
+same_place bytes pc other fault next has has_too = by_order (cases_order pc other) where
   by_order : (pc ≡ other) ⊎ ((pc < other) ⊎ (other < pc)) → (pc ≡ other) × (fault ≡ next)
-  by_order (inl same) = (same, sym has.reads ∙ ap (λ at. reading_at at (drop at bytes)) same ∙ has_too.reads)
-  by_order (inr (inl before)) = absurd (none_behind bytes pc other fault is_fault has_too.place has before)
-  by_order (inr (inr after)) = absurd (none_behind bytes other pc next is_next has.place has_too after)
+  by_order (inl same) = let both : Faulty fault ≡ Faulty next = sym has.stands ∙ ap (λ at. standing_at at (drop at bytes)) same ∙ has_too.stands in (same, cc)
+  by_order (inr (inl before)) = absurd (none_behind bytes pc other fault has_too.place has before)
+  by_order (inr (inr after)) = absurd (none_behind bytes other pc next has.place has_too after)
 
-same_target : (bytes : List ℕ) (pc other : ℕ) → HasBadTarget bytes pc → HasBadTarget bytes other → pc ≡ other
+pub same_target : (bytes : List ℕ) (pc other : ℕ) → HasBadTarget bytes pc → HasBadTarget bytes other → pc ≡ other
 same_target bytes pc other has has_too = by_order (cases_order pc other) where
   by_order : (pc ≡ other) ⊎ ((pc < other) ⊎ (other < pc)) → pc ≡ other
   by_order (inl same) = same
   by_order (inr (inl before)) = absurd (has.astray (has_too.least pc has.place before has.target has.among))
   by_order (inr (inr after)) = absurd (has_too.astray (has.least other has_too.place after has_too.target has_too.among))
 
-cut_is : (size : ℕ) → IsCut ≢ Whole size
-cut_is size is = cc
-
-opcode_is : (size : ℕ) → IsBadOpcode ≢ Whole size
-opcode_is size is = cc
-
-operand_is : (size : ℕ) → IsBadOperand ≢ Whole size
-operand_is size is = cc
-
-pub one_fault : (bytes : List ℕ) (fault other : InsnFault) → fault ≢ faults.OutOfMemory → other ≢ faults.OutOfMemory → Stands bytes fault → Stands bytes other → fault ≡ other
-one_fault bytes (faults.Cut pc) (faults.Cut at) _ _ has has_too = ap faults.Cut (same_place bytes pc at IsCut IsCut cut_is cut_is has has_too).0
-one_fault bytes (faults.Cut pc) (faults.BadOpcode at) _ _ has has_too = let both = (same_place bytes pc at IsCut IsBadOpcode cut_is opcode_is has has_too).1 in cc
-one_fault bytes (faults.Cut pc) (faults.BadOperand at) _ _ has has_too = let both = (same_place bytes pc at IsCut IsBadOperand cut_is operand_is has has_too).1 in cc
-one_fault bytes (faults.Cut pc) (faults.BadTarget at) _ _ has has_too = absurd (no_fault_in bytes pc IsCut cut_is has_too.whole has)
-one_fault bytes (faults.BadOpcode pc) (faults.Cut at) _ _ has has_too = let both = (same_place bytes pc at IsBadOpcode IsCut opcode_is cut_is has has_too).1 in cc
-one_fault bytes (faults.BadOpcode pc) (faults.BadOpcode at) _ _ has has_too = ap faults.BadOpcode (same_place bytes pc at IsBadOpcode IsBadOpcode opcode_is opcode_is has has_too).0
-one_fault bytes (faults.BadOpcode pc) (faults.BadOperand at) _ _ has has_too = let both = (same_place bytes pc at IsBadOpcode IsBadOperand opcode_is operand_is has has_too).1 in cc
-one_fault bytes (faults.BadOpcode pc) (faults.BadTarget at) _ _ has has_too = absurd (no_fault_in bytes pc IsBadOpcode opcode_is has_too.whole has)
-one_fault bytes (faults.BadOperand pc) (faults.Cut at) _ _ has has_too = let both = (same_place bytes pc at IsBadOperand IsCut operand_is cut_is has has_too).1 in cc
-one_fault bytes (faults.BadOperand pc) (faults.BadOpcode at) _ _ has has_too = let both = (same_place bytes pc at IsBadOperand IsBadOpcode operand_is opcode_is has has_too).1 in cc
-one_fault bytes (faults.BadOperand pc) (faults.BadOperand at) _ _ has has_too = ap faults.BadOperand (same_place bytes pc at IsBadOperand IsBadOperand operand_is operand_is has has_too).0
-one_fault bytes (faults.BadOperand pc) (faults.BadTarget at) _ _ has has_too = absurd (no_fault_in bytes pc IsBadOperand operand_is has_too.whole has)
-one_fault bytes (faults.BadTarget pc) (faults.Cut at) _ _ has has_too = absurd (no_fault_in bytes at IsCut cut_is has.whole has_too)
-one_fault bytes (faults.BadTarget pc) (faults.BadOpcode at) _ _ has has_too = absurd (no_fault_in bytes at IsBadOpcode opcode_is has.whole has_too)
-one_fault bytes (faults.BadTarget pc) (faults.BadOperand at) _ _ has has_too = absurd (no_fault_in bytes at IsBadOperand operand_is has.whole has_too)
+pub one_fault : (bytes : List ℕ) (fault other : InsnFault) → fault ≢ faults.OutOfMemory → other ≢ faults.OutOfMemory → IsFaultOf bytes fault → IsFaultOf bytes other → fault ≡ other
+one_fault bytes (faults.Cut pc) (faults.Cut at) _ _ has has_too = ap faults.Cut (same_place bytes pc at IsCut IsCut has has_too).0
+one_fault bytes (faults.Cut pc) (faults.BadOpcode at) _ _ has has_too = let both = (same_place bytes pc at IsCut IsBadOpcode has has_too).1 in cc
+one_fault bytes (faults.Cut pc) (faults.BadOperand at) _ _ has has_too = let both = (same_place bytes pc at IsCut IsBadOperand has has_too).1 in cc
+one_fault bytes (faults.Cut pc) (faults.BadTarget at) _ _ has has_too = absurd (no_fault_in bytes pc IsCut has_too.whole has)
+one_fault bytes (faults.BadOpcode pc) (faults.Cut at) _ _ has has_too = let both = (same_place bytes pc at IsBadOpcode IsCut has has_too).1 in cc
+one_fault bytes (faults.BadOpcode pc) (faults.BadOpcode at) _ _ has has_too = ap faults.BadOpcode (same_place bytes pc at IsBadOpcode IsBadOpcode has has_too).0
+one_fault bytes (faults.BadOpcode pc) (faults.BadOperand at) _ _ has has_too = let both = (same_place bytes pc at IsBadOpcode IsBadOperand has has_too).1 in cc
+one_fault bytes (faults.BadOpcode pc) (faults.BadTarget at) _ _ has has_too = absurd (no_fault_in bytes pc IsBadOpcode has_too.whole has)
+one_fault bytes (faults.BadOperand pc) (faults.Cut at) _ _ has has_too = let both = (same_place bytes pc at IsBadOperand IsCut has has_too).1 in cc
+one_fault bytes (faults.BadOperand pc) (faults.BadOpcode at) _ _ has has_too = let both = (same_place bytes pc at IsBadOperand IsBadOpcode has has_too).1 in cc
+one_fault bytes (faults.BadOperand pc) (faults.BadOperand at) _ _ has has_too = ap faults.BadOperand (same_place bytes pc at IsBadOperand IsBadOperand has has_too).0
+one_fault bytes (faults.BadOperand pc) (faults.BadTarget at) _ _ has has_too = absurd (no_fault_in bytes pc IsBadOperand has_too.whole has)
+one_fault bytes (faults.BadTarget pc) (faults.Cut at) _ _ has has_too = absurd (no_fault_in bytes at IsCut has.whole has_too)
+one_fault bytes (faults.BadTarget pc) (faults.BadOpcode at) _ _ has has_too = absurd (no_fault_in bytes at IsBadOpcode has.whole has_too)
+one_fault bytes (faults.BadTarget pc) (faults.BadOperand at) _ _ has has_too = absurd (no_fault_in bytes at IsBadOperand has.whole has_too)
 one_fault bytes (faults.BadTarget pc) (faults.BadTarget at) _ _ has has_too = ap faults.BadTarget (same_target bytes pc at has has_too)
 one_fault bytes faults.OutOfMemory other some _ has has_too = absurd (some refl)
 one_fault bytes fault faults.OutOfMemory _ some has has_too = absurd (some refl)
 
 -- so an answer that tells what stands in the bytes tells all
 abbrev pub Tells : List ℕ → Result (List (ℕ × Insn)) InsnFault → Type 0
-Tells bytes result = MatchResult result (λ code. SpellsCode code bytes) (Stands bytes)
+Tells bytes result = MatchResult result (λ code. SpellsCode code bytes) (IsFaultOf bytes)
 
 pub told_code : (bytes : List ℕ) (result : Result (List (ℕ × Insn)) InsnFault) (code : List (ℕ × Insn)) → Tells bytes result → SpellsCode code bytes → MatchResult result (λ found. found ≡ code) (λ fault. fault ≡ faults.OutOfMemory)
-told_code bytes (Ok found) code tells spells = one_code_spelled bytes found code tells spells
+told_code bytes (Ok found) code tells spells = one_from 0 found code bytes tells.spelled spells.spelled
 told_code bytes (Err fault) code tells spells = no_fault bytes code fault spells tells
 
-pub told_fault : (bytes : List ℕ) (result : Result (List (ℕ × Insn)) InsnFault) (fault : InsnFault) → fault ≢ faults.OutOfMemory → Tells bytes result → IsErrOf result fault ↔ ((¬ IsErrOf result faults.OutOfMemory) × Stands bytes fault)
+pub told_fault : (bytes : List ℕ) (result : Result (List (ℕ × Insn)) InsnFault) (fault : InsnFault) → fault ≢ faults.OutOfMemory → Tells bytes result → IsErrOf result fault ↔ ((¬ IsErrOf result faults.OutOfMemory) × IsFaultOf bytes fault)
 told_fault bytes (Ok found) fault some tells = (λ is. cc, λ has. absurd (some (no_fault bytes found fault tells has.1)))
 told_fault bytes (Err other) fault some tells = (forth, back) where
-  forth : IsErrOf {T = List (ℕ × Insn)} (Err other) fault → (¬ (IsErrOf {T = List (ℕ × Insn)} (Err other) faults.OutOfMemory)) × Stands bytes fault
-  forth is = let same : other ≡ fault = cc in (λ none. let is_memory : other ≡ faults.OutOfMemory = cc in some (sym same ∙ is_memory), subst (Stands bytes) same tells)
+  forth : IsErrOf {T = List (ℕ × Insn)} (Err other) fault → (¬ (IsErrOf {T = List (ℕ × Insn)} (Err other) faults.OutOfMemory)) × IsFaultOf bytes fault
+  forth is = let same : other ≡ fault = cc in (λ none. let is_memory : other ≡ faults.OutOfMemory = cc in some (sym same ∙ is_memory), subst (IsFaultOf bytes) same tells)
 
-  back : (¬ (IsErrOf {T = List (ℕ × Insn)} (Err other) faults.OutOfMemory)) × Stands bytes fault → IsErrOf {T = List (ℕ × Insn)} (Err other) fault
+  back : (¬ (IsErrOf {T = List (ℕ × Insn)} (Err other) faults.OutOfMemory)) × IsFaultOf bytes fault → IsErrOf {T = List (ℕ × Insn)} (Err other) fault
   back (not_memory, has) = ap Err (one_fault bytes other fault (λ is. not_memory (ap Err is)) some tells has)

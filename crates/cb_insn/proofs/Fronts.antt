@@ -13,7 +13,7 @@ use Rattle.cb_insn.specs.declared.insn.Operand.{Operand}
 use Rattle.cb_insn.specs.declared.insn.Operand.TheVariants.{Nothing, Number, Pool, Local, Increase, Branch, ArrayCode, Dimensions, Interface, Table, Lookup}
 use Rattle.cb_insn.specs.Grammar.{s2, offset, table_bytes, lookup_bytes, KeysRise, IsPadding, SpellsOperand, targets_of}
 use Rattle.cb_insn.specs.Faults.{s2_at, s4_at, count_of, padding_length, table_low, table_high, table_count, table_length, lookup_number, lookup_count, lookup_length, operand_length, is_bad, numbers_at, keys_fall, targets_in, table_offsets, lookup_offsets}
-use Rattle.cb_insn.specs.Reads.{target_of, pairs_of, operand_of, operand_targets, table_of, lookup_of}
+use Rattle.cb_insn.specs.Inner.{target_of, pairs_of, operand_of, operand_targets, table_of, lookup_of}
 use Rattle.cb_insn.proofs.NumberBytes.{u2_front, s2_front, s4_front}
 use Rattle.cb_insn.proofs.Spelling.{cons_same, offset_back, target_back, padding_is, offsets_front, offsets_length, pairs_length, pairs_front, keys_front, pair_offsets_front, rise_front}
 

@@ -6,10 +6,11 @@ use Rattle.std.proofs.lemmas.Bool.Decides.{nat_tests}
 use Rattle.cb_insn.specs.declared.form.Form.{Form}
 use Rattle.cb_insn.specs.declared.form.Form.TheVariants as forms
 use Rattle.cb_insn.specs.declared.insn.Insn.{Insn}
-use Rattle.cb_insn.specs.Forms.{form_of, wide_form_of, wide_opcode, widened, head_bytes, head_form}
+use Rattle.cb_insn.specs.declared.opcode.TheConstants.{WIDE}
+use Rattle.cb_insn.specs.Forms.{form_of, wide_form_of, widened, head_bytes, head_form}
 use Rattle.cb_insn.specs.Grammar.{SpellsIn, SpellsInsn, SpellsOperand, targets_of}
-use Rattle.cb_insn.specs.Faults.{Whole, IsCut, IsBadOperand, reading_at, reading_in, reading_plain, reading_wide, reading_behind_wide, operand_length, is_bad, form_offsets, operand_offsets, targets_at, targets_in}
-use Rattle.cb_insn.specs.Reads.{HasHead, IsRead, operand_of, operand_targets}
+use Rattle.cb_insn.specs.Faults.{Whole, Faulty, IsCut, IsBadOperand, standing_at, standing_in, standing_plain, standing_wide, standing_behind_wide, operand_length, is_bad, form_offsets, operand_offsets, targets_at, targets_in}
+use Rattle.cb_insn.specs.Inner.{HasHead, IsPlain, IsRead, plain_insn, operand_of, operand_targets}
 use Rattle.cb_insn.proofs.NumberBytes.{IsBytes}
 use Rattle.cb_insn.proofs.Spelling.{IsWithin}
 use Rattle.cb_insn.proofs.Fronts.{fronts}
@@ -30,10 +31,10 @@ pub record Headed (pc : ℕ) (bytes : List ℕ) (size : ℕ) : Type 0 where
   pub there : operand_length pc form behind ≤ length behind
   pub good : is_bad pc form behind ≡ false
 
-pub headed : (pc : ℕ) (bytes : List ℕ) (size : ℕ) → reading_at pc bytes ≡ Whole size → Headed pc bytes size
+pub headed : (pc : ℕ) (bytes : List ℕ) (size : ℕ) → standing_at pc bytes ≡ Whole size → Headed pc bytes size
 headed pc [] size is = cc
-headed pc (opcode ∷ behind) size is = by_wide (nat_eq opcode wide_opcode) refl behind is where
-  plain : (behind : List ℕ) (form : Option Form) → form_of opcode ≡ form → reading_plain pc form behind ≡ Whole size → Headed pc (opcode ∷ behind) size
+headed pc (opcode ∷ behind) size is = by_wide (nat_eq opcode WIDE) refl behind is where
+  plain : (behind : List ℕ) (form : Option Form) → form_of opcode ≡ form → standing_plain pc form behind ≡ Whole size → Headed pc (opcode ∷ behind) size
   plain behind None has is = cc
   plain behind (Some form) has is = let whole = whole_in 1 pc form behind size is in record {
     wide = false;
@@ -46,7 +47,7 @@ headed pc (opcode ∷ behind) size is = by_wide (nat_eq opcode wide_opcode) refl
     good = whole.2;
   }
 
-  wide_head : opcode ≡ wide_opcode → (next : ℕ) (behind : List ℕ) (form : Option Form) → wide_form_of next ≡ form → reading_wide pc form behind ≡ Whole size → Headed pc (opcode ∷ next ∷ behind) size
+  wide_head : opcode ≡ WIDE → (next : ℕ) (behind : List ℕ) (form : Option Form) → wide_form_of next ≡ form → standing_wide pc form behind ≡ Whole size → Headed pc (opcode ∷ next ∷ behind) size
   wide_head is_wide next behind None has is = cc
   wide_head is_wide next behind (Some form) has is = let whole = whole_in 2 pc form behind size is in record {
     wide = true;
@@ -59,35 +60,35 @@ headed pc (opcode ∷ behind) size is = by_wide (nat_eq opcode wide_opcode) refl
     good = whole.2;
   }
 
-  behind_wide : opcode ≡ wide_opcode → (behind : List ℕ) → reading_behind_wide pc behind ≡ Whole size → Headed pc (opcode ∷ behind) size
+  behind_wide : opcode ≡ WIDE → (behind : List ℕ) → standing_behind_wide pc behind ≡ Whole size → Headed pc (opcode ∷ behind) size
   behind_wide is_wide [] is = cc
   behind_wide is_wide (next ∷ behind) is = wide_head is_wide next behind (wide_form_of next) refl is
 
-  by_wide : (is_wide : Bool) → nat_eq opcode wide_opcode ≡ is_wide → (bytes : List ℕ) → cond is_wide (reading_behind_wide pc bytes) (reading_plain pc (form_of opcode) bytes) ≡ Whole size → Headed pc (opcode ∷ bytes) size
-  by_wide true tested bytes is = behind_wide (same_number opcode wide_opcode tested) bytes is
+  by_wide : (is_wide : Bool) → nat_eq opcode WIDE ≡ is_wide → (bytes : List ℕ) → cond is_wide (standing_behind_wide pc bytes) (standing_plain pc (form_of opcode) bytes) ≡ Whole size → Headed pc (opcode ∷ bytes) size
+  by_wide true tested bytes is = behind_wide (same_number opcode WIDE tested) bytes is
   by_wide false tested bytes is = plain bytes (form_of opcode) refl is
 
 -- `wide` has no form of its own
-not_wide : (opcode : ℕ) (form : Form) → form_of opcode ≡ Some form → nat_eq opcode wide_opcode ≡ false
-not_wide opcode form has = by_test (nat_eq opcode wide_opcode) refl where
-  by_test : (tested : Bool) → nat_eq opcode wide_opcode ≡ tested → tested ≡ false
+not_wide : (opcode : ℕ) (form : Form) → form_of opcode ≡ Some form → nat_eq opcode WIDE ≡ false
+not_wide opcode form has = by_test (nat_eq opcode WIDE) refl where
+  by_test : (tested : Bool) → nat_eq opcode WIDE ≡ tested → tested ≡ false
   by_test false is = refl
-  by_test true is = let none : None ≡ Some form = ap form_of (sym (same_number opcode wide_opcode is)) ∙ has in cc
+  by_test true is = let none : None ≡ Some form = ap form_of (sym (same_number opcode WIDE is)) ∙ has in cc
 
-whole_of : (before pc : ℕ) (form : Form) (behind : List ℕ) → operand_length pc form behind ≤ length behind → is_bad pc form behind ≡ false → reading_in before pc form behind ≡ Whole (before + operand_length pc form behind)
+whole_of : (before pc : ℕ) (form : Form) (behind : List ℕ) → operand_length pc form behind ≤ length behind → is_bad pc form behind ≡ false → standing_in before pc form behind ≡ Whole (before + operand_length pc form behind)
 whole_of before pc form behind there good =
     let enough : nat_lt (length behind) (operand_length pc form behind) ≡ false = not_less (length behind) (operand_length pc form behind) there in
-    ap (λ test. cond test IsCut (cond (is_bad pc form behind) IsBadOperand (Whole (before + operand_length pc form behind)))) enough
-    ∙ ap (λ test. cond test IsBadOperand (Whole (before + operand_length pc form behind))) good
+    ap (λ test. cond test (Faulty IsCut) (cond (is_bad pc form behind) (Faulty IsBadOperand) (Whole (before + operand_length pc form behind)))) enough
+    ∙ ap (λ test. cond test (Faulty IsBadOperand) (Whole (before + operand_length pc form behind))) good
   where
     not_less : (m n : ℕ) → n ≤ m → nat_lt m n ≡ false
     not_less m n order = grind (arith, nat_tests)
 
-pub head_reads : (pc : ℕ) (wide : Bool) (opcode : ℕ) (form : Form) (behind bytes : List ℕ) → HasHead wide opcode form behind bytes → operand_length pc form behind ≤ length behind → is_bad pc form behind ≡ false → reading_at pc bytes ≡ Whole (length (head_bytes wide opcode) + operand_length pc form behind)
+pub head_reads : (pc : ℕ) (wide : Bool) (opcode : ℕ) (form : Form) (behind bytes : List ℕ) → HasHead wide opcode form behind bytes → operand_length pc form behind ≤ length behind → is_bad pc form behind ≡ false → standing_at pc bytes ≡ Whole (length (head_bytes wide opcode) + operand_length pc form behind)
 head_reads pc false opcode form behind bytes (is, has) there good =
-    ap (reading_at pc) is ∙ ap (λ test. cond test (reading_behind_wide pc behind) (reading_plain pc (form_of opcode) behind)) (not_wide opcode form has) ∙ ap (λ f. reading_plain pc f behind) has ∙ whole_of 1 pc form behind there good
+    ap (standing_at pc) is ∙ ap (λ test. cond test (standing_behind_wide pc behind) (standing_plain pc (form_of opcode) behind)) (not_wide opcode form has) ∙ ap (λ f. standing_plain pc f behind) has ∙ whole_of 1 pc form behind there good
 head_reads pc true opcode form behind bytes (is, has) there good =
-    ap (reading_at pc) is ∙ ap (λ f. reading_wide pc f behind) has ∙ whole_of 2 pc form behind there good
+    ap (standing_at pc) is ∙ ap (λ f. standing_wide pc f behind) has ∙ whole_of 2 pc form behind there good
 
 -- `wide` stands before no branch
 no_wide_offset : (pc opcode : ℕ) (form : Form) (behind : List ℕ) → wide_form_of opcode ≡ Some form → operand_offsets pc form behind ≡ []
@@ -119,18 +120,18 @@ head_same false false opcode other form other_form behind rest bytes (is, has) (
     let same_form : Some form ≡ Some other_form = sym has ∙ ap form_of same_opcode ∙ has_too in
     (refl, same_opcode, cc, cc)
 head_same true true opcode other form other_form behind rest bytes (is, has) (is_too, has_too) =
-    let same : wide_opcode ∷ opcode ∷ behind ≡ wide_opcode ∷ other ∷ rest = sym is ∙ is_too in
+    let same : WIDE ∷ opcode ∷ behind ≡ WIDE ∷ other ∷ rest = sym is ∙ is_too in
     let same_opcode : opcode ≡ other = cc in
     let same_form : Some form ≡ Some other_form = sym has ∙ ap wide_form_of same_opcode ∙ has_too in
     (refl, same_opcode, cc, cc)
 head_same false true opcode other form other_form behind rest bytes (is, has) (is_too, has_too) =
-    let same : opcode ∷ behind ≡ wide_opcode ∷ other ∷ rest = sym is ∙ is_too in
-    let is_wide : opcode ≡ wide_opcode = cc in
+    let same : opcode ∷ behind ≡ WIDE ∷ other ∷ rest = sym is ∙ is_too in
+    let is_wide : opcode ≡ WIDE = cc in
     let none : None ≡ Some form = ap form_of (sym is_wide) ∙ has in
     cc
 head_same true false opcode other form other_form behind rest bytes (is, has) (is_too, has_too) =
-    let same : wide_opcode ∷ opcode ∷ behind ≡ other ∷ rest = sym is ∙ is_too in
-    let is_wide : wide_opcode ≡ other = cc in
+    let same : WIDE ∷ opcode ∷ behind ≡ other ∷ rest = sym is ∙ is_too in
+    let is_wide : WIDE ≡ other = cc in
     let none : None ≡ Some other_form = ap form_of is_wide ∙ has_too in
     cc
 
@@ -148,7 +149,7 @@ read_same pc one other bytes read read_too =
 -- what is spelled at the front is read
 pub record FrontReads (pc : ℕ) (insn : Insn) (size : ℕ) (bytes : List ℕ) : Type 0 where
   pub read : IsRead pc insn bytes
-  pub whole : reading_at pc bytes ≡ Whole size
+  pub whole : standing_at pc bytes ≡ Whole size
   pub targets : targets_at pc bytes ≡ map pos (targets_of insn.operand)
 
 pub spelled_reads : (pc : ℕ) (insn : Insn) (first rest : List ℕ) → SpellsInsn pc insn first → FrontReads pc insn (length first) (first ++ rest)
@@ -169,7 +170,7 @@ behind_bytes false opcode form behind bytes (is, has) are = λ i. subst IsBytes 
 behind_bytes true opcode form behind bytes (is, has) are = λ i. subst IsBytes is are (suc (suc i))
 
 -- a whole instruction is so by its head
-pub head_whole : (pc : ℕ) (wide : Bool) (opcode : ℕ) (form : Form) (behind bytes : List ℕ) (size : ℕ) → reading_at pc bytes ≡ Whole size → HasHead wide opcode form behind bytes → (operand_length pc form behind ≤ length behind) × (is_bad pc form behind ≡ false) × (reading_at pc bytes ≡ Whole (length (head_bytes wide opcode) + operand_length pc form behind))
+pub head_whole : (pc : ℕ) (wide : Bool) (opcode : ℕ) (form : Form) (behind bytes : List ℕ) (size : ℕ) → standing_at pc bytes ≡ Whole size → HasHead wide opcode form behind bytes → (operand_length pc form behind ≤ length behind) × (is_bad pc form behind ≡ false) × (standing_at pc bytes ≡ Whole (length (head_bytes wide opcode) + operand_length pc form behind))
 head_whole pc wide opcode form behind bytes size whole head =
     let parts = headed pc bytes size whole in
     let same = head_same parts.wide wide parts.opcode opcode parts.form form parts.behind behind bytes parts.head head in
@@ -178,7 +179,7 @@ head_whole pc wide opcode form behind bytes size whole head =
     (there, good, head_reads pc wide opcode form behind bytes head there good)
 
 -- and what is read is spelled at the front
-pub reads_spelled : (pc : ℕ) (insn : Insn) (bytes : List ℕ) (size : ℕ) → IsRead pc insn bytes → reading_at pc bytes ≡ Whole size → IsBytes bytes → AllByRecursion IsWithin (targets_at pc bytes) → SpellsInsn pc insn (take size bytes)
+pub reads_spelled : (pc : ℕ) (insn : Insn) (bytes : List ℕ) (size : ℕ) → IsRead pc insn bytes → standing_at pc bytes ≡ Whole size → IsBytes bytes → AllByRecursion IsWithin (targets_at pc bytes) → SpellsInsn pc insn (take size bytes)
 reads_spelled pc insn bytes size read whole are within =
     let parts = head_whole pc insn.wide insn.opcode read.form read.behind bytes size whole read.head in
     let sized : length (head_bytes insn.wide insn.opcode) + operand_length pc read.form read.behind ≡ size = whole_same _ _ _ parts.2 whole in
@@ -192,14 +193,24 @@ reads_spelled pc insn bytes size read whole are within =
     )
 
 -- no head stands where the opcode behind `wide` has no form there
-pub no_wide_head : (bytes : List ℕ) (next : ℕ) (rest : List ℕ) → bytes ≡ wide_opcode ∷ next ∷ rest → wide_form_of next ≡ None → (wide : Bool) (opcode : ℕ) (form : Form) (behind : List ℕ) → HasHead wide opcode form behind bytes → ⊥
+pub no_wide_head : (bytes : List ℕ) (next : ℕ) (rest : List ℕ) → bytes ≡ WIDE ∷ next ∷ rest → wide_form_of next ≡ None → (wide : Bool) (opcode : ℕ) (form : Form) (behind : List ℕ) → HasHead wide opcode form behind bytes → ⊥
 no_wide_head bytes next rest is_wide none false opcode form behind (is, has) =
-    let same : opcode ∷ behind ≡ wide_opcode ∷ next ∷ rest = sym is ∙ is_wide in
-    let same_opcode : opcode ≡ wide_opcode = cc in
+    let same : opcode ∷ behind ≡ WIDE ∷ next ∷ rest = sym is ∙ is_wide in
+    let same_opcode : opcode ≡ WIDE = cc in
     let both : None ≡ Some form = ap form_of (sym same_opcode) ∙ has in
     cc
 no_wide_head bytes next rest is_wide none true opcode form behind (is, has) =
-    let same : wide_opcode ∷ opcode ∷ behind ≡ wide_opcode ∷ next ∷ rest = sym is ∙ is_wide in
+    let same : WIDE ∷ opcode ∷ behind ≡ WIDE ∷ next ∷ rest = sym is ∙ is_wide in
     let same_opcode : next ≡ opcode = cc in
     let both : None ≡ Some form = sym none ∙ ap wide_form_of same_opcode ∙ has in
     cc
+
+-- what an opcode of a plain form reads
+pub plain_read : (pc opcode : ℕ) (bytes : List ℕ) → IsPlain opcode bytes → IsRead pc (plain_insn opcode) bytes
+plain_read pc opcode bytes plain = record { form = forms.Plain; behind = plain.behind; head = plain.head; operand = refl }
+
+pub plain_whole : (pc opcode : ℕ) (bytes : List ℕ) → IsPlain opcode bytes → standing_at pc bytes ≡ Whole 1
+plain_whole pc opcode bytes plain = head_reads pc false opcode forms.Plain plain.behind bytes plain.head (omega arith) refl
+
+pub plain_targets : (pc opcode : ℕ) (bytes : List ℕ) → IsPlain opcode bytes → [] ≡ targets_at pc bytes
+plain_targets pc opcode bytes plain = sym (head_targets pc false opcode forms.Plain plain.behind bytes plain.head)

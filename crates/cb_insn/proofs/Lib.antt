@@ -11,3 +11,6 @@ pub mod Building
 pub mod Written
 pub mod Sizes
 pub mod Placing
+pub mod FormTable
+pub mod Deciding
+pub mod Laws

@@ -9,7 +9,7 @@ use Rattle.cb_insn.specs.declared.insn.Operand.TheVariants.{Table, Lookup}
 use Rattle.cb_insn.specs.declared.fault.InsnFault.{InsnFault}
 use Rattle.cb_insn.specs.declared.fault.InsnFault.TheVariants as faults
 use Rattle.cb_insn.specs.Faults.{s4_at, numbers_at, table_low, table_count, lookup_count, targets_in, table_offsets, lookup_offsets}
-use Rattle.cb_insn.specs.Reads.{IsMarked, Misses, target_of, pairs_of, table_of, lookup_of}
+use Rattle.cb_insn.specs.Inner.{IsMarked, Misses, target_of, pairs_of, table_of, lookup_of}
 
 -- what is missed among some targets is missed among more
 pub misses_more : (pc : ℕ) (some more : List ℤ) (starts : List Bool) (fault : InsnFault) → ((target : ℤ) → Contains some target → Contains more target) → Misses pc some starts fault → Misses pc more starts fault

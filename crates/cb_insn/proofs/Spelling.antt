@@ -8,7 +8,7 @@ use Rattle.std.proofs.lemmas.Int.{ints}
 use Rattle.cb_insn.specs.declared.insn.Pair.{Pair}
 use Rattle.cb_insn.specs.Grammar.{s4, offset, KeysRise, IsPadding}
 use Rattle.cb_insn.specs.Faults.{s4_at, count_of, padding_length, numbers_at, keys_fall, targets_in}
-use Rattle.cb_insn.specs.Reads.{target_of, pairs_of}
+use Rattle.cb_insn.specs.Inner.{target_of, pairs_of}
 use Rattle.std.proofs.Math.Seq.{take-add}
 use Rattle.cb_insn.proofs.NumberBytes.{IsBytes, drop_bytes, s4_front, s4_back, s4_fits, two_back}
 

@@ -4,45 +4,46 @@ use Rattle.std.proofs.lemmas.Bool.Decides.{nat_tests}
 use Rattle.std.proofs.lemmas.Bool.{cases_order, cases_lt, cases_eq, false≢true}
 use Rattle.std.proofs.lemmas.List.{get_or_past, get_or-replicate, length-replicate, length-set}
 use Rattle.cb_insn.specs.declared.form.Form.{Form}
-use Rattle.cb_insn.specs.Forms.{form_of, wide_form_of, wide_opcode}
-use Rattle.cb_insn.specs.Faults.{Reading, Whole, IsCut, IsBadOperand, IsPlace, First, Next, HasFault, reading_at, reading_in, reading_plain, reading_wide, reading_behind_wide, operand_length, is_bad}
-use Rattle.cb_insn.specs.Reads.{MarksPlaces}
+use Rattle.cb_insn.specs.declared.opcode.TheConstants.{WIDE}
+use Rattle.cb_insn.specs.Forms.{form_of, wide_form_of}
+use Rattle.cb_insn.specs.Faults.{Fault, Standing, Whole, Faulty, IsCut, IsBadOperand, IsPlace, First, Next, HasFault, standing_at, standing_in, standing_plain, standing_wide, standing_behind_wide, operand_length, is_bad}
+use Rattle.cb_insn.specs.Inner.{MarksPlaces}
 
 -- a whole instruction has so many bytes, all there
-pub whole_in : (before pc : ℕ) (form : Form) (behind : List ℕ) (size : ℕ) → reading_in before pc form behind ≡ Whole size → (before + operand_length pc form behind ≡ size) × (operand_length pc form behind ≤ length behind) × (is_bad pc form behind ≡ false)
+pub whole_in : (before pc : ℕ) (form : Form) (behind : List ℕ) (size : ℕ) → standing_in before pc form behind ≡ Whole size → (before + operand_length pc form behind ≡ size) × (operand_length pc form behind ≤ length behind) × (is_bad pc form behind ≡ false)
 whole_in before pc form behind size is = by_length (nat_lt (length behind) (operand_length pc form behind)) refl (is_bad pc form behind) refl is where
-  by_length : (cut : Bool) → nat_lt (length behind) (operand_length pc form behind) ≡ cut → (bad : Bool) → is_bad pc form behind ≡ bad → cond cut IsCut (cond bad IsBadOperand (Whole (before + operand_length pc form behind))) ≡ Whole size → (before + operand_length pc form behind ≡ size) × (operand_length pc form behind ≤ length behind) × (is_bad pc form behind ≡ false)
+  by_length : (cut : Bool) → nat_lt (length behind) (operand_length pc form behind) ≡ cut → (bad : Bool) → is_bad pc form behind ≡ bad → cond cut (Faulty IsCut) (cond bad (Faulty IsBadOperand) (Whole (before + operand_length pc form behind))) ≡ Whole size → (before + operand_length pc form behind ≡ size) × (operand_length pc form behind ≤ length behind) × (is_bad pc form behind ≡ false)
   by_length true is_cut bad is_bad' is = cc
   by_length false is_cut true is_bad' is = cc
   by_length false is_cut false is_bad' is = let same : before + operand_length pc form behind ≡ size = cc in (same, grind (arith, nat_tests), is_bad')
 
-pub whole_size : (pc : ℕ) (bytes : List ℕ) (size : ℕ) → reading_at pc bytes ≡ Whole size → (0 < size) × (size ≤ length bytes)
+pub whole_size : (pc : ℕ) (bytes : List ℕ) (size : ℕ) → standing_at pc bytes ≡ Whole size → (0 < size) × (size ≤ length bytes)
 whole_size pc [] size is = cc
-whole_size pc (opcode ∷ behind) size is = by_wide (nat_eq opcode wide_opcode) behind is where
-  plain : (behind : List ℕ) (form : Option Form) → reading_plain pc form behind ≡ Whole size → (0 < size) × (size ≤ suc (length behind))
+whole_size pc (opcode ∷ behind) size is = by_wide (nat_eq opcode WIDE) behind is where
+  plain : (behind : List ℕ) (form : Option Form) → standing_plain pc form behind ≡ Whole size → (0 < size) × (size ≤ suc (length behind))
   plain behind None is = cc
   plain behind (Some form) is = let whole = whole_in 1 pc form behind size is in (omega (arith, whole.0), omega (arith, whole.0, whole.1))
 
-  wide : (form : Option Form) (behind : List ℕ) → reading_wide pc form behind ≡ Whole size → (0 < size) × (size ≤ suc (suc (length behind)))
+  wide : (form : Option Form) (behind : List ℕ) → standing_wide pc form behind ≡ Whole size → (0 < size) × (size ≤ suc (suc (length behind)))
   wide None behind is = cc
   wide (Some form) behind is = let whole = whole_in 2 pc form behind size is in (omega (arith, whole.0), omega (arith, whole.0, whole.1))
 
-  behind_wide : (behind : List ℕ) → reading_behind_wide pc behind ≡ Whole size → (0 < size) × (size ≤ suc (length behind))
+  behind_wide : (behind : List ℕ) → standing_behind_wide pc behind ≡ Whole size → (0 < size) × (size ≤ suc (length behind))
   behind_wide [] is = cc
   behind_wide (next ∷ behind) is = wide (wide_form_of next) behind is
 
-  by_wide : (is_wide : Bool) (bytes : List ℕ) → cond is_wide (reading_behind_wide pc bytes) (reading_plain pc (form_of opcode) bytes) ≡ Whole size → (0 < size) × (size ≤ suc (length bytes))
+  by_wide : (is_wide : Bool) (bytes : List ℕ) → cond is_wide (standing_behind_wide pc bytes) (standing_plain pc (form_of opcode) bytes) ≡ Whole size → (0 < size) × (size ≤ suc (length bytes))
   by_wide true bytes is = behind_wide bytes is
   by_wide false bytes is = plain bytes (form_of opcode) is
 
-pub whole_same : (a : Reading) (m n : ℕ) → a ≡ Whole m → a ≡ Whole n → m ≡ n
+pub whole_same : (a : Standing) (m n : ℕ) → a ≡ Whole m → a ≡ Whole n → m ≡ n
 whole_same a m n one other = cc
 
 -- of two places the lower has a whole instruction, and the other is behind it
 pub record Apart (bytes : List ℕ) (low high : ℕ) : Type 0 where
   pub size : ℕ
   pub within : low < length bytes
-  pub reads : reading_at low (drop low bytes) ≡ Whole size
+  pub reads : standing_at low (drop low bytes) ≡ Whole size
   pub behind : low + size ≤ high
 
 apart_in : (k : ℕ) (bytes : List ℕ) (low high : ℕ) → low + high < k → IsPlace bytes low → IsPlace bytes high → low < high → Apart bytes low high
@@ -58,7 +59,7 @@ apart_in (suc k) bytes low _ few one (Next pc size place within reads) lower =
     by_order early late (inl same) = record {
       size = size;
       within = omega arith;
-      reads = subst (λ at. reading_at at (drop at bytes) ≡ Whole size) (sym same) reads;
+      reads = subst (λ at. standing_at at (drop at bytes) ≡ Whole size) (sym same) reads;
       behind = omega arith;
     }
     by_order early late (inr (inl before)) = let parted = early before in record {
@@ -76,10 +77,11 @@ pub apart : (bytes : List ℕ) (low high : ℕ) → IsPlace bytes low → IsPlac
 apart bytes low high = apart_in (suc (low + high)) bytes low high (omega arith)
 
 -- so a place with a fault has none behind it
-pub none_behind : (bytes : List ℕ) (low high : ℕ) (fault : Reading) → ((size : ℕ) → fault ≢ Whole size) → IsPlace bytes high → HasFault bytes low fault → low < high → ⊥
-none_behind bytes low high fault is_fault place has lower =
+pub none_behind : (bytes : List ℕ) (low high : ℕ) (fault : Fault) → IsPlace bytes high → HasFault bytes low fault → low < high → ⊥
+none_behind bytes low high fault place has lower =
     let parted = apart bytes low high has.place place lower in
-    is_fault parted.size (sym has.reads ∙ parted.reads)
+    let both : Faulty fault ≡ Whole parted.size = sym has.stands ∙ parted.reads in
+    cc
 
 -- the walk has come to a place, and has marked those before it
 pub record Marked (bytes : List ℕ) (starts : List Bool) (pc : ℕ) : Type 0 where
@@ -103,7 +105,7 @@ marked_start bytes starts is = record {
     by_cases (inl below) = get_or-replicate (length bytes) at false false below
     by_cases (inr past) = get_or_past (replicate (length bytes) false) at false (rw length-replicate past)
 
-pub marked_more : (bytes : List ℕ) (starts new : List Bool) (pc size : ℕ) (rest : List ℕ) → Marked bytes starts pc → pc < length bytes → rest ≡ drop pc bytes → Whole size ≡ reading_at pc rest → new ≡ set starts pc true → Marked bytes new (pc + size)
+pub marked_more : (bytes : List ℕ) (starts new : List Bool) (pc size : ℕ) (rest : List ℕ) → Marked bytes starts pc → pc < length bytes → rest ≡ drop pc bytes → Whole size ≡ standing_at pc rest → new ≡ set starts pc true → Marked bytes new (pc + size)
 marked_more bytes starts new pc size rest marked inside is_rest is_whole is_new = record {
   place = Next pc size marked.place inside reads;
   within = let size_is = whole_size pc (drop pc bytes) size reads in omega (arith, size_is.1, length-drop pc bytes);
@@ -111,8 +113,8 @@ marked_more bytes starts new pc size rest marked inside is_rest is_whole is_new 
   sound = sound;
   whole = whole;
 } where
-  reads : reading_at pc (drop pc bytes) ≡ Whole size
-  reads = ap (reading_at pc) (sym is_rest) ∙ sym is_whole
+  reads : standing_at pc (drop pc bytes) ≡ Whole size
+  reads = ap (standing_at pc) (sym is_rest) ∙ sym is_whole
 
   positive : 0 < size
   positive = (whole_size pc (drop pc bytes) size reads).0

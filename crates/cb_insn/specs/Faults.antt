@@ -3,7 +3,8 @@ use Rattle.std.specs.Prelude.{◌≡◌, ℕ, zero, suc, ◌+◌, ◌-◌, ◌*�
 use Rattle.std.specs.Int.{w16, w32, cast_signed, from_be_bytes}
 use Rattle.cb_insn.specs.declared.form.Form.{Form}
 use Rattle.cb_insn.specs.declared.form.Form.TheVariants.{Plain, Byte, Short, PoolByte, Pool, Local, WideLocal, Increase, WideIncrease, Branch, LongBranch, ArrayCode, Dimensions, Interface, Dynamic, Table, Lookup}
-use Rattle.cb_insn.specs.Forms.{form_of, wide_form_of, wide_opcode}
+use Rattle.cb_insn.specs.declared.opcode.TheConstants.{WIDE}
+use Rattle.cb_insn.specs.Forms.{form_of, wide_form_of}
 
 -- the number in the first two bytes, the high one first, and the number with a sign in the first two or four
 abbrev pub u2_at : List ℕ → ℕ
@@ -97,53 +98,57 @@ is_bad pc Lookup behind =
     int_lt (lookup_number switch) (pos 0) || keys_fall (numbers_at 8 (lookup_count switch) (drop 8 switch))
 is_bad pc form behind = false
 
--- what stands at a place: an instruction that is all there and has no bad operand, of so many bytes, or a fault
-pub data Reading : Type 0 where
-  Whole : ℕ → Reading
-  IsCut : Reading
-  IsBadOpcode : Reading
-  IsBadOperand : Reading
+-- what is wrong with an instruction by itself: it is cut, its opcode is no instruction's, or it may not have its operand
+pub data Fault : Type 0 where
+  IsCut : Fault
+  IsBadOpcode : Fault
+  IsBadOperand : Fault
 
--- the reading where an operand of this form stands behind so many bytes, an opcode or `wide` and an opcode. An operand
+-- what stands at a place: an instruction that is all there and has no bad operand, of so many bytes, or a faulty one
+pub data Standing : Type 0 where
+  Whole : ℕ → Standing
+  Faulty : Fault → Standing
+
+-- what it is where an operand of this form stands behind so many bytes, an opcode or `wide` and an opcode. An operand
 -- that is cut isn't looked at further
-abbrev pub reading_in : ℕ → ℕ → Form → List ℕ → Reading
-reading_in before pc form behind =
-    if nat_lt (length behind) (operand_length pc form behind) then IsCut
-    else if is_bad pc form behind then IsBadOperand
+abbrev pub standing_in : ℕ → ℕ → Form → List ℕ → Standing
+standing_in before pc form behind =
+    if nat_lt (length behind) (operand_length pc form behind) then Faulty IsCut
+    else if is_bad pc form behind then Faulty IsBadOperand
     else Whole (before + operand_length pc form behind)
 
 -- an opcode that has no form is a bad opcode, and behind `wide` a bad operand
-abbrev pub reading_wide : ℕ → Option Form → List ℕ → Reading
-reading_wide pc None behind = IsBadOperand
-reading_wide pc (Some form) behind = reading_in 2 pc form behind
+abbrev pub standing_wide : ℕ → Option Form → List ℕ → Standing
+standing_wide pc None behind = Faulty IsBadOperand
+standing_wide pc (Some form) behind = standing_in 2 pc form behind
 
-abbrev pub reading_plain : ℕ → Option Form → List ℕ → Reading
-reading_plain pc None behind = IsBadOpcode
-reading_plain pc (Some form) behind = reading_in 1 pc form behind
+abbrev pub standing_plain : ℕ → Option Form → List ℕ → Standing
+standing_plain pc None behind = Faulty IsBadOpcode
+standing_plain pc (Some form) behind = standing_in 1 pc form behind
 
 -- code that ends behind `wide` is cut
-abbrev pub reading_behind_wide : ℕ → List ℕ → Reading
-reading_behind_wide pc [] = IsCut
-reading_behind_wide pc (opcode ∷ behind) = reading_wide pc (wide_form_of opcode) behind
+abbrev pub standing_behind_wide : ℕ → List ℕ → Standing
+standing_behind_wide pc [] = Faulty IsCut
+standing_behind_wide pc (opcode ∷ behind) = standing_wide pc (wide_form_of opcode) behind
 
--- the reading of the bytes that stand from a place on
-abbrev pub reading_at : ℕ → List ℕ → Reading
-reading_at pc [] = IsCut
-reading_at pc (opcode ∷ behind) =
-    if nat_eq opcode wide_opcode then reading_behind_wide pc behind
-    else reading_plain pc (form_of opcode) behind
+-- what stands at a place, by the bytes from there on
+abbrev pub standing_at : ℕ → List ℕ → Standing
+standing_at pc [] = Faulty IsCut
+standing_at pc (opcode ∷ behind) =
+    if nat_eq opcode WIDE then standing_behind_wide pc behind
+    else standing_plain pc (form_of opcode) behind
 
 -- the places of instructions: the first, and each behind a whole instruction. Where all instructions are whole, the end
 -- of the code is such a place too, though none begins there
 pub data IsPlace (bytes : List ℕ) : ℕ → Type 0 where
   First : IsPlace bytes 0
-  Next : (pc size : ℕ) → IsPlace bytes pc → pc < length bytes → reading_at pc (drop pc bytes) ≡ Whole size → IsPlace bytes (pc + size)
+  Next : (pc size : ℕ) → IsPlace bytes pc → pc < length bytes → standing_at pc (drop pc bytes) ≡ Whole size → IsPlace bytes (pc + size)
 
 -- there is a fault at a place, which isn't the end of the code. There is at most one such place, since none follows it
-pub record HasFault (bytes : List ℕ) (pc : ℕ) (fault : Reading) : Type 0 where
+pub record HasFault (bytes : List ℕ) (pc : ℕ) (fault : Fault) : Type 0 where
   pub place : IsPlace bytes pc
   pub within : pc < length bytes
-  pub reads : reading_at pc (drop pc bytes) ≡ fault
+  pub stands : standing_at pc (drop pc bytes) ≡ Faulty fault
 
 -- the offsets of a switch, the default's first
 abbrev pub table_offsets : List ℕ → List ℤ

@@ -1,7 +1,7 @@
 pub mod Faults
 pub mod Forms
 pub mod Grammar
-pub mod Readings
-pub mod Reads
-pub mod Writing
+pub mod Inner
+pub mod Messages
 pub mod Places
+pub mod Writing

@@ -1,5 +1,5 @@
--- The one spelling of code whose padding is 0, and how long it is.
-use Rattle.std.specs.Prelude.{◌≡◌, length, ℕ, List, [], ◌∷◌, ◌++◌, replicate, Option, Some, None}
+-- The one spelling of code whose padding is 0.
+use Rattle.std.specs.Prelude.{ℕ, List, [], ◌∷◌, ◌++◌, replicate, Option, Some, None}
 use Rattle.std.specs.Int.{w8, cast_unsigned}
 use Rattle.std.specs.List.{flat_map}
 use Rattle.cb_insn.specs.declared.form.Form.{Form}
@@ -8,7 +8,7 @@ use Rattle.cb_insn.specs.declared.insn.Insn.{Insn}
 use Rattle.cb_insn.specs.declared.insn.Operand.{Operand}
 use Rattle.cb_insn.specs.declared.insn.Operand.TheVariants.{Number, Pool, Local, Increase, Branch, ArrayCode, Dimensions, Interface, Table, Lookup}
 use Rattle.cb_insn.specs.Forms.{head_bytes, head_form}
-use Rattle.cb_insn.specs.Grammar.{SpellsOperand, u2, s2, s4, offset, table_bytes, lookup_bytes}
+use Rattle.cb_insn.specs.Grammar.{u2, s2, s4, offset, table_bytes, lookup_bytes}
 use Rattle.cb_insn.specs.Faults.{padding_length}
 
 -- the bytes of an operand that has the form
@@ -30,15 +30,6 @@ operand_bytes pc forms.Dynamic (Pool index) = u2 index ++ 0 ∷ 0 ∷ []
 operand_bytes pc forms.Table (Table default low targets) = replicate (padding_length pc) 0 ++ table_bytes pc default low targets
 operand_bytes pc forms.Lookup (Lookup default pairs) = replicate (padding_length pc) 0 ++ lookup_bytes pc default pairs
 operand_bytes pc form operand = []
-
--- the operand is spelled by its bytes here, which are so many
-abbrev pub IsSize : ℕ → Form → Operand → ℕ → Type 0
-IsSize pc form operand size =
-    SpellsOperand pc form operand (operand_bytes pc form operand) × (size ≡ length (operand_bytes pc form operand))
-
--- no bytes spell the operand
-abbrev pub IsUnspelled : ℕ → Form → Operand → Type 0
-IsUnspelled pc form operand = (bytes : List ℕ) → SpellsOperand pc form operand bytes → ⊥
 
 -- the bytes of an instruction, and of code
 abbrev pub bytes_in : ℕ → Option Form → Operand → List ℕ

@@ -2,11 +2,11 @@
 ghost use Rattle.std.specs.Prelude.{◌≡◌, ◌^◌, ◌<◌, ◌↔◌, ℕ, length, IfOk, IsErrOf, MatchResult};
 ghost use Rattle.cb_insn.specs.Faults.{IsPlace, HasFault, HasBadTarget, IsCut, IsBadOpcode, IsBadOperand};
 ghost use Rattle.cb_insn.specs.Grammar.{SpellsCode};
-ghost use Rattle.cb_insn.specs.Reads.{MarksPlaces, Stands};
+ghost use Rattle.cb_insn.specs.Inner.{MarksPlaces, IsFaultOf};
 
-use crate::instruction::instruction_at;
+use crate::instruction::{instruction_at, plain, plain_at};
 use crate::numbers::after;
-use crate::starts::starts;
+use crate::starts::find_starts;
 use crate::{Code, InsnFault, List};
 use std::alloc::Global;
 
@@ -33,23 +33,35 @@ pub fn decode(alloc: Global, bytes: &[u8]) -> Result<Code, InsnFault>
 /// The code, or its fault: the public clauses follow from this one, since bytes spell one code and have one fault.
 fn decode_or_fault(alloc: Global, bytes: &[u8]) -> Result<Code, InsnFault>
     requires { length bytes.now < 2 ^ 32 }
-    ensures { MatchResult result (λ code. SpellsCode code bytes.now) (Stands bytes.now) }
+    ensures { MatchResult result (λ code. SpellsCode code bytes.now) (IsFaultOf bytes.now) }
 {
-    let starts = starts(alloc, bytes)?;
-    instructions(alloc, bytes, starts.as_slice())
+    let starts = find_starts(alloc, bytes)?;
+    instructions(alloc, bytes, starts.marks.as_slice(), starts.count)
 }
 
-/// The instructions of code that is whole, by the marks of their places, or the first that has a bad target.
-fn instructions(alloc: Global, bytes: &[u8], starts: &[bool]) -> Result<Code, InsnFault>
+/// The instructions of code that is whole, by the marks of their places, or the first that has a bad target. Room is
+/// taken once, for so many.
+fn instructions(
+    alloc: Global,
+    bytes: &[u8],
+    starts: &[bool],
+    count: usize,
+) -> Result<Code, InsnFault>
     requires short { length bytes.now < 2 ^ 32 }
     requires whole { IsPlace bytes.now (length bytes.now) }
     requires marks { MarksPlaces starts.now bytes.now }
-    ensures { MatchResult result (λ code. SpellsCode code bytes.now) (Stands bytes.now) }
+    ensures { MatchResult result (λ code. SpellsCode code bytes.now) (IsFaultOf bytes.now) }
 {
-    let mut code = List::new(alloc);
+    let mut code = List::with_capacity(alloc, count)?;
     let mut pc = 0;
     while pc < bytes.len() {
-        let (insn, size) = instruction_at(alloc, pc, after(bytes, pc), starts)?;
+        let rest = after(bytes, pc);
+        if let Some(opcode) = plain_at(rest) {
+            code.push((pc as u32, plain(opcode)))?;
+            pc += 1;
+            continue;
+        }
+        let (insn, size) = instruction_at(alloc, pc, rest, starts)?;
         code.push((pc as u32, insn))?;
         pc += size;
     }

@@ -3,7 +3,8 @@ ghost use Rattle.std.specs.Prelude.{◌≡◌, ◌++◌, ℕ, List, IfOk, OnOk};
 ghost use Rattle.cb_insn.specs.Grammar.{SpellsCode, SpellsInsn};
 ghost use Rattle.cb_insn.specs.Writing.{code_bytes, insn_bytes};
 
-use crate::form::{WIDE, form_of, wide_form_of};
+use crate::form::{form_of, wide_form_of};
+use crate::opcode::WIDE;
 use crate::push::push_operand;
 use crate::{Code, Insn, OutOfMemory};
 use std::alloc::Global;

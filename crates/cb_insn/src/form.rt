@@ -1,6 +1,9 @@
 // The forms of operands.
-ghost use Rattle.std.specs.Prelude.{◌≡◌};
+ghost use Rattle.std.specs.Prelude.{◌≡◌, ◌<◌, slice_index_or, None};
 ghost use Rattle.cb_insn.specs.Forms.{form_of, wide_form_of};
+
+use crate::form_table::FORMS;
+use crate::opcode;
 
 /// What stands behind an opcode.
 #[derive(Clone, Copy, Debug, PartialEq, Eq)]
@@ -27,6 +30,10 @@ pub enum Form {
     Branch,
     /// An offset of four bytes.
     LongBranch,
+    /// Padding, offsets and the bounds of a table.
+    Table,
+    /// Padding, offsets and the number of pairs.
+    Lookup,
     /// The code of a primitive type.
     ArrayCode,
     /// An index of the pool and a number of dimensions.
@@ -35,50 +42,26 @@ pub enum Form {
     Interface,
     /// An index of the pool and two zeros.
     Dynamic,
-    /// Padding, offsets and the bounds of a table.
-    Table,
-    /// Padding, offsets and the number of pairs.
-    Lookup,
 }
 
-/// `wide` (JVMS §6.5).
-pub(crate) const WIDE: u8 = 0xC4;
-
 /// The form behind an opcode other than `wide`, or `None` where there is no such instruction (JVMS chapter 6).
+#[inline(always)]
 pub(crate) fn form_of(opcode: u8) -> Option<Form>
     ensures { result ≡ form_of opcode }
 {
-    match opcode {
-        0x00..=0x0F => Some(Form::Plain),
-        0x10 => Some(Form::Byte),
-        0x11 => Some(Form::Short),
-        0x12 => Some(Form::PoolByte),
-        0x13..=0x14 => Some(Form::Pool),
-        0x15..=0x19 => Some(Form::Local),
-        0x1A..=0x35 => Some(Form::Plain),
-        0x36..=0x3A => Some(Form::Local),
-        0x3B..=0x83 => Some(Form::Plain),
-        0x84 => Some(Form::Increase),
-        0x85..=0x98 => Some(Form::Plain),
-        0x99..=0xA8 => Some(Form::Branch),
-        0xA9 => Some(Form::Local),
-        0xAA => Some(Form::Table),
-        0xAB => Some(Form::Lookup),
-        0xAC..=0xB1 => Some(Form::Plain),
-        0xB2..=0xB8 => Some(Form::Pool),
-        0xB9 => Some(Form::Interface),
-        0xBA => Some(Form::Dynamic),
-        0xBB => Some(Form::Pool),
-        0xBC => Some(Form::ArrayCode),
-        0xBD => Some(Form::Pool),
-        0xBE..=0xBF => Some(Form::Plain),
-        0xC0..=0xC1 => Some(Form::Pool),
-        0xC2..=0xC3 => Some(Form::Plain),
-        0xC5 => Some(Form::Dimensions),
-        0xC6..=0xC7 => Some(Form::Branch),
-        0xC8..=0xC9 => Some(Form::LongBranch),
-        _ => None,
+    if opcode > opcode::JSR_W {
+        return None;
     }
+    form_in(&FORMS, opcode)
+}
+
+/// The entry of an opcode in a table.
+#[inline(always)]
+fn form_in(forms: &[Option<Form>; 202], opcode: u8) -> Option<Form>
+    requires { opcode < 202 }
+    ensures { result ≡ slice_index_or forms.now opcode None }
+{
+    forms[usize::from(opcode)]
 }
 
 /// The form behind `wide` and an opcode, which is one of a local or `iinc` (JVMS §6.5).

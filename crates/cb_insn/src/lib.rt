@@ -1,7 +1,8 @@
 //! The code array of a method, read exactly by its grammar and written back (JVMS §4.7.3, §4.9.1, chapter 6).
 //!
 //! `specs/` has the form of each opcode's operand, the bytes of instructions and of code, and what is wrong with bytes
-//! that spell none. No clause says that memory is to be had: that no call always gives up is shown by tests alone.
+//! that spell none; `Inner.antt` alone is for the crate itself. No clause says that memory is to be had: that no call
+//! always gives up is shown by tests alone. Nor does one speak of room: contracts see a list with it as one without.
 #![tactic(auto)]
 
 mod decoder;
@@ -9,13 +10,17 @@ mod encoder;
 mod fault;
 mod fit;
 mod form;
+mod form_table;
 mod insn;
 mod instruction;
-mod laws;
+mod law;
+mod length;
 mod list;
 mod memory;
 mod numbers;
 mod offset;
+/// The opcodes, by the names of their instructions (JVMS chapters 6 and 7).
+pub mod opcode;
 mod operand;
 mod place;
 mod push;
@@ -33,7 +38,7 @@ pub use fault::InsnFault;
 pub use fit::fits;
 pub use form::Form;
 pub use insn::{Code, Insn, Operand, Pair, Pairs, Targets};
-pub use laws::one_code;
+pub use law::{code_or_fault, one_code};
 pub use list::List;
 pub use memory::OutOfMemory;
 pub use place::is_place;

@@ -1,7 +1,7 @@
 // The operand of a whole instruction.
 ghost use Rattle.std.specs.Prelude.{◌≡◌, ◌^◌, ◌<◌, ◌≤◌, length, All, IfOk, IfErr};
 ghost use Rattle.cb_insn.specs.Faults.{operand_length, table_length, lookup_length, table_offsets, lookup_offsets, targets_in};
-ghost use Rattle.cb_insn.specs.Reads.{IsMarked, Misses, operand_of, operand_targets, table_of, lookup_of, HasNoTarget};
+ghost use Rattle.cb_insn.specs.Inner.{IsMarked, Misses, operand_of, operand_targets, table_of, lookup_of};
 
 use crate::form::Form;
 use crate::numbers::{after, s2_at, s4_at, u2_at};
@@ -11,6 +11,7 @@ use crate::{InsnFault, Operand};
 use std::alloc::Global;
 
 /// The operand behind an opcode at a place, or `BadTarget` where one of its targets has no mark.
+#[inline(always)]
 pub(crate) fn operand_at(
     alloc: Global,
     pc: usize,
@@ -26,6 +27,21 @@ pub(crate) fn operand_at(
     ensures err { IfErr result (Misses pc (operand_targets pc form behind.now) starts.now) }
 {
     match form {
+        Form::Plain => Ok(Operand::Nothing),
+        Form::Byte => Ok(Operand::Number(i16::from(behind[0].cast_signed()))),
+        Form::Short => Ok(Operand::Number(s2_at(behind))),
+        Form::PoolByte => Ok(Operand::Pool(u16::from(behind[0]))),
+        Form::Pool | Form::Dynamic => Ok(Operand::Pool(u2_at(behind))),
+        Form::Local => Ok(Operand::Local(u16::from(behind[0]))),
+        Form::WideLocal => Ok(Operand::Local(u2_at(behind))),
+        Form::Increase => Ok(Operand::Increase {
+            local: u16::from(behind[0]),
+            by: i16::from(behind[1].cast_signed()),
+        }),
+        Form::WideIncrease => Ok(Operand::Increase {
+            local: u2_at(behind),
+            by: s2_at(after(behind, 2)),
+        }),
         Form::Branch => {
             let offset = i32::from(s2_at(behind));
             Ok(Operand::Branch(target_at(pc, offset, starts)?))
@@ -33,41 +49,15 @@ pub(crate) fn operand_at(
         Form::LongBranch => Ok(Operand::Branch(target_at(pc, s4_at(behind), starts)?)),
         Form::Table => table_at(alloc, pc, behind_padding(pc, behind), starts),
         Form::Lookup => lookup_at(alloc, pc, behind_padding(pc, behind), starts),
-        other => Ok(operand_without_target(other, behind)),
-    }
-}
-
-/// The operand of an instruction that has no target.
-fn operand_without_target(form: Form, behind: &[u8]) -> Operand
-    requires there { operand_length 0 form behind.now ≤ length behind.now }
-    requires no_target { HasNoTarget form }
-    ensures { result ≡ operand_of 0 form behind.now }
-{
-    match form {
-        Form::Byte => Operand::Number(i16::from(behind[0].cast_signed())),
-        Form::Short => Operand::Number(s2_at(behind)),
-        Form::PoolByte => Operand::Pool(u16::from(behind[0])),
-        Form::Pool | Form::Dynamic => Operand::Pool(u2_at(behind)),
-        Form::Local => Operand::Local(u16::from(behind[0])),
-        Form::WideLocal => Operand::Local(u2_at(behind)),
-        Form::Increase => Operand::Increase {
-            local: u16::from(behind[0]),
-            by: i16::from(behind[1].cast_signed()),
-        },
-        Form::WideIncrease => Operand::Increase {
-            local: u2_at(behind),
-            by: s2_at(after(behind, 2)),
-        },
-        Form::ArrayCode => Operand::ArrayCode(behind[0]),
-        Form::Dimensions => Operand::Dimensions {
+        Form::ArrayCode => Ok(Operand::ArrayCode(behind[0])),
+        Form::Dimensions => Ok(Operand::Dimensions {
             pool: u2_at(behind),
             dimensions: behind[2],
-        },
-        Form::Interface => Operand::Interface {
+        }),
+        Form::Interface => Ok(Operand::Interface {
             pool: u2_at(behind),
             count: behind[2],
-        },
-        _ => Operand::Nothing,
+        }),
     }
 }
 

@@ -1,13 +1,13 @@
 // What stands at a place of code.
 ghost use Rattle.std.specs.Prelude.{◌≡◌, ◌^◌, ◌<◌, ◌≤◌, ◌||◌, pos, int_lt, drop, length};
-ghost use Rattle.cb_insn.specs.Faults.{reading_at, reading_in, operand_length, is_bad, table_low, table_high, lookup_number, lookup_count, lookup_length, numbers_at, keys_fall};
-ghost use Rattle.cb_insn.specs.Readings.{told};
+ghost use Rattle.cb_insn.specs.Faults.{standing_at, standing_in, operand_length, is_bad, table_low, table_high, lookup_number, lookup_count, lookup_length, numbers_at, keys_fall};
+ghost use Rattle.cb_insn.specs.Inner.{told, IsBound};
 
-use crate::form::{Form, WIDE, form_of, wide_form_of};
+use crate::form::{Form, form_of, wide_form_of};
+use crate::length::{bound_length, free_length};
 use crate::numbers::{after, s4_at};
-use crate::switch::{
-    behind_padding, keys_fall, lookup_count, lookup_length, padding_length, table_length,
-};
+use crate::opcode::WIDE;
+use crate::switch::{behind_padding, keys_fall, lookup_count};
 
 /// What stands at a place.
 #[derive(Clone, Copy, Debug)]
@@ -23,8 +23,9 @@ pub(crate) enum Reading {
 }
 
 /// What stands at a place, by the bytes from there on. Takes time in the length of the instruction.
+#[inline(always)]
 pub(crate) fn reading_at(pc: usize, rest: &[u8]) -> Reading
-    ensures { told result ≡ reading_at pc rest.now }
+    ensures { told result ≡ standing_at pc rest.now }
 {
     match rest {
         [] => Reading::Cut,
@@ -41,11 +42,26 @@ pub(crate) fn reading_at(pc: usize, rest: &[u8]) -> Reading
 }
 
 /// What stands at a place, where the operand has this form and stands behind so many bytes.
+#[inline(always)]
 fn reading_in(before: usize, pc: usize, form: Form, behind: &[u8]) -> Reading
     requires { before ≤ 2 }
-    ensures { told result ≡ reading_in before pc form behind.now }
+    ensures { told result ≡ standing_in before pc form behind.now }
 {
-    let size = operand_length(pc, form, behind);
+    match free_length(form) {
+        Some(size) if size <= behind.len() => Reading::Whole(before + size),
+        Some(_) => Reading::Cut,
+        None => reading_bound(before, pc, form, behind),
+    }
+}
+
+/// What stands at a place, where the operand has this form, and not any bytes are one.
+#[inline(never)]
+fn reading_bound(before: usize, pc: usize, form: Form, behind: &[u8]) -> Reading
+    requires few { before ≤ 2 }
+    requires form { IsBound form }
+    ensures { told result ≡ standing_in before pc form behind.now }
+{
+    let size = bound_length(pc, form, behind);
     if behind.len() < size {
         return Reading::Cut;
     }
@@ -53,22 +69,6 @@ fn reading_in(before: usize, pc: usize, form: Form, behind: &[u8]) -> Reading
         return Reading::BadOperand;
     }
     Reading::Whole(before + size)
-}
-
-/// How many bytes stand behind an opcode, as far as these tell.
-pub(crate) fn operand_length(pc: usize, form: Form, behind: &[u8]) -> usize
-    ensures exact { result ≡ operand_length pc form behind.now }
-    ensures bound { result < 2 ^ 36 }
-{
-    match form {
-        Form::Plain => 0,
-        Form::Byte | Form::PoolByte | Form::Local | Form::ArrayCode => 1,
-        Form::Short | Form::Pool | Form::WideLocal | Form::Increase | Form::Branch => 2,
-        Form::Dimensions => 3,
-        Form::WideIncrease | Form::LongBranch | Form::Interface | Form::Dynamic => 4,
-        Form::Table => padding_length(pc) + table_length(behind_padding(pc, behind)),
-        Form::Lookup => padding_length(pc) + lookup_length(behind_padding(pc, behind)),
-    }
 }
 
 /// Whether the operand, which is all there, has a value that it may not have.

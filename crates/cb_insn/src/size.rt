@@ -3,7 +3,8 @@ ghost use Rattle.std.specs.Prelude.{◌≡◌, ◌<◌, ◌^◌, ◌↔◌, ℕ,
 ghost use Rattle.std.specs.Int.{w32};
 ghost use Rattle.std.specs.List.{AllByRecursion};
 ghost use Rattle.cb_insn.specs.Grammar.{SpellsInsn, KeysRise, offset};
-ghost use Rattle.cb_insn.specs.Writing.{IsSize, IsUnspelled, insn_bytes};
+ghost use Rattle.cb_insn.specs.Inner.{IsSize, IsUnspelled};
+ghost use Rattle.cb_insn.specs.Writing.{insn_bytes};
 ghost use Rattle.cb_insn.specs.declared.insn.Operand.TheVariants as operands;
 
 use crate::form::{Form, form_of, wide_form_of};

@@ -37,6 +37,7 @@ pub(crate) fn high_bound(low: i32, count: usize) -> i64
 }
 
 /// How many bytes a table has behind its padding, as far as these tell.
+#[inline(never)]
 pub(crate) fn table_length(switch: &[u8]) -> usize
     ensures exact { result ≡ table_length switch.now }
     ensures bound { result < 2 ^ 35 }
@@ -57,6 +58,7 @@ pub(crate) fn lookup_count(switch: &[u8]) -> usize
 }
 
 /// How many bytes a lookup has behind its padding, as far as these tell.
+#[inline(never)]
 pub(crate) fn lookup_length(switch: &[u8]) -> usize
     ensures exact { result ≡ lookup_length switch.now }
     ensures bound { result < 2 ^ 35 }
@@ -68,6 +70,7 @@ pub(crate) fn lookup_length(switch: &[u8]) -> usize
 }
 
 /// Whether some key of so many pairs isn't above the one before it. Takes time in the number of pairs.
+#[inline(never)]
 pub(crate) fn keys_fall(count: usize, pairs: &[u8]) -> bool
     requires { 8 * count ≤ length pairs.now }
     ensures { result ≡ keys_fall (numbers_at 8 count pairs.now) }

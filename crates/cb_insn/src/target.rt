@@ -1,13 +1,14 @@
 // The targets of branches and switches, by the marks of the places of instructions (JVMS §4.9.1).
 ghost use Rattle.std.specs.Prelude.{◌≡◌, ◌^◌, ◌*◌, ◌<◌, ◌≤◌, [], ◌∷◌, pos, ◌+ℤ◌, length, drop, map, All, IfOk, IfErr};
 ghost use Rattle.cb_insn.specs.Faults.{numbers_at, targets_in};
-ghost use Rattle.cb_insn.specs.Reads.{IsMarked, Misses, target_of, pairs_of};
+ghost use Rattle.cb_insn.specs.Inner.{IsMarked, Misses, target_of, pairs_of};
 
 use crate::numbers::{after, s4_at};
 use crate::{InsnFault, List, Pair, Pairs, Targets};
 use std::alloc::Global;
 
 /// The target at an offset from a place, or `BadTarget` where it has no mark.
+#[inline(always)]
 pub(crate) fn target_at(pc: usize, offset: i32, starts: &[bool]) -> Result<u32, InsnFault>
     requires place { pc < 2 ^ 32 }
     requires few { length starts.now < 2 ^ 32 }
@@ -22,6 +23,7 @@ pub(crate) fn target_at(pc: usize, offset: i32, starts: &[bool]) -> Result<u32, 
 }
 
 /// The targets at so many offsets from a place, or `BadTarget` where one has no mark. Takes time in their number.
+#[inline(never)]
 pub(crate) fn targets_at(
     alloc: Global,
     pc: usize,
@@ -36,7 +38,7 @@ pub(crate) fn targets_at(
         × All (IsMarked starts.now) (targets_in pc (numbers_at 4 count offsets.now))) }
     ensures err { IfErr result (Misses pc (targets_in pc (numbers_at 4 count offsets.now)) starts.now) }
 {
-    let mut targets = List::new(alloc);
+    let mut targets = List::with_capacity(alloc, count)?;
     let mut rest = offsets;
     let mut left = count;
     while left > 0 {
@@ -48,6 +50,7 @@ pub(crate) fn targets_at(
 }
 
 /// So many pairs, or `BadTarget` where the target of one has no mark. Takes time in their number.
+#[inline(never)]
 pub(crate) fn pairs_at(
     alloc: Global,
     pc: usize,
@@ -62,7 +65,7 @@ pub(crate) fn pairs_at(
         × All (IsMarked starts.now) (targets_in pc (numbers_at 8 count (drop 4 bytes.now)))) }
     ensures err { IfErr result (Misses pc (targets_in pc (numbers_at 8 count (drop 4 bytes.now))) starts.now) }
 {
-    let mut pairs = List::new(alloc);
+    let mut pairs = List::with_capacity(alloc, count)?;
     let mut rest = bytes;
     let mut left = count;
     while left > 0 {

@@ -1,5 +1,5 @@
 // Instructions as the JVMS and `javap` read them.
-use crate::{Code, Insn, InsnFault, List, Operand, Pair, decode, encode, fits, is_place};
+use crate::{Code, Insn, InsnFault, List, Operand, Pair, decode, encode, fits, is_place, opcode};
 use std::test::Fail;
 
 /// The code that `javac --release 8 -g:none` of JDK 17 wrote for this method, with a `wide iinc` and both switches.
@@ -72,56 +72,96 @@ fn encoded(rt: HostRuntime, code: &Code) -> Result<Vec<u8>, Fail> {
 #[test]
 fn each_form_is_read_at_its_least_and_greatest_values(rt: HostRuntime) -> Result<(), Fail> {
     for (bytes, opcode, wide, want) in [
-        (b"\x00".as_slice(), 0x00, false, (0, 0, 0)),
-        (b"\xC3", 0xC3, false, (0, 0, 0)),
-        (b"\x10\x80", 0x10, false, (1, -128, 0)),
-        (b"\x10\x7F", 0x10, false, (1, 127, 0)),
-        (b"\x11\x80\x00", 0x11, false, (1, -32768, 0)),
-        (b"\x11\x7F\xFF", 0x11, false, (1, 32767, 0)),
-        (b"\x12\x00", 0x12, false, (2, 0, 0)),
-        (b"\x12\xFF", 0x12, false, (2, 255, 0)),
-        (b"\x13\x00\x00", 0x13, false, (2, 0, 0)),
-        (b"\xC1\xFF\xFF", 0xC1, false, (2, 65535, 0)),
-        (b"\x15\x00", 0x15, false, (3, 0, 0)),
-        (b"\xA9\xFF", 0xA9, false, (3, 255, 0)),
-        (b"\xC4\x15\x00\x00", 0x15, true, (3, 0, 0)),
-        (b"\xC4\xA9\xFF\xFF", 0xA9, true, (3, 65535, 0)),
-        (b"\x84\x00\x80", 0x84, false, (4, 0, -128)),
-        (b"\x84\xFF\x7F", 0x84, false, (4, 255, 127)),
-        (b"\xC4\x84\x00\x00\x80\x00", 0x84, true, (4, 0, -32768)),
-        (b"\xC4\x84\xFF\xFF\x7F\xFF", 0x84, true, (4, 65535, 32767)),
-        (b"\xC8\x00\x00\x00\x00", 0xC8, false, (5, 0, 0)),
-        (b"\xC9\x00\x00\x00\x05\x00", 0xC9, false, (5, 5, 0)),
-        (b"\xBC\x04", 0xBC, false, (6, 4, 0)),
-        (b"\xBC\x0B", 0xBC, false, (6, 11, 0)),
-        (b"\xC5\x00\x00\x01", 0xC5, false, (7, 0, 1)),
-        (b"\xC5\xFF\xFF\xFF", 0xC5, false, (7, 65535, 255)),
-        (b"\xB9\x00\x00\x01\x00", 0xB9, false, (8, 0, 1)),
-        (b"\xB9\xFF\xFF\xFF\x00", 0xB9, false, (8, 65535, 255)),
-        (b"\xBA\x00\x00\x00\x00", 0xBA, false, (2, 0, 0)),
-        (b"\xBA\xFF\xFF\x00\x00", 0xBA, false, (2, 65535, 0)),
+        (b"\x00".as_slice(), opcode::NOP, false, (0, 0, 0)),
+        (b"\xC3", opcode::MONITOREXIT, false, (0, 0, 0)),
+        (b"\x10\x80", opcode::BIPUSH, false, (1, -128, 0)),
+        (b"\x10\x7F", opcode::BIPUSH, false, (1, 127, 0)),
+        (b"\x11\x80\x00", opcode::SIPUSH, false, (1, -32768, 0)),
+        (b"\x11\x7F\xFF", opcode::SIPUSH, false, (1, 32767, 0)),
+        (b"\x12\x00", opcode::LDC, false, (2, 0, 0)),
+        (b"\x12\xFF", opcode::LDC, false, (2, 255, 0)),
+        (b"\x13\x00\x00", opcode::LDC_W, false, (2, 0, 0)),
+        (b"\xC1\xFF\xFF", opcode::INSTANCEOF, false, (2, 65535, 0)),
+        (b"\x15\x00", opcode::ILOAD, false, (3, 0, 0)),
+        (b"\xA9\xFF", opcode::RET, false, (3, 255, 0)),
+        (b"\xC4\x15\x00\x00", opcode::ILOAD, true, (3, 0, 0)),
+        (b"\xC4\xA9\xFF\xFF", opcode::RET, true, (3, 65535, 0)),
+        (b"\x84\x00\x80", opcode::IINC, false, (4, 0, -128)),
+        (b"\x84\xFF\x7F", opcode::IINC, false, (4, 255, 127)),
+        (
+            b"\xC4\x84\x00\x00\x80\x00",
+            opcode::IINC,
+            true,
+            (4, 0, -32768),
+        ),
+        (
+            b"\xC4\x84\xFF\xFF\x7F\xFF",
+            opcode::IINC,
+            true,
+            (4, 65535, 32767),
+        ),
+        (b"\xC8\x00\x00\x00\x00", opcode::GOTO_W, false, (5, 0, 0)),
+        (b"\xC9\x00\x00\x00\x05\x00", opcode::JSR_W, false, (5, 5, 0)),
+        (b"\xBC\x04", opcode::NEWARRAY, false, (6, 4, 0)),
+        (b"\xBC\x0B", opcode::NEWARRAY, false, (6, 11, 0)),
+        (
+            b"\xC5\x00\x00\x01",
+            opcode::MULTIANEWARRAY,
+            false,
+            (7, 0, 1),
+        ),
+        (
+            b"\xC5\xFF\xFF\xFF",
+            opcode::MULTIANEWARRAY,
+            false,
+            (7, 65535, 255),
+        ),
+        (
+            b"\xB9\x00\x00\x01\x00",
+            opcode::INVOKEINTERFACE,
+            false,
+            (8, 0, 1),
+        ),
+        (
+            b"\xB9\xFF\xFF\xFF\x00",
+            opcode::INVOKEINTERFACE,
+            false,
+            (8, 65535, 255),
+        ),
+        (
+            b"\xBA\x00\x00\x00\x00",
+            opcode::INVOKEDYNAMIC,
+            false,
+            (2, 0, 0),
+        ),
+        (
+            b"\xBA\xFF\xFF\x00\x00",
+            opcode::INVOKEDYNAMIC,
+            false,
+            (2, 65535, 0),
+        ),
         (
             b"\xAA\x00\x00\x00\x00\x00\x00\x00\x80\x00\x00\x00\x80\x00\x00\x00\x00\x00\x00\x00",
-            0xAA,
+            opcode::TABLESWITCH,
             false,
             (9, 0, -2_147_483_648),
         ),
         (
             b"\xAA\x00\x00\x00\x00\x00\x00\x00\x7F\xFF\xFF\xFF\x7F\xFF\xFF\xFF\x00\x00\x00\x00",
-            0xAA,
+            opcode::TABLESWITCH,
             false,
             (9, 0, 2_147_483_647),
         ),
         (
             b"\xAB\x00\x00\x00\x00\x00\x00\x00\x00\x00\x00\x00",
-            0xAB,
+            opcode::LOOKUPSWITCH,
             false,
             (10, 0, 0),
         ),
         (
             b"\xAB\x00\x00\x00\x00\x00\x00\x00\x00\x00\x00\x02\x80\x00\x00\x00\x00\x00\x00\x00\
             \x7F\xFF\xFF\xFF\x00\x00\x00\x00",
-            0xAB,
+            opcode::LOOKUPSWITCH,
             false,
             (10, 0, 2),
         ),
@@ -235,6 +275,13 @@ fn the_first_fault_is_told_and_its_place(rt: HostRuntime) -> Result<(), Fail> {
 }
 
 #[test]
+fn a_fault_is_told_in_words(rt: HostRuntime) -> Result<(), Fail> {
+    let words = format!(in rt.alloc(); "{}", InsnFault::Cut { pc: 12 })?;
+    assert_eq!(rt; words.as_str(), "the instruction at 12 is cut");
+    Ok(())
+}
+
+#[test]
 fn padding_is_any_bytes_and_written_as_zeros(rt: HostRuntime) -> Result<(), Fail> {
     let code = decoded(rt, b"\x00\xAB\x01\xFF\x00\x00\x00\x00\x00\x00\x00\x00")?;
     let spelled = encoded(rt, &code)?;
@@ -256,13 +303,16 @@ fn a_return_is_read_and_written_at_its_place_alone(rt: HostRuntime) -> Result<()
     late.push((
         1,
         Insn {
-            opcode: 0xB1,
+            opcode: opcode::RETURN,
             wide: false,
             operand: Operand::Nothing,
         },
     ))?;
     assert_eq!(rt; late.len(), 1);
     assert_eq!(rt; late.get(0).0, 1);
+    for (pc, insn) in &late {
+        assert_eq!(rt; (*pc, insn.opcode), (1, opcode::RETURN));
+    }
     assert!(rt; !fits(&late));
     Ok(())
 }
@@ -271,56 +321,56 @@ fn a_return_is_read_and_written_at_its_place_alone(rt: HostRuntime) -> Result<()
 fn the_code_of_a_real_method_is_read_as_javap_reads_it(rt: HostRuntime) -> Result<(), Fail> {
     let code = decoded(rt, REAL)?;
     let want = [
-        (0, 0x0A, (0, 0, 0)),
-        (1, 0x41, (0, 0, 0)),
-        (2, 0x03, (0, 0, 0)),
-        (3, 0x36, (3, 4, 0)),
-        (5, 0x15, (3, 4, 0)),
-        (7, 0x1A, (0, 0, 0)),
-        (8, 0xA2, (5, 140, 0)),
-        (11, 0x15, (3, 4, 0)),
-        (13, 0x10, (1, 7, 0)),
-        (15, 0x7E, (0, 0, 0)),
-        (16, 0xAA, (9, 75, 0)),
-        (48, 0x20, (0, 0, 0)),
-        (49, 0x2B, (0, 0, 0)),
-        (50, 0x15, (3, 4, 0)),
-        (52, 0x2E, (0, 0, 0)),
-        (53, 0x85, (0, 0, 0)),
-        (54, 0x61, (0, 0, 0)),
-        (55, 0x41, (0, 0, 0)),
-        (56, 0xA7, (5, 81, 0)),
-        (59, 0x20, (0, 0, 0)),
-        (60, 0x14, (2, 7, 0)),
-        (63, 0x65, (0, 0, 0)),
-        (64, 0x41, (0, 0, 0)),
-        (65, 0xA7, (5, 81, 0)),
-        (68, 0x20, (0, 0, 0)),
-        (69, 0x05, (0, 0, 0)),
-        (70, 0x79, (0, 0, 0)),
-        (71, 0x41, (0, 0, 0)),
-        (72, 0xA7, (5, 81, 0)),
-        (75, 0x20, (0, 0, 0)),
-        (76, 0x14, (2, 9, 0)),
-        (79, 0x83, (0, 0, 0)),
-        (80, 0x41, (0, 0, 0)),
-        (81, 0x1A, (0, 0, 0)),
-        (82, 0xAB, (10, 128, 3)),
-        (116, 0x20, (0, 0, 0)),
-        (117, 0x0A, (0, 0, 0)),
-        (118, 0x61, (0, 0, 0)),
-        (119, 0x41, (0, 0, 0)),
-        (120, 0xA7, (5, 128, 0)),
-        (123, 0x20, (0, 0, 0)),
-        (124, 0xAD, (0, 0, 0)),
-        (125, 0x20, (0, 0, 0)),
-        (126, 0x75, (0, 0, 0)),
-        (127, 0x41, (0, 0, 0)),
-        (128, 0x84, (4, 0, 1000)),
-        (134, 0x84, (4, 4, 1)),
-        (137, 0xA7, (5, 5, 0)),
-        (140, 0x20, (0, 0, 0)),
-        (141, 0xAD, (0, 0, 0)),
+        (0, opcode::LCONST_1, (0, 0, 0)),
+        (1, opcode::LSTORE_2, (0, 0, 0)),
+        (2, opcode::ICONST_0, (0, 0, 0)),
+        (3, opcode::ISTORE, (3, 4, 0)),
+        (5, opcode::ILOAD, (3, 4, 0)),
+        (7, opcode::ILOAD_0, (0, 0, 0)),
+        (8, opcode::IF_ICMPGE, (5, 140, 0)),
+        (11, opcode::ILOAD, (3, 4, 0)),
+        (13, opcode::BIPUSH, (1, 7, 0)),
+        (15, opcode::IAND, (0, 0, 0)),
+        (16, opcode::TABLESWITCH, (9, 75, 0)),
+        (48, opcode::LLOAD_2, (0, 0, 0)),
+        (49, opcode::ALOAD_1, (0, 0, 0)),
+        (50, opcode::ILOAD, (3, 4, 0)),
+        (52, opcode::IALOAD, (0, 0, 0)),
+        (53, opcode::I2L, (0, 0, 0)),
+        (54, opcode::LADD, (0, 0, 0)),
+        (55, opcode::LSTORE_2, (0, 0, 0)),
+        (56, opcode::GOTO, (5, 81, 0)),
+        (59, opcode::LLOAD_2, (0, 0, 0)),
+        (60, opcode::LDC2_W, (2, 7, 0)),
+        (63, opcode::LSUB, (0, 0, 0)),
+        (64, opcode::LSTORE_2, (0, 0, 0)),
+        (65, opcode::GOTO, (5, 81, 0)),
+        (68, opcode::LLOAD_2, (0, 0, 0)),
+        (69, opcode::ICONST_2, (0, 0, 0)),
+        (70, opcode::LSHL, (0, 0, 0)),
+        (71, opcode::LSTORE_2, (0, 0, 0)),
+        (72, opcode::GOTO, (5, 81, 0)),
+        (75, opcode::LLOAD_2, (0, 0, 0)),
+        (76, opcode::LDC2_W, (2, 9, 0)),
+        (79, opcode::LXOR, (0, 0, 0)),
+        (80, opcode::LSTORE_2, (0, 0, 0)),
+        (81, opcode::ILOAD_0, (0, 0, 0)),
+        (82, opcode::LOOKUPSWITCH, (10, 128, 3)),
+        (116, opcode::LLOAD_2, (0, 0, 0)),
+        (117, opcode::LCONST_1, (0, 0, 0)),
+        (118, opcode::LADD, (0, 0, 0)),
+        (119, opcode::LSTORE_2, (0, 0, 0)),
+        (120, opcode::GOTO, (5, 128, 0)),
+        (123, opcode::LLOAD_2, (0, 0, 0)),
+        (124, opcode::LRETURN, (0, 0, 0)),
+        (125, opcode::LLOAD_2, (0, 0, 0)),
+        (126, opcode::LNEG, (0, 0, 0)),
+        (127, opcode::LSTORE_2, (0, 0, 0)),
+        (128, opcode::IINC, (4, 0, 1000)),
+        (134, opcode::IINC, (4, 4, 1)),
+        (137, opcode::GOTO, (5, 5, 0)),
+        (140, opcode::LLOAD_2, (0, 0, 0)),
+        (141, opcode::LRETURN, (0, 0, 0)),
     ];
     assert_eq!(rt; code.len(), want.len());
     for ((pc, insn), want) in code.as_slice().iter().zip(want) {

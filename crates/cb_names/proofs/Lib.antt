@@ -1,6 +1,8 @@
 pub mod ClassNames
-pub mod Counting
-pub mod FieldTypes
 pub mod FloatingParts
+pub mod KindsOfNames
+pub mod Laws
 pub mod Lists
+pub mod ParameterTypes
 pub mod Places
+pub mod TypeTexts

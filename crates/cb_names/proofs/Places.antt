@@ -2,7 +2,6 @@
 use Rattle.std.proofs.Common.{◌≡◌, ℕ, zero, suc, ◌+◌, ◌<◌, ◌≤◌, Bool, true, false, List, [], ◌∷◌, ◌++◌, length, get_or, take, drop, replicate, Some, refl, sym, ◌∙◌, ap, add-one, arith, length-append, take-append-drop, ltb}
 use Rattle.std.specs.List.{AllByRecursion, position, position_or_len}
 use Rattle.std.proofs.lemmas.Bool.{lt-ltb}
-use Rattle.std.proofs.lemmas.List.Quantifiers.{position-Some}
 use Rattle.std.proofs.Math.Seq.{drop-cons}
 
 before : (test : ℕ → Bool) (front : List ℕ) (unit : ℕ) (behind : List ℕ) → AllByRecursion (λ unit. test unit ≡ false) front → test unit ≡ true → position_or_len test (front ++ unit ∷ behind) ≡ length front
@@ -18,10 +17,9 @@ first_place test text front unit behind fail passes is =
     let within : ltb (length front) (length (front ++ unit ∷ behind)) ≡ true = lt-ltb _ _ (omega (arith, length-append front (unit ∷ behind))) in
     rw (is, place, within) refl
 
--- what stands at the first place, before it and behind it
-pub at_place : (test : ℕ → Bool) (text : List ℕ) (place : ℕ) → position test text ≡ Some place → text ≡ take place text ++ get_or text place 0 ∷ drop (place + 1) text
-at_place test text place is =
-    let within : place < length text = (position-Some test text place 0 is).0 in
+-- what stands before a place, at it and behind it
+pub split_at : (text : List ℕ) (place : ℕ) → place < length text → text ≡ take place text ++ get_or text place 0 ∷ drop (place + 1) text
+split_at text place within =
     let front : drop place text ≡ get_or text place 0 ∷ drop (place + 1) text = rw add-one (drop-cons text place 0 within) in
     sym (take-append-drop place text) ∙ ap (λ back. take place text ++ back) front
 

@@ -1,23 +1,35 @@
--- Types at the front of a text, and what stands behind them.
-use Rattle.std.specs.Prelude.{◌≡◌, ℕ, List, ◌∷◌, ◌++◌, map}
-use Rattle.std.specs.List.{AllByRecursion, concat, sum}
-use Rattle.cb_names.specs.Descriptors.{IsFieldDescriptor, words_of}
+-- Names and types at the front of a text, and what stands behind them.
+use Rattle.std.specs.Prelude.{◌≡◌, ℕ, ◌<◌, Bool, false, List, ◌∷◌, ◌++◌, length, map}
+use Rattle.std.specs.List.{AllByRecursion, concat, join_with_byte}
+use Rattle.cb_names.specs.Names.{MayStandInName, IsUnqualifiedName, IsClassName}
+use Rattle.cb_names.specs.Signs.{slash, semicolon, right_parenthesis}
+use Rattle.cb_names.specs.Types.{Element, JavaType, IsElement, IsType, element_text, type_text}
 
-abbrev pub left_parenthesis : ℕ
-left_parenthesis = 40
+-- the rest of a class's name, where the part so far has a unit or not
+pub record IsRest (begun : Bool) (rest : List ℕ) : Type 0 where
+  pub first : List ℕ
+  pub others : List (List ℕ)
+  pub stand : AllByRecursion MayStandInName first
+  pub some : begun ≡ false → 0 < length first
+  pub named : AllByRecursion IsUnqualifiedName others
+  pub spelled : rest ≡ join_with_byte slash (first ∷ others)
 
-abbrev pub right_parenthesis : ℕ
-right_parenthesis = 41
+-- the name of a class and a `;` stand in front of the rest
+pub record BeginsWithName (text name rest : List ℕ) : Type 0 where
+  pub is : IsClassName name
+  pub spelled : text ≡ name ++ semicolon ∷ rest
 
--- a front of a text is of a kind, and the rest stands behind it
-pub record IsBehind (IsFront : List ℕ → Type 0) (text rest : List ℕ) : Type 0 where
-  pub front : List ℕ
-  pub is : IsFront front
-  pub spelled : text ≡ front ++ rest
+-- a type that is no array does
+pub record BeginsWithElement (text : List ℕ) (element : Element) (rest : List ℕ) : Type 0 where
+  pub is : IsElement element
+  pub spelled : text ≡ element_text element ++ rest
 
--- what stands behind the types of parameters that take so many words, and the `)` behind them
-pub record IsBehindParameters (text : List ℕ) (words : ℕ) (rest : List ℕ) : Type 0 where
-  pub parameters : List (List ℕ)
-  pub types : AllByRecursion IsFieldDescriptor parameters
-  pub spelled : text ≡ concat parameters ++ right_parenthesis ∷ rest
-  pub counted : words ≡ sum (map words_of parameters)
+-- a type does
+pub record BeginsWithType (text : List ℕ) (type : JavaType) (rest : List ℕ) : Type 0 where
+  pub is : IsType type
+  pub spelled : text ≡ type_text type ++ rest
+
+-- the types of parameters do, and the `)` behind them
+pub record BeginsWithParameters (text : List ℕ) (parameters : List JavaType) (rest : List ℕ) : Type 0 where
+  pub are : AllByRecursion IsType parameters
+  pub spelled : text ≡ concat (map type_text parameters) ++ right_parenthesis ∷ rest

@@ -1,25 +1,7 @@
 -- Names of classes and of members (JVMS §4.2), as lists of UTF-16 units.
-use Rattle.std.specs.Prelude.{◌≡◌, ◌≢◌, ◌⊎◌, ℕ, ◌<◌, List, length, codes}
+use Rattle.std.specs.Prelude.{◌≡◌, ◌≢◌, ◌⊎◌, ℕ, ◌<◌, List, length}
 use Rattle.std.specs.List.{AllByRecursion, join_with_byte}
-
--- the signs that names may not hold, or not everywhere
-abbrev pub dot : ℕ
-dot = 46
-
-abbrev pub slash : ℕ
-slash = 47
-
-abbrev pub semicolon : ℕ
-semicolon = 59
-
-abbrev pub less : ℕ
-less = 60
-
-abbrev pub greater : ℕ
-greater = 62
-
-abbrev pub bracket : ℕ
-bracket = 91
+use Rattle.cb_names.specs.Signs.{dot, slash, semicolon, less, greater, bracket, name_init, name_clinit}
 
 -- an unqualified name: at least one unit, and none of `.`, `;`, `[` and `/` (JVMS §4.2.2)
 abbrev pub MayStandInName : ℕ → Type 0
@@ -33,7 +15,7 @@ abbrev pub HasNoAngle : List ℕ → Type 0
 HasNoAngle name = AllByRecursion (λ unit. (unit ≢ less) × (unit ≢ greater)) name
 
 abbrev pub IsMethodName : List ℕ → Type 0
-IsMethodName name = (name ≡ codes "<init>") ⊎ (name ≡ codes "<clinit>") ⊎ (IsUnqualifiedName name × HasNoAngle name)
+IsMethodName name = (name ≡ name_init) ⊎ (name ≡ name_clinit) ⊎ (IsUnqualifiedName name × HasNoAngle name)
 
 -- the name of a class or interface, in internal form: unqualified names with `/` between them (JVMS §4.2.1)
 abbrev pub IsClassName : List ℕ → Type 0

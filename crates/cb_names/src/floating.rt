@@ -1,9 +1,12 @@
 // The base types float and double in descriptors (JVMS §4.3.2).
-ghost use Rattle.std.specs.Prelude.{◌≡◌, ◌≢◌, ◌∷◌, ◌++◌, ℕ, List, [], Contains, None, Some, replicate};
+ghost use Rattle.std.specs.Prelude.{◌≡◌, ◌≢◌, ◌++◌, ℕ, List, None, Some, replicate};
 ghost use Rattle.std.specs.Option.{option_or};
-ghost use Rattle.cb_names.specs.Descriptors.{IsClassType, IsMethodDescriptor, base_letters, floating_in, letter_double, letter_float, letter_void};
+ghost use Rattle.cb_names.specs.declared.base.BaseType.{BaseType};
+ghost use Rattle.cb_names.specs.Descriptors.{floating_in};
 ghost use Rattle.cb_names.specs.FirstFloating.{first_floating};
-ghost use Rattle.cb_names.specs.Names.{bracket};
+ghost use Rattle.cb_names.specs.Names.{IsClassName};
+ghost use Rattle.cb_names.specs.Signs.{bracket};
+ghost use Rattle.cb_names.specs.Types.{JavaMethodType, Named, Primitive, SpellsMethodType, element_text, result_text};
 
 use crate::signs::{CLASS, DOUBLE, FLOAT, SEMICOLON};
 
@@ -39,14 +42,14 @@ pub fn floating_in(descriptor: &[u16]) -> Option<Floating>
 /// has none, an array has that of its elements, and a method that of its first parameter that has one, or else that
 /// of what it gives.
 pub fn floating_of_parts()
-    ensures float { floating_in (letter_float ∷ []) ≡ Some Floating.Float }
-    ensures double { floating_in (letter_double ∷ []) ≡ Some Floating.Double }
-    ensures base { (letter : ℕ) → Contains base_letters letter → letter ≢ letter_float → letter ≢ letter_double
-        → floating_in (letter ∷ []) ≡ None }
-    ensures void { floating_in (letter_void ∷ []) ≡ None }
-    ensures class { (text : List ℕ) → IsClassType text → floating_in text ≡ None }
+    ensures float { floating_in (element_text (Primitive BaseType.Float)) ≡ Some Floating.Float }
+    ensures double { floating_in (element_text (Primitive BaseType.Double)) ≡ Some Floating.Double }
+    ensures base { (base : BaseType) → base ≢ BaseType.Float → base ≢ BaseType.Double
+        → floating_in (element_text (Primitive base)) ≡ None }
+    ensures void { floating_in (result_text None) ≡ None }
+    ensures class { (name : List ℕ) → IsClassName name → floating_in (element_text (Named name)) ≡ None }
     ensures array { (dimensions : ℕ) (element : List ℕ)
         → floating_in (replicate dimensions bracket ++ element) ≡ floating_in element }
-    ensures method { (text : List ℕ) (words : ℕ) (method : IsMethodDescriptor text words)
-        → floating_in text ≡ option_or (first_floating method.parameters) (floating_in method.returned) }
+    ensures method { (text : List ℕ) (type : JavaMethodType) → SpellsMethodType text type
+        → floating_in text ≡ option_or (first_floating type.parameters) (floating_in (result_text type.result)) }
 {}

@@ -1,19 +1,28 @@
 //! Names and descriptors of class files, as lists of UTF-16 units: which texts are names of classes and of members
-//! (JVMS §4.2), and which are descriptors of fields and methods (JVMS §4.3).
+//! (JVMS §4.2), which are descriptors of fields and methods, and the types that these say (JVMS §4.3).
 //!
-//! `specs/` has their grammars. No function takes memory.
+//! `specs/` has their grammars. Only `method_type` takes memory. What borrows a text holds the names of classes in it.
 #![tactic(auto)]
 
+mod base;
+mod class_name;
 mod descriptor;
-mod field_type;
 mod floating;
+mod front;
+mod method;
 mod name;
 mod parameters;
 mod signs;
 #[cfg(test)]
 mod tests;
+mod types;
+mod unique;
 mod unit;
 
-pub use descriptor::{is_array_descriptor, is_field_descriptor, parameter_words};
+pub use base::BaseType;
+pub use descriptor::{class_type, field_type, is_array_descriptor, is_field_descriptor};
 pub use floating::{Floating, floating_in, floating_of_parts};
-pub use name::{is_class_name, is_method_name, is_unqualified_name};
+pub use method::{method_type, parameter_words};
+pub use name::{NameKinds, is_class_name, is_method_name, is_unqualified_name, name_kinds};
+pub use types::{ElementType, FieldType, MethodType};
+pub use unique::{one_method_type, one_type};

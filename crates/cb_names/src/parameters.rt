@@ -1,35 +1,57 @@
 // The parameters of a method descriptor (JVMS §4.3.3).
-ghost use Rattle.std.specs.Prelude.{◌≡◌, ◌≤◌, ℕ, List, IfSome, IsSomeAnd};
-ghost use Rattle.cb_names.specs.Descriptors.{IsFieldDescriptor, words_of};
-ghost use Rattle.cb_names.specs.Fronts.{IsBehind, IsBehindParameters};
+ghost use Rattle.std.specs.Prelude.{◌≡◌, ◌≤◌, ℕ, List, IfOk, MatchOption, map};
+ghost use Rattle.cb_names.specs.Fronts.{BeginsWithParameters};
+ghost use Rattle.cb_names.specs.Types.{JavaType, parameters_words, type_of};
 
-use crate::field_type::behind_field_type;
-use crate::signs::{DOUBLE, LONG, RIGHT_PARENTHESIS};
+use crate::front::behind_field_type;
+use crate::signs::RIGHT_PARENTHESIS;
+use crate::types::FieldType;
 use crate::unit::behind_unit;
+use std::alloc::{AllocError, Global};
 
 /// How many words the parameters at the front take, and what stands behind them and the `)`, or `None` where there
 /// are none or they take more than 255 words.
 pub(crate) fn behind_parameters(text: &[u16]) -> Option<(u8, &[u16])>
-    ensures found { IfSome result (λ read. IsBehindParameters text.now read.0 read.1.now) }
-    ensures only { (words : ℕ) (rest : List ℕ) → words ≤ 255 → IsBehindParameters text.now words rest
-        → IsSomeAnd result (λ read. (read.0 ≡ words) × (read.1.now ≡ rest)) }
+    ensures { MatchOption result
+        ((types : List JavaType) (rest : List ℕ) → BeginsWithParameters text.now types rest
+        → parameters_words types ≤ 255 → ⊥)
+        (λ read. (types : List JavaType) × BeginsWithParameters text.now types read.1.now
+        × (read.0 ≡ parameters_words types) × (parameters_words types ≤ 255)) }
 {
     let mut words: u8 = 0;
     let mut rest = text;
-    while let Some(after) = behind_field_type(rest) {
-        words = words.checked_add(words_at(rest))?;
+    while let Some((parameter, after)) = behind_field_type(rest) {
+        words = words.checked_add(parameter.words())?;
         rest = after;
     }
     Some((words, behind_unit(rest, RIGHT_PARENTHESIS)?))
 }
 
-/// How many words the type at the front takes.
-fn words_at(text: &[u16]) -> u8
-    ensures { (rest : List ℕ) (field : IsBehind IsFieldDescriptor text.now rest) → result ≡ words_of field.front }
+/// The types of the parameters at the front, and what stands behind them and the `)`, or `None` where there are none or
+/// they take more than 255 words.
+pub(crate) fn parameters_at(
+    alloc: Global,
+    text: &[u16],
+) -> Result<Option<(Vec<FieldType<'_>>, &[u16])>, AllocError>
+    ensures { IfOk result (λ found. MatchOption found
+        ((types : List JavaType) (rest : List ℕ) → BeginsWithParameters text.now types rest
+        → parameters_words types ≤ 255 → ⊥)
+        (λ read. BeginsWithParameters text.now (map type_of read.0.items) read.1.now
+        × (parameters_words (map type_of read.0.items) ≤ 255))) }
 {
-    if matches!(text, [LONG | DOUBLE, ..]) {
-        2
-    } else {
-        1
+    let mut parameters = Vec::new(alloc);
+    let mut words: u8 = 0;
+    let mut rest = text;
+    while let Some((parameter, after)) = behind_field_type(rest) {
+        let Some(more) = words.checked_add(parameter.words()) else {
+            return Ok(None);
+        };
+        parameters.push(parameter)?;
+        words = more;
+        rest = after;
+    }
+    match behind_unit(rest, RIGHT_PARENTHESIS) {
+        Some(returned) => Ok(Some((parameters, returned))),
+        None => Ok(None),
     }
 }

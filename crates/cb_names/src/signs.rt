@@ -1,4 +1,4 @@
-// The units that have a meaning in names and descriptors (JVMS §4.2 and §4.3).
+// The units that have a meaning in names and descriptors (JVMS §4.2 and §4.3), and the names that stand for code.
 
 pub(crate) const LEFT_PARENTHESIS: u16 = b'(' as u16;
 
@@ -35,3 +35,25 @@ pub(crate) const SHORT: u16 = b'S' as u16;
 pub(crate) const VOID: u16 = b'V' as u16;
 
 pub(crate) const BOOLEAN: u16 = b'Z' as u16;
+
+/// `<init>`, the name of constructors (JVMS §2.9).
+pub(crate) const INIT: &[u16] = &[
+    LESS,
+    b'i' as u16,
+    b'n' as u16,
+    b'i' as u16,
+    b't' as u16,
+    GREATER,
+];
+
+/// `<clinit>`, the name of the initializers of classes (JVMS §2.9).
+pub(crate) const CLINIT: &[u16] = &[
+    LESS,
+    b'c' as u16,
+    b'l' as u16,
+    b'i' as u16,
+    b'n' as u16,
+    b'i' as u16,
+    b't' as u16,
+    GREATER,
+];

@@ -1,7 +1,8 @@
-// Names and descriptors as the JVMS has them (§4.2 and §4.3), and texts that are none.
+// Names and descriptors as the JVMS has them (§4.2 and §4.3), and texts that are none. Types are written as in Java.
 use crate::{
-    Floating, floating_in, floating_of_parts, is_array_descriptor, is_class_name,
-    is_field_descriptor, is_method_name, is_unqualified_name, parameter_words,
+    BaseType, ElementType, FieldType, Floating, class_type, field_type, floating_in,
+    floating_of_parts, is_array_descriptor, is_class_name, is_field_descriptor, is_method_name,
+    is_unqualified_name, method_type, name_kinds, one_method_type, one_type, parameter_words,
 };
 use std::alloc::{AllocError, Global};
 use std::test::Fail;
@@ -24,6 +25,40 @@ fn repeated(
         text.push(u16::from(byte))?;
     }
     text.extend_from_slice(units(alloc, back)?.as_slice())?;
+    Ok(text)
+}
+
+/// A base type as it is written in Java.
+fn written_base(base: BaseType) -> &'static str {
+    match base {
+        BaseType::Byte => "byte",
+        BaseType::Char => "char",
+        BaseType::Double => "double",
+        BaseType::Float => "float",
+        BaseType::Int => "int",
+        BaseType::Long => "long",
+        BaseType::Short => "short",
+        BaseType::Boolean => "boolean",
+    }
+}
+
+/// A type as it is written in Java, with a class in internal form, or `none`.
+fn written(alloc: Global, found: Option<FieldType<'_>>) -> Result<String, AllocError> {
+    let Some(found) = found else {
+        return String::from_str(alloc, "none");
+    };
+    let mut text = String::new(alloc);
+    match found.element {
+        ElementType::Base(base) => text.push_str(written_base(base))?,
+        ElementType::Class(name) => {
+            for unit in name {
+                text.push(char::from_u32(u32::from(*unit)).unwrap_or('?'))?;
+            }
+        }
+    }
+    for _ in 0..found.dimensions {
+        text.push_str("[]")?;
+    }
     Ok(text)
 }
 
@@ -53,6 +88,9 @@ fn names_of_fields_methods_and_classes(rt: HostRuntime) -> Result<(), Fail> {
             is_method_name(&name),
             is_class_name(&name),
         );
+        assert_eq!(rt; found, (unqualified, method, class), "at {bytes:?}");
+        let kinds = name_kinds(&name);
+        let found = (kinds.unqualified, kinds.method, kinds.class);
         assert_eq!(rt; found, (unqualified, method, class), "at {bytes:?}");
     }
     Ok(())
@@ -87,6 +125,116 @@ fn descriptors_of_fields(rt: HostRuntime) -> Result<(), Fail> {
         let text = repeated(rt.alloc(), b"", b'[', dimensions, b"J")?;
         let found = (is_field_descriptor(&text), is_array_descriptor(&text));
         assert_eq!(rt; found, (want, want), "at {dimensions}");
+    }
+    Ok(())
+}
+
+#[test]
+fn types_of_fields(rt: HostRuntime) -> Result<(), Fail> {
+    one_type();
+    for (bytes, want, words, reference, part) in [
+        (b"B".as_slice(), "byte", 1, false, "none"),
+        (b"C", "char", 1, false, "none"),
+        (b"D", "double", 2, false, "none"),
+        (b"F", "float", 1, false, "none"),
+        (b"I", "int", 1, false, "none"),
+        (b"J", "long", 2, false, "none"),
+        (b"S", "short", 1, false, "none"),
+        (b"Z", "boolean", 1, false, "none"),
+        (b"Ljava/lang/Object;", "java/lang/Object", 1, true, "none"),
+        (b"[J", "long[]", 1, true, "long"),
+        (b"[[[D", "double[][][]", 1, true, "double[][]"),
+        (b"[La/B;", "a/B[]", 1, true, "a/B"),
+        (b"V", "none", 0, false, "none"),
+        (b"La", "none", 0, false, "none"),
+    ] {
+        let text = units(rt.alloc(), bytes)?;
+        let found = field_type(&text);
+        assert_eq!(rt; written(rt.alloc(), found)?.as_str(), want, "at {bytes:?}");
+        if let Some(found) = found {
+            assert_eq!(rt;
+                (found.words(), found.is_reference()),
+                (words, reference),
+                "at {bytes:?}"
+            );
+            let found = written(rt.alloc(), found.component())?;
+            assert_eq!(rt; found.as_str(), part, "at {bytes:?}");
+        }
+    }
+    Ok(())
+}
+
+#[test]
+fn types_of_class_constants(rt: HostRuntime) -> Result<(), Fail> {
+    for (bytes, want, class) in [
+        (
+            b"java/lang/Thread".as_slice(),
+            "java/lang/Thread",
+            b"java/lang/Thread".as_slice(),
+        ),
+        (b"I", "I", b"I"),
+        (b"[I", "int[]", b""),
+        (b"[[La/B;", "a/B[][]", b"a/B"),
+        (b"La/B;", "none", b""),
+        (b"", "none", b""),
+        (b"a//b", "none", b""),
+        (b"[V", "none", b""),
+        (b"[a", "none", b""),
+    ] {
+        let name = units(rt.alloc(), bytes)?;
+        let found = class_type(&name);
+        assert_eq!(rt; written(rt.alloc(), found)?.as_str(), want, "at {bytes:?}");
+        let named = match found {
+            Some(found) => found.class().unwrap_or(&[]),
+            None => &[],
+        };
+        assert_eq!(rt; named, units(rt.alloc(), class)?.as_slice(), "at {bytes:?}");
+    }
+    Ok(())
+}
+
+#[test]
+fn types_of_methods(rt: HostRuntime) -> Result<(), Fail> {
+    one_method_type();
+    for (bytes, words, want) in [
+        (
+            b"(IDLjava/lang/Thread;)Ljava/lang/Object;".as_slice(),
+            4,
+            "int double java/lang/Thread : java/lang/Object",
+        ),
+        (b"()V", 0, ": none"),
+        (
+            b"(J[J[[DZ)[[I",
+            5,
+            "long long[] double[][] boolean : int[][]",
+        ),
+        (b"([La;B)J", 2, "a[] byte : long"),
+    ] {
+        let text = units(rt.alloc(), bytes)?;
+        let Some(found) = method_type(rt.alloc(), &text)? else {
+            return Err(Fail::new("no type"));
+        };
+        assert_eq!(rt; found.words(), words, "at {bytes:?}");
+        let mut all = String::new(rt.alloc());
+        for parameter in &found.parameters {
+            all.push_str(written(rt.alloc(), Some(*parameter))?.as_str())?;
+            all.push(' ')?;
+        }
+        all.push_str(": ")?;
+        all.push_str(written(rt.alloc(), found.result)?.as_str())?;
+        assert_eq!(rt; all.as_str(), want, "at {bytes:?}");
+    }
+    for bytes in [
+        b"".as_slice(),
+        b"()",
+        b"(V)V",
+        b"(I)VI",
+        b"(I",
+        b"I)V",
+        b"(LI)V",
+    ] {
+        let text = units(rt.alloc(), bytes)?;
+        assert!(rt; method_type(rt.alloc(), &text)?.is_none(), "at {bytes:?}");
     }
     Ok(())
 }

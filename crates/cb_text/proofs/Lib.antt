@@ -1,6 +1,8 @@
+pub mod Adding
 pub mod BigEndian
 pub mod Decoding
 pub mod Faults
+pub mod Laws
 pub mod Lists
 pub mod Places
 pub mod Pooling

@@ -15,6 +15,11 @@ pub all-back : {X : Type 0} (P : X → Type 0) (front back : List X) → AllByRe
 all-back P [] back of_both = of_both
 all-back P (first ∷ front) back of_both = all-back P front back of_both.1
 
+-- what follows from what holds of each element holds of each
+pub all-all : {X : Type 0} (P Q : X → Type 0) (items : List X) → ((x : X) → P x → Q x) → AllByRecursion P items → AllByRecursion Q items
+all-all P Q [] then all = tt
+all-all P Q (first ∷ items) then all = (then first all.0, all-all P Q items then all.1)
+
 -- a list that is tested to be empty is
 pub nothing : {X : Type 0} (items : List X) → true ≡ (length items == 0) → items ≡ []
 nothing items empty = nil_from_length items (grind (arith, nat_tests))

@@ -105,8 +105,8 @@ same_upto (suc n) (first ∷ one) (next ∷ other) rest behind few long fit fit_
     let tail = same_upto n here.0 there.0 rest behind (omega (arith, few, one_long, places.1.some)) (omega (arith, long, one_long, other_long)) one_fit other_fit here.1 there.1 left in
     (here.2 ∙ ap (λ more. places.0 ++ more) tail.0 ∙ sym there.2 ∙ ap (λ c. c ∷ other) head.0, tail.1)
 
-pub one_front : (bytes : List ℕ) (one other : List Constant) (end last : ℕ) → BeginsWithPool bytes one end → BeginsWithPool bytes other last → (one ≡ other) × (end ≡ last)
-one_front bytes one other end last (front, rest, spells, is, ends) (start, behind, spells_too, is_too, ends_too) =
+pub one_pool_front : (bytes : List ℕ) (one other : List Constant) (end last : ℕ) → BeginsWithPool bytes one end → BeginsWithPool bytes other last → (one ≡ other) × (end ≡ last)
+one_pool_front bytes one other end last (front, rest, spells, is, ends) (start, behind, spells_too, is_too, ends_too) =
     let first = number_again w16 (2 ^ 16) (length one + 1) bytes (flat_map constant_bytes one ++ rest) width_16 spells.counted (is ∙ ap (λ bytes. bytes ++ rest) spells.spelled ∙ append_assoc (u2 (length one + 1)) (flat_map constant_bytes one) rest) in
     let second = number_again w16 (2 ^ 16) (length other + 1) bytes (flat_map constant_bytes other ++ behind) width_16 spells_too.counted (is_too ∙ ap (λ bytes. bytes ++ behind) spells_too.spelled ∙ append_assoc (u2 (length other + 1)) (flat_map constant_bytes other) behind) in
     let parts = parted _ _ _ _ _ first second in

@@ -5,7 +5,7 @@ use Rattle.std.proofs.lemmas.List.{append-nil, append_cancel_left}
 use Rattle.std.proofs.lemmas.List.Concat.{flat_map-append}
 use Rattle.cb_text.specs.declared.constant.Constant.{Constant}
 use Rattle.cb_text.specs.declared.constant.Constant.TheVariants.{Long, Double, Gap}
-use Rattle.cb_text.specs.Pool.{Fits, constant_bytes, AreLaidOut}
+use Rattle.cb_text.specs.Pool.{Fits, constant_bytes, AreLaidOut, with_gap}
 use Rattle.cb_text.specs.Reading.{HasBytes, IsWide}
 
 pub laid_out-append : (front back : List Constant) → AreLaidOut front → AreLaidOut back → AreLaidOut (front ++ back)
@@ -18,6 +18,17 @@ laid_out-append (Double bits ∷ Gap ∷ front) back front_laid back_laid = laid
 laid_out-append (Double bits ∷ other ∷ front) back front_laid back_laid = absurd front_laid
 laid_out-append (Gap ∷ front) back front_laid back_laid = absurd front_laid
 laid_out-append (constant ∷ front) back front_laid back_laid = laid_out-append front back front_laid back_laid
+
+pub laid_out-back : (front back : List Constant) → AreLaidOut front → AreLaidOut (front ++ back) → AreLaidOut back
+laid_out-back [] back front_laid both_laid = both_laid
+laid_out-back (Long number ∷ []) back front_laid both_laid = absurd front_laid
+laid_out-back (Long number ∷ Gap ∷ front) back front_laid both_laid = laid_out-back front back front_laid both_laid
+laid_out-back (Long number ∷ other ∷ front) back front_laid both_laid = absurd front_laid
+laid_out-back (Double bits ∷ []) back front_laid both_laid = absurd front_laid
+laid_out-back (Double bits ∷ Gap ∷ front) back front_laid both_laid = laid_out-back front back front_laid both_laid
+laid_out-back (Double bits ∷ other ∷ front) back front_laid both_laid = absurd front_laid
+laid_out-back (Gap ∷ front) back front_laid both_laid = absurd front_laid
+laid_out-back (constant ∷ front) back front_laid both_laid = laid_out-back front back front_laid both_laid
 
 -- the first constant has bytes
 pub first_has_bytes : (constant : Constant) (constants : List Constant) → AreLaidOut (constant ∷ constants) → HasBytes constant
@@ -60,3 +71,10 @@ pub two_places : (constant : Constant) → IsWide constant → TakesPlaces const
 two_places (Long number) wide = record { some = omega arith; fit = λ fits. (fits, (tt, tt)); laid_out = tt; spelled = refl; behind = behind_long number }
 two_places (Double bits) wide = record { some = omega arith; fit = λ fits. (fits, (tt, tt)); laid_out = tt; spelled = refl; behind = behind_double bits }
 two_places constant wide = absurd wide
+
+-- a constant and its gap take its indices
+pub takes_places : (constant : Constant) → HasBytes constant → TakesPlaces constant (with_gap constant)
+takes_places (Long number) has = two_places (Long number) tt
+takes_places (Double bits) has = two_places (Double bits) tt
+takes_places Gap has = absurd has
+takes_places constant has = one_place constant has (λ wide. absurd wide)

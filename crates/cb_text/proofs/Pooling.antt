@@ -5,9 +5,9 @@ use Rattle.std.proofs.lemmas.List.{append-nil, nil_from_length}
 use Rattle.std.proofs.lemmas.List.Concat.{flat_map-append}
 use Rattle.cb_text.specs.declared.constant.Constant.{Constant}
 use Rattle.cb_text.specs.Pool.{Fits, constant_bytes, AreLaidOut}
-use Rattle.cb_text.specs.Reading.{HasBytes, IsWide, StandsBefore}
+use Rattle.cb_text.specs.Reading.{HasBytes, StandsBefore}
 use Rattle.cb_text.proofs.Lists.{all-append, all-back}
-use Rattle.cb_text.proofs.Places.{laid_out-append, first_has_bytes, TakesPlaces, behind_spelled, two_places}
+use Rattle.cb_text.proofs.Places.{laid_out-append, first_has_bytes, TakesPlaces, behind_spelled}
 
 -- the constants of the bytes that are left
 pub record AreLeft (tail : List Constant) (after rest : List ℕ) : Type 0 where
@@ -83,13 +83,13 @@ reached_more count bytes front places rest after constant reached takes fits nex
       let spelled : flat_map constant_bytes whole.others ≡ flat_map constant_bytes behind.0 = behind_spelled constant places whole.others behind.0 takes behind.2 in
       (behind.0, is, record { fit = all-back Fits places behind.0 fit; laid_out = behind.1; spelled = alike.1 ∙ ap (λ front. front ++ end) spelled })
 
--- a constant of two indices can't stand last
-pub no_room : (count : ℕ) (bytes : List ℕ) (front : List Constant) (rest after : List ℕ) (constant : Constant) → Reached count bytes front rest → IsWide constant → IsOnlyNext constant after rest → length front + 1 ≡ count → (all : List Constant) (end : List ℕ) → StandsBefore count all end bytes → ⊥
-no_room count bytes front rest after constant reached wide only last all end stands =
-    let whole = has_first count bytes front rest reached (omega arith) all end stands in
+-- a constant that takes more indices than are left can't stand next
+pub no_room : (count : ℕ) (bytes : List ℕ) (front places : List Constant) (rest after : List ℕ) (constant : Constant) → Reached count bytes front rest → TakesPlaces constant places → IsOnlyNext constant after rest → length front < count → count < length front + length places → (all : List Constant) (end : List ℕ) → StandsBefore count all end bytes → ⊥
+no_room count bytes front places rest after constant reached takes only more over all end stands =
+    let whole = has_first count bytes front rest reached more all end stands in
     let alike = only whole.first (flat_map constant_bytes whole.others ++ end) whole.has whole.fits whole.spelled in
-    let behind = (two_places constant wide).behind whole.others (subst (λ first. AreLaidOut (first ∷ whole.others)) (sym alike.0) whole.laid_out) in
-    omega (arith, ap length whole.is, length-append front (whole.first ∷ whole.others), ap length behind.2, stands.counted)
+    let behind = takes.behind whole.others (subst (λ first. AreLaidOut (first ∷ whole.others)) (sym alike.0) whole.laid_out) in
+    omega (arith, ap length whole.is, length-append front (whole.first ∷ whole.others), ap length behind.2, length-append places behind.0, stands.counted)
 
 -- where there are so many, there are no others
 pub finished : (count : ℕ) (bytes : List ℕ) (front : List Constant) (rest : List ℕ) → Reached count bytes front rest → count ≤ length front → (all : List Constant) (after : List ℕ) → StandsBefore count all after bytes → (front ≡ all) × (rest ≡ after)

@@ -1,3 +1,5 @@
+pub mod Messages
+pub mod Naming
 pub mod Pool
 pub mod Reading
 pub mod Text

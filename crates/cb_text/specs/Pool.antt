@@ -4,6 +4,10 @@ use Rattle.std.specs.Int.{w16, w32, w64, to_be_bytes}
 use Rattle.std.specs.List.{AllByRecursion, flat_map}
 use Rattle.cb_text.specs.declared.constant.Constant.{Constant}
 use Rattle.cb_text.specs.declared.constant.Constant.TheVariants.{Utf8, Integer, Float, Long, Double, Class, String, Fieldref, Methodref, InterfaceMethodref, NameAndType, MethodHandle, MethodType, InvokeDynamic, Gap}
+use Rattle.cb_text.specs.declared.pool_fault.PoolFault.{PoolFault}
+use Rattle.cb_text.specs.declared.pool_fault.PoolFault.TheVariants as pool
+use Rattle.cb_text.specs.declared.text.TextFault.{TextFault}
+use Rattle.cb_text.specs.declared.text.TextFault.TheVariants as text
 use Rattle.cb_text.specs.Text.{text_bytes, AreUnits}
 
 abbrev pub u2 : ℕ → List ℕ
@@ -95,15 +99,34 @@ HasIndices constants (MethodType descriptor) = Names constants descriptor IsText
 HasIndices constants (InvokeDynamic bootstrap member) = Names constants member IsMember
 HasIndices constants other = Unit {0}
 
--- the bytes are a pool: the count, which is one more than how many constants there are with their gaps, and the
--- constants in order
+-- the bytes of a pool of these constants: the count, which is one more than how many there are with their gaps, and
+-- the constants in order
+abbrev pub pool_bytes : List Constant → List ℕ
+pool_bytes constants = u2 (length constants + 1) ++ flat_map constant_bytes constants
+
+-- the bytes are a pool of these constants
 pub record SpellsPool (bytes : List ℕ) (constants : List Constant) : Type 0 where
-  pub spelled : bytes ≡ u2 (length constants + 1) ++ flat_map constant_bytes constants
+  pub spelled : bytes ≡ pool_bytes constants
   pub counted : length constants + 1 < 2 ^ 16
   pub fit : AllByRecursion Fits constants
   pub laid_out : AreLaidOut constants
   pub indexed : AllByRecursion (HasIndices constants) constants
 
+-- the constants are all those of a pool
+abbrev pub IsPool : List Constant → Type 0
+IsPool constants = SpellsPool (pool_bytes constants) constants
+
 -- the bytes begin with a pool, which takes so many of them
 abbrev pub BeginsWithPool : List ℕ → List Constant → ℕ → Type 0
 BeginsWithPool bytes constants end = (front rest : List ℕ) × SpellsPool front constants × (bytes ≡ front ++ rest) × (end ≡ length front)
+
+-- a constant and, behind a Long or Double, the gap that takes the second index
+abbrev pub with_gap : Constant → List Constant
+with_gap (Long number) = Long number ∷ Gap ∷ []
+with_gap (Double bits) = Double bits ∷ Gap ∷ []
+with_gap constant = constant ∷ []
+
+-- the fault of a pool, by that of a text in it: one with a bad text is a bad pool
+abbrev pub pool_fault : TextFault → PoolFault
+pool_fault text.BadText = pool.BadPool
+pool_fault text.OutOfMemory = pool.OutOfMemory

@@ -1,19 +1,14 @@
--- Reading constants from left to right.
-use Rattle.std.specs.Prelude.{◌≡◌, ℕ, ◌+◌, List, [], ◌∷◌, ◌++◌, length, take, drop, Option, Some, None, option_map, option_and_then, nat_lt, ◌==◌, if◌then◌else◌}
+-- Reading constants from left to right. What private contracts and proofs cite: no public clause names this file.
+use Rattle.std.specs.Prelude.{◌≡◌, ◌<◌, ◌≤◌, ℕ, List, [], ◌∷◌, ◌++◌, length, take, drop, Option, Some, None, option_map, option_and_then, nat_lt, ◌==◌, if◌then◌else◌}
 use Rattle.std.specs.Int.{Width, w16, w32, w64, byte_len, from_be_bytes}
 use Rattle.std.specs.List.{AllByRecursion, flat_map}
 use Rattle.cb_text.specs.declared.constant.Constant.{Constant}
 use Rattle.cb_text.specs.declared.constant.Constant.TheVariants.{Utf8, Integer, Float, Long, Double, Class, String, Fieldref, Methodref, InterfaceMethodref, NameAndType, MethodHandle, MethodType, InvokeDynamic, Gap}
-use Rattle.cb_text.specs.declared.pool_fault.PoolFault.{PoolFault}
-use Rattle.cb_text.specs.declared.pool_fault.PoolFault.TheVariants as pool
-use Rattle.cb_text.specs.declared.text.TextFault.{TextFault}
-use Rattle.cb_text.specs.declared.text.TextFault.TheVariants as text
-use Rattle.cb_text.specs.Pool.{u2, Fits, constant_bytes, AreLaidOut, SpellsPool}
+use Rattle.cb_text.specs.Pool.{Fits, constant_bytes, AreLaidOut}
 
--- the fault of a pool, by that of a text in it: one with a bad text is a bad pool
-abbrev pub pool_fault : TextFault → PoolFault
-pool_fault text.BadText = pool.BadPool
-pool_fault text.OutOfMemory = pool.OutOfMemory
+-- the unit's spelling has more than one byte
+abbrev pub IsLong : ℕ → Type 0
+IsLong unit = ¬ ((1 ≤ unit) × (unit < 0x80))
 
 -- the number at the front of some bytes, and what stands behind it, or none where the bytes are too few
 abbrev pub number_at : Width → List ℕ → Option (ℕ × List ℕ)
@@ -78,11 +73,3 @@ pub record StandsBefore (count : ℕ) (constants : List Constant) (rest bytes : 
   pub fit : AllByRecursion Fits constants
   pub laid_out : AreLaidOut constants
   pub spelled : bytes ≡ flat_map constant_bytes constants ++ rest
-
--- the bytes of a pool of these constants
-abbrev pub pool_bytes : List Constant → List ℕ
-pool_bytes constants = u2 (length constants + 1) ++ flat_map constant_bytes constants
-
--- the constants are all those of a pool
-abbrev pub IsPool : List Constant → Type 0
-IsPool constants = SpellsPool (pool_bytes constants) constants

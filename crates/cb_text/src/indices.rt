@@ -26,8 +26,8 @@ pub(crate) fn entry_at(constants: &[Constant], index: u16) -> Option<&Constant>
     constants.get(usize::from(place))
 }
 
-/// Whether each index of the constant names an entry of the tag that is asked for.
-fn is_indexed(constants: &[Constant], constant: &Constant) -> bool
+/// Whether each index of the constant names an entry of the tag that is asked for. Takes constant time.
+pub(crate) fn is_indexed(constants: &[Constant], constant: &Constant) -> bool
     ensures { IsTrue result ↔ HasIndices constants.now constant.now }
 {
     match constant {

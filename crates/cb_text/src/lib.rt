@@ -1,16 +1,19 @@
 //! Text and constants of class files: modified UTF-8 and the constant pool, read exactly by their grammars and
-//! written back (JVMS §4.4).
+//! written back (JVMS §4.4). A pool tells what an index names, and is read from bytes or made constant by constant.
 //!
-//! `specs/` has the grammars: the spelling of a text, the bytes of a constant, and what a pool is. No clause says
-//! that memory is to be had: that no call always gives up is shown by tests alone.
+//! `specs/` has the grammars: the spelling of a text, the bytes of a constant, what a pool is, and what an index names.
+//! No clause says that memory is to be had: that no call always gives up is shown by tests alone. Nor does a clause
+//! speak of the room that `List::with_capacity` takes.
 #![tactic(auto)]
 
+mod admitting;
 mod constant;
 mod constants;
 mod contents;
 mod indices;
 mod list;
 mod memory;
+mod naming;
 mod next_constant;
 mod numbers;
 mod pool;
@@ -19,11 +22,13 @@ mod pool_fault;
 mod tests;
 mod text;
 mod unit;
+mod values;
 mod writing;
 
 pub use constant::Constant;
 pub use list::{List, Units};
 pub use memory::OutOfMemory;
+pub use naming::{Member, MemberKind, NameAndType};
 pub use pool::{Pool, one_pool, read_pool};
 pub use pool_fault::PoolFault;
 pub use text::{TextFault, decode_modified, encode_modified, one_spelling};

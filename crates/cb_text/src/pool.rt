@@ -1,19 +1,22 @@
 // The constant pool (JVMS §4.1, §4.4).
-ghost use Rattle.std.specs.Prelude.{◌≡◌, ◌↔◌, ◌+◌, ℕ, List, length, IfOk, IsErrOf, MatchResult, option_copied};
+ghost use Rattle.std.specs.Prelude.{◌≡◌, ◌↔◌, ◌+◌, ◌^◌, ◌<◌, ◌++◌, ℕ, List, [], length, IfOk, IsErrOf, IsTrue, MatchResult, OnErr, option_copied};
+ghost use Rattle.std.specs.Iterator.Runs.{EveryRun, ItemsMapTo};
+ghost use Rattle.std.specs.Slice.Iter.{iter_rest, iter_steps};
 ghost use Rattle.cb_text.specs.declared.constant.Constant.{Constant as AnyConstant};
-ghost use Rattle.cb_text.specs.Pool.{BeginsWithPool, SpellsPool, constant_at};
-ghost use Rattle.cb_text.specs.Reading.{IsPool};
+ghost use Rattle.cb_text.specs.Pool.{BeginsWithPool, IsPool, SpellsPool, constant_at, pool_bytes, with_gap};
 
-use crate::constants::constants_of;
+use crate::admitting::is_admitted;
+use crate::constants::{constants_of, push_with_gap};
 use crate::indices::{are_indexed, entry_at};
 use crate::numbers::u2_at;
 use crate::writing::push_constant;
 use crate::{Constant, OutOfMemory, PoolFault};
 use std::alloc::Global;
 use std::marker::Model;
+use std::slice;
 
-/// A constant pool that some bytes spell. Contracts see it as its constants in order, the first of which has the
-/// index 1.
+/// A constant pool, read from bytes or made constant by constant. Contracts see it as its constants in order with the
+/// gaps, the first of which has the index 1.
 #[derive(Debug, Drop)]
 pub struct Pool {
     constants: Vec<Constant>,
@@ -22,7 +25,7 @@ pub struct Pool {
 impl Model for Pool {
     ghost use Rattle.std.specs.Prelude.{List};
     ghost use Rattle.cb_text.specs.declared.constant.Constant.{Constant as AnyConstant};
-    ghost use Rattle.cb_text.specs.Reading.{IsPool};
+    ghost use Rattle.cb_text.specs.Pool.{IsPool};
 
     ghost Value = { List AnyConstant };
 
@@ -32,6 +35,38 @@ impl Model for Pool {
 }
 
 impl Pool {
+    /// A pool without constants. It takes memory from `alloc` as constants are added.
+    pub fn new(alloc: Global) -> Self
+        ensures { result ≡ [] }
+    {
+        Pool {
+            constants: Vec::new(alloc),
+        }
+    }
+
+    /// Whether the constants of the pool with this one, and behind a `Long` or `Double` its gap, are those of a pool:
+    /// there is room for its index or two, a text has fewer than 65536 bytes, and each index names an entry of the tag
+    /// that is asked for (JVMS §4.4). A `Gap` alone never is. Takes time in the length of a text, and constant time for
+    /// any other constant.
+    pub fn admits(&self, constant: &Constant) -> bool
+        ensures { IsTrue result ↔ IsPool (self.now ++ with_gap constant.now) }
+    {
+        is_admitted(&self.constants, constant)
+    }
+
+    /// Adds a constant that the pool admits, and behind a `Long` or `Double` its gap, and gives the constant's index.
+    /// `OutOfMemory` where no memory was to be had: the pool is then as it was.
+    pub fn push(&mut self, constant: Constant) -> Result<u16, OutOfMemory>
+        requires { IsPool (self.old ++ with_gap constant) }
+        ensures ok { IfOk result (λ index. (self.new ≡ self.old ++ with_gap constant)
+            × (index ≡ length self.old + 1)) }
+        ensures err { OnErr result (self.new ≡ self.old) }
+    {
+        let index = self.len();
+        push_with_gap(&mut self.constants, constant)?;
+        Ok(index)
+    }
+
     /// The number that stands in the file as `constant_pool_count`, one more than the greatest index (JVMS §4.1).
     pub fn len(&self) -> u16
         ensures { result ≡ length self.now + 1 }
@@ -47,10 +82,18 @@ impl Pool {
         entry_at(&self.constants, index)
     }
 
+    /// The constants in order, the first of which has the index 1, with the gaps.
+    pub fn constants(&self) -> &[Constant]
+        ensures { result.now ≡ self.now }
+    {
+        self.constants.as_slice()
+    }
+
     /// The bytes of the pool, from its count on. `OutOfMemory` where no memory was to be had. Takes time in the
     /// number of bytes.
     pub fn encode(&self, alloc: Global) -> Result<Vec<u8>, OutOfMemory>
-        ensures { IfOk result (λ bytes. SpellsPool bytes.items self.now) }
+        ensures pool { IfOk result (λ bytes. SpellsPool bytes.items self.now) }
+        ensures exact { IfOk result (λ bytes. bytes.items ≡ pool_bytes self.now) }
     {
         let mut out = Vec::new(alloc);
         out.extend_from_slice(&self.len().to_be_bytes())?;
@@ -58,6 +101,20 @@ impl Pool {
             push_constant(alloc, &mut out, constant)?;
         }
         Ok(out)
+    }
+}
+
+/// Walks the constants in order, with the gaps.
+impl<'a> IntoIterator for &'a Pool {
+    type Item = &'a Constant;
+
+    type IntoIter = slice::Iter<'a, Constant>;
+
+    ghost into_iter_gives = { λ pool it. (iter_rest it ≡ pool.now) × (length (iter_rest it) < 2 ^ 64)
+        × EveryRun (iter_steps {A = AnyConstant}) (λ p. ItemsMapTo p (λ constant. constant.now) (iter_rest p.from)) };
+
+    fn into_iter(self) -> slice::Iter<'a, Constant> {
+        self.constants.iter()
     }
 }
 

@@ -1,5 +1,8 @@
 // Texts and pools of class files, as the JVMS and `javap` read them.
-use crate::{Constant, PoolFault, TextFault, Units, decode_modified, encode_modified, read_pool};
+use crate::{
+    Constant, Member, MemberKind, OutOfMemory, Pool, PoolFault, TextFault, Units, decode_modified,
+    encode_modified, read_pool,
+};
 use std::test::Fail;
 
 /// A constant of each tag, and the count 20. The class at 18 has its name behind it.
@@ -74,6 +77,11 @@ fn units_stand_in_the_order_of_their_pushes(rt: HostRuntime) -> Result<(), Fail>
     units.push(7)?;
     assert_eq!(rt; units.len(), 2);
     assert_eq!(rt; *units.get(0), 0xD800);
+    let mut again = Units::with_capacity(rt.alloc(), units.len())?;
+    for unit in &units {
+        again.push(*unit)?;
+    }
+    assert_eq!(rt; again.as_slice(), [0xD800, 7].as_slice());
     Ok(())
 }
 
@@ -165,11 +173,152 @@ fn the_pool_of_a_real_class_is_read_as_javap_reads_it(rt: HostRuntime) -> Result
     ] {
         assert_eq!(rt; pool.get(index).map(numbers), Some(want), "at {index}");
     }
-    let Some(Constant::Utf8(text)) = pool.get(21) else {
-        return Err(Fail::new("no text at 21"));
-    };
-    assert_eq!(rt; text.as_slice(), [0x61, 0, 0xE9, 0x20AC].as_slice());
     let bytes = pool.encode(rt.alloc())?;
     assert_eq!(rt; bytes.as_slice(), REAL);
+    Ok(())
+}
+
+/// Whether the units are those of an ASCII text.
+fn is_text(units: &[u16], text: &[u8]) -> bool {
+    units.len() == text.len()
+        && units
+            .iter()
+            .zip(text)
+            .all(|(unit, byte)| *unit == u16::from(*byte))
+}
+
+#[test]
+fn the_names_of_a_real_class_are_those_that_javap_prints(rt: HostRuntime) -> Result<(), Fail> {
+    let (pool, _) = read_pool(rt.alloc(), REAL)?;
+    for (index, want) in [
+        (2, b"java/lang/Object".as_slice()),
+        (11, b"Real"),
+        (28, b"java/lang/invoke/LambdaMetafactory"),
+    ] {
+        assert!(rt;
+            pool.class(index).is_some_and(|name| is_text(name, want)),
+            "at {index}"
+        );
+    }
+    assert!(rt; pool.text(5).is_some_and(|name| is_text(name, b"<init>")));
+    assert_eq!(rt; pool.string(20), Some([0x61, 0, 0xE9, 0x20AC].as_slice()));
+    for (index, name, descriptor) in [
+        (3, b"<init>".as_slice(), b"()V".as_slice()),
+        (8, b"run", b"()Ljava/lang/Runnable;"),
+    ] {
+        let found = pool.name_and_type(index);
+        assert!(rt;
+            found.is_some_and(|found| is_text(found.name, name)
+                && is_text(found.descriptor, descriptor))
+        );
+    }
+    let called = pool.dynamic(7);
+    assert!(rt; called.is_some_and(|found| is_text(found.name, b"run")));
+    let Some(
+        Member {
+            kind,
+            class,
+            name,
+            descriptor,
+        },
+    ) = pool.member(35)
+    else {
+        return Err(Fail::new("no member at 35"));
+    };
+    assert_eq!(rt; kind, MemberKind::Method);
+    assert!(rt;
+        is_text(class, b"Real") && is_text(name, b"lambda$task$0") && is_text(descriptor, b"()V")
+    );
+    assert_eq!(rt; pool.long(16), Some(1 << 40));
+    for index in [0, 1, 6, 17, 43] {
+        assert_eq!(rt; pool.class(index), None, "at {index}");
+        assert_eq!(rt; pool.integer(index), None, "at {index}");
+    }
+    Ok(())
+}
+
+#[test]
+fn numbers_and_members_have_their_kinds(rt: HostRuntime) -> Result<(), Fail> {
+    let (pool, _) = read_pool(rt.alloc(), EVERY_TAG)?;
+    assert_eq!(rt; pool.integer(9), Some(-2));
+    assert_eq!(rt; pool.float(10), Some(0x3F80_0000));
+    assert_eq!(rt; pool.double(13), Some(0x3FF0_0000_0000_0000));
+    for (index, want) in [
+        (4, None),
+        (5, Some(MemberKind::Field)),
+        (6, Some(MemberKind::Method)),
+        (7, Some(MemberKind::InterfaceMethod)),
+    ] {
+        assert_eq!(rt;
+            pool.member(index).map(|member| member.kind),
+            want,
+            "at {index}"
+        );
+    }
+    Ok(())
+}
+
+/// Adds a constant where the pool admits it.
+fn add(pool: &mut Pool, constant: Constant) -> Result<Option<u16>, OutOfMemory> {
+    if !pool.admits(&constant) {
+        return Ok(None);
+    }
+    Ok(Some(pool.push(constant)?))
+}
+
+#[test]
+fn a_pool_that_is_made_is_read_back(rt: HostRuntime) -> Result<(), Fail> {
+    let mut pool = Pool::new(rt.alloc());
+    let text = decode_modified(rt.alloc(), b"A")?;
+    assert_eq!(rt; add(&mut pool, Constant::Utf8(text))?, Some(1));
+    for (constant, want) in [
+        (Constant::Class(1), Some(2)),
+        (Constant::Class(2), None),
+        (Constant::Long(5), Some(3)),
+        (Constant::Gap, None),
+        (Constant::MethodHandle(9, 6), None),
+        (Constant::MethodHandle(9, 5), Some(5)),
+        (Constant::Double(0), Some(6)),
+        (Constant::NameAndType(1, 1), Some(8)),
+        (Constant::Fieldref(2, 8), Some(9)),
+        (Constant::Fieldref(8, 2), None),
+    ] {
+        assert_eq!(rt; add(&mut pool, constant)?, want);
+    }
+    let mut gaps = 0_u8;
+    for constant in &pool {
+        if matches!(constant, Constant::Gap) {
+            gaps = gaps.saturating_add(1);
+        }
+    }
+    assert_eq!(rt; gaps, 2);
+    assert_eq!(rt; pool.constants().len(), 9);
+    let bytes = pool.encode(rt.alloc())?;
+    let (again, end) = read_pool(rt.alloc(), &bytes)?;
+    assert_eq!(rt; end, bytes.len());
+    assert_eq!(rt; again.len(), pool.len());
+    assert!(rt; again.class(2).is_some_and(|name| is_text(name, b"A")));
+    Ok(())
+}
+
+#[test]
+fn faults_are_named_in_words(rt: HostRuntime) -> Result<(), Fail> {
+    let alloc = rt.alloc();
+    assert_eq!(rt;
+        TextFault::BadText.to_string(alloc)?.as_str(),
+        "not modified UTF-8"
+    );
+    assert_eq!(rt;
+        TextFault::OutOfMemory.to_string(alloc)?.as_str(),
+        "out of memory"
+    );
+    assert_eq!(rt;
+        PoolFault::BadPool.to_string(alloc)?.as_str(),
+        "not a constant pool"
+    );
+    assert_eq!(rt;
+        PoolFault::OutOfMemory.to_string(alloc)?.as_str(),
+        "out of memory"
+    );
     Ok(())
 }

@@ -1,23 +1,36 @@
 // Modified UTF-8 (JVMS §4.4.7).
-ghost use Rattle.std.specs.Prelude.{◌≡◌, ◌≢◌, ◌↔◌, ℕ, List, IfOk, MatchResult, IsErrOf};
+ghost use Rattle.std.specs.Prelude.{◌≡◌, ◌≢◌, ◌↔◌, ◌^◌, ◌<◌, ℕ, List, length, IfOk, IsErrOf, IsTrue, MatchResult, Some};
+ghost use Rattle.cb_text.specs.Messages.{text_fault_text};
 ghost use Rattle.cb_text.specs.Text.{AreUnits, text_bytes};
 ghost use Rattle.cb_text.specs.declared.text.TextFault.TheVariants.{OutOfMemory as MemoryFault};
 
-use crate::unit::{push_unit, unit_at};
+use crate::unit::{push_unit, spelled_length, unit_at};
 use crate::{OutOfMemory, Units};
 use std::alloc::{AllocError, AllocFailed, Global};
-use thiserror::Error;
+use std::error::Error;
+use std::fmt;
 
 /// Why bytes gave no text.
-#[derive(Clone, Copy, Debug, PartialEq, Eq, Error)]
+#[derive(Clone, Copy, Debug, PartialEq, Eq)]
 pub enum TextFault {
     /// The bytes are no modified UTF-8.
-    #[error("not modified UTF-8")]
     BadText,
     /// No memory was to be had.
-    #[error("out of memory")]
     OutOfMemory,
 }
+
+impl fmt::Display for TextFault {
+    ghost output = { λ fault. Some (text_fault_text fault) };
+
+    fn fmt<W: fmt::Write>(&self, f: &mut fmt::Formatter<W>) -> fmt::Result {
+        f.write_str(match self {
+            TextFault::BadText => "not modified UTF-8",
+            TextFault::OutOfMemory => "out of memory",
+        })
+    }
+}
+
+impl Error for TextFault {}
 
 impl From<AllocError> for TextFault {
     ghost from_gives = { λ _ fault. fault ≡ MemoryFault };
@@ -37,8 +50,8 @@ impl<T: Drop> From<AllocFailed<T>> for TextFault {
 
 /// The UTF-16 units that the bytes spell in modified UTF-8 (JVMS §4.4.7): units 0x0001 to 0x007F stand in one byte,
 /// 0 and 0x0080 to 0x07FF in two, all others in three. A unit is spelled alone, so a pair of surrogates is two.
-/// `BadText` where no units have these bytes, `OutOfMemory` where no memory was to be had. Takes time in the number
-/// of bytes.
+/// `BadText` where no units have these bytes, `OutOfMemory` where no memory was to be had: the room is taken once, of
+/// as many units as there are bytes. Takes time in the number of bytes.
 pub fn decode_modified(alloc: Global, bytes: &[u8]) -> Result<Units, TextFault>
     ensures units { IfOk result (λ units. AreUnits units × (bytes.now ≡ text_bytes units)) }
     ensures exact { (units : List ℕ) → AreUnits units → bytes.now ≡ text_bytes units
@@ -46,16 +59,16 @@ pub fn decode_modified(alloc: Global, bytes: &[u8]) -> Result<Units, TextFault>
     ensures bad { IsErrOf result TextFault.BadText ↔ ((¬ IsErrOf result TextFault.OutOfMemory)
         × ((units : List ℕ) → AreUnits units → bytes.now ≢ text_bytes units)) }
 {
-    let mut units = Units::new(alloc);
+    let mut units = Vec::with_capacity(alloc, bytes.len())?;
     let mut rest = bytes;
     while !rest.is_empty() {
         let Some((unit, after)) = unit_at(rest) else {
             return Err(TextFault::BadText);
         };
-        units.push(unit)?;
+        units.push_reserved(unit);
         rest = after;
     }
-    Ok(units)
+    Ok(Units::of(units))
 }
 
 /// The spelling of the units in modified UTF-8 (JVMS §4.4.7), which `decode_modified` reads back. `OutOfMemory`
@@ -76,3 +89,17 @@ pub fn encode_modified(alloc: Global, units: &[u16]) -> Result<Vec<u8>, OutOfMem
 pub fn one_spelling()
     ensures { (one other : List ℕ) → AreUnits one → AreUnits other → text_bytes one ≡ text_bytes other → one ≡ other }
 {}
+
+/// Whether the spelling of the units has fewer than 65536 bytes. Takes time in the number of units.
+pub(crate) fn is_short(units: &[u16]) -> bool
+    ensures { IsTrue result ↔ (AreUnits units.now × (length (text_bytes units.now) < 2 ^ 16)) }
+{
+    let mut room = u16::MAX;
+    for unit in units {
+        let Some(left) = room.checked_sub(spelled_length(*unit)) else {
+            return false;
+        };
+        room = left;
+    }
+    true
+}

@@ -1,5 +1,6 @@
 // A UTF-16 unit in modified UTF-8 (JVMS §4.4.7).
-ghost use Rattle.std.specs.Prelude.{◌≡◌, ◌^◌, ◌<◌, ◌++◌, ℕ, List, IfSome, IsSomeAnd, OnOk};
+ghost use Rattle.std.specs.Prelude.{◌≡◌, ◌^◌, ◌<◌, ◌++◌, ℕ, List, length, IfSome, IsSomeAnd, OnOk};
+ghost use Rattle.cb_text.specs.Reading.{IsLong};
 ghost use Rattle.cb_text.specs.Text.{unit_bytes};
 
 use crate::OutOfMemory;
@@ -13,6 +14,17 @@ pub(crate) fn unit_at(bytes: &[u8]) -> Option<(u16, &[u8])>
 {
     match bytes {
         [unit @ 1..=0x7F, rest @ ..] => Some((u16::from(*unit), rest)),
+        _ => long_unit_at(bytes),
+    }
+}
+
+/// The unit of two or three bytes at the front, and what stands behind it.
+fn long_unit_at(bytes: &[u8]) -> Option<(u16, &[u8])>
+    ensures found { IfSome result (λ read. bytes.now ≡ unit_bytes read.0 ++ read.1.now) }
+    ensures only { (unit : ℕ) (rest : List ℕ) → unit < 2 ^ 16 → IsLong unit → bytes.now ≡ unit_bytes unit ++ rest
+        → IsSomeAnd result (λ read. (read.0 ≡ unit) × (read.1.now ≡ rest)) }
+{
+    match bytes {
         [high @ 0xC0..=0xDF, low @ 0x80..=0xBF, rest @ ..] => {
             let unit = u16::from(*high - 0xC0) * 0x40 + u16::from(*low - 0x80);
             if unit == 0 || unit >= 0x80 {
@@ -52,4 +64,15 @@ pub(crate) fn push_unit(out: &mut Vec<u8>, unit: u16) -> Result<(), OutOfMemory>
         _ => out.extend_from_slice(&[0xE0 + (unit / 0x1000) as u8, middle, low])?,
     }
     Ok(())
+}
+
+/// How many bytes the spelling of a unit has.
+pub(crate) fn spelled_length(unit: u16) -> u16
+    ensures { result ≡ length (unit_bytes unit) }
+{
+    match unit {
+        1..=0x7F => 1,
+        0..=0x7FF => 2,
+        _ => 3,
+    }
 }

@@ -1,37 +1,43 @@
-use Rattle.std.proofs.Common.{rules, ◌≡◌, ◌++◌, sym, ◌∙◌}
+use Rattle.std.proofs.Common.{sym, ◌∙◌}
 use Rattle.std.proofs.lemmas.Bool.{false≢true}
-use Rattle.cb_classfile.specs.declared.fault.Fault.TheVariants.{OutOfMemory}
-use Rattle.cb_classfile.proofs.Bodies.{body_same}
+use Rattle.cb_insn.proofs.Laws.{places_rise}
+use Rattle.cb_classfile.proofs.BodyParts.{head_of, tail_of, body_found}
+use Rattle.cb_classfile.proofs.Failing.{handed}
+use Rattle.cb_classfile.proofs.Sequence.{found_whole, whole_by_first, whole_by_second}
 use Rattle.cb_classfile.proofs.body.body_of.Goals as goal
 
-pub returns-in_err-handlers-clause-only : goal.returns-in_err-handlers-clause-only
-returns-in_err-handlers-clause-only c = λ body spelled.
-    let pair = c.in_ok-max_stack.ensures.only body.max_stack body.max_locals _ spelled.stack_fits spelled.locals_fit spelled.spelled in
-    let code = c.in_ok-bytes.ensures.only spelled.code (spelled.handlers ++ spelled.attributes) spelled.some spelled.few pair.2 in
-    let memory : c.in_err-handlers.field-0.0 ≡ OutOfMemory = c.in_err-handlers.ensures.only body.handlers spelled.attributes (spelled.handlers, spelled.handlers_spelled, code.1) in
-    search rules
+pub returns-in_err-max_stack : goal.returns-in_err-max_stack
+returns-in_err-max_stack c = handed _ _ _ _ c.from_residual.ensures (λ body spelled. whole_by_first c.in_err-max_stack.ensures _ spelled.spelled)
 
-pub returns-then-not-are_placed-clause-only : goal.returns-then-not-are_placed-clause-only
-returns-then-not-are_placed-clause-only c = λ body spelled.
-    let pair = c.in_ok-max_stack.ensures.only body.max_stack body.max_locals _ spelled.stack_fits spelled.locals_fit spelled.spelled in
-    let code = c.in_ok-bytes.ensures.only spelled.code (spelled.handlers ++ spelled.attributes) spelled.some spelled.few pair.2 in
-    let insns = c.in_ok-code.ensures.only body.code (rw code.0 spelled.code_spelled) spelled.constants in
-    let handlers = c.in_ok-handlers.ensures.only body.handlers spelled.attributes (spelled.handlers, spelled.handlers_spelled, code.1) in
-    absurd (false≢true (sym c.if-not-are_placed.true ∙ c.are_placed.ensures.1 (rw (c.as_slice.ensures, insns, handlers.0, code.0) spelled.handlers_placed)))
+pub returns-in_err-bytes : goal.returns-in_err-bytes
+returns-in_err-bytes c = handed _ _ _ _ c.from_residual-in_err-bytes.ensures (λ body spelled. whole_by_second c.in_ok-max_stack.ensures (whole_by_first c.in_err-bytes.ensures) _ spelled.spelled)
 
-pub returns-in_err-frames-clause-only : goal.returns-in_err-frames-clause-only
-returns-in_err-frames-clause-only c = λ body spelled.
-    let pair = c.in_ok-max_stack.ensures.only body.max_stack body.max_locals _ spelled.stack_fits spelled.locals_fit spelled.spelled in
-    let code = c.in_ok-bytes.ensures.only spelled.code (spelled.handlers ++ spelled.attributes) spelled.some spelled.few pair.2 in
-    let handlers = c.in_ok-handlers.ensures.only body.handlers spelled.attributes (spelled.handlers, spelled.handlers_spelled, code.1) in
-    let memory : c.in_err-frames.field-0.0 ≡ OutOfMemory = c.in_err-frames.ensures.only body.frames (rw handlers.1 spelled.frames) in
-    search rules
+pub returns-in_err-code : goal.returns-in_err-code
+returns-in_err-code c = handed _ _ _ _ c.from_residual-in_err-code.ensures (λ body spelled.
+    c.in_err-code.ensures body.code (tail_of (head_of c.in_ok-max_stack.ensures c.in_ok-bytes.ensures) spelled).instructions)
 
-pub returns-clause-only : goal.returns-clause-only
-returns-clause-only c = λ body spelled.
-    let pair = c.in_ok-max_stack.ensures.only body.max_stack body.max_locals _ spelled.stack_fits spelled.locals_fit spelled.spelled in
-    let code = c.in_ok-bytes.ensures.only spelled.code (spelled.handlers ++ spelled.attributes) spelled.some spelled.few pair.2 in
-    let insns = c.in_ok-code.ensures.only body.code (rw code.0 spelled.code_spelled) spelled.constants in
-    let handlers = c.in_ok-handlers.ensures.only body.handlers spelled.attributes (spelled.handlers, spelled.handlers_spelled, code.1) in
-    let frames = c.in_ok-frames.ensures.only body.frames (rw handlers.1 spelled.frames) in
-    body_same _ _ _ _ _ body pair.0 pair.1 insns handlers.0 frames
+pub returns-in_err-handlers : goal.returns-in_err-handlers
+returns-in_err-handlers c = handed _ _ _ _ c.from_residual-in_err-handlers.ensures (λ body spelled.
+    whole_by_first c.in_err-handlers.ensures _ (tail_of (head_of c.in_ok-max_stack.ensures c.in_ok-bytes.ensures) spelled).tables)
+
+pub are_placed-requires : goal.are_placed-requires
+are_placed-requires c = places_rise _ _ c.in_ok-code.ensures.found.spelled
+
+pub returns-then-not-are_placed : goal.returns-then-not-are_placed
+returns-then-not-are_placed c = λ body spelled.
+    let tail = tail_of (head_of c.in_ok-max_stack.ensures c.in_ok-bytes.ensures) spelled in
+    let code = c.in_ok-code.ensures.only body.code tail.instructions in
+    let handlers = c.in_ok-handlers.ensures.only body.handlers _ (tail.tables.first, tail.tables.here, tail.tables.spelled) in
+    absurd (false≢true (sym c.if-not-are_placed.true ∙ c.are_placed.ensures.1 (rw (c.as_slice.ensures, code, handlers.0) tail.placed)))
+
+pub returns-in_err-frames : goal.returns-in_err-frames
+returns-in_err-frames c = handed _ _ _ _ c.from_residual-in_err-frames.ensures (λ body spelled.
+    whole_by_second c.in_ok-handlers.ensures c.in_err-frames.ensures _ (tail_of (head_of c.in_ok-max_stack.ensures c.in_ok-bytes.ensures) spelled).tables)
+
+pub returns : goal.returns
+returns c =
+    body_found (head_of c.in_ok-max_stack.ensures c.in_ok-bytes.ensures) (record {
+      instructions = c.in_ok-code.ensures.found;
+      placed = rw (← c.as_slice.ensures) (c.are_placed.ensures.0 c.if-not-are_placed.false);
+      tables = found_whole c.in_ok-handlers.ensures.found c.in_ok-frames.ensures.found;
+    })

@@ -1,13 +1,18 @@
-use Rattle.std.proofs.Common.{Bool, IsTrue, ◌↔◌, Result, Ok, Err, IfOk, ◌∙◌}
-use Rattle.cb_classfile.proofs.Distinct.{differ_alike}
+use Rattle.std.proofs.Common.{sym, ◌∙◌}
+use Rattle.std.proofs.lemmas.Bool.{false≢true}
+use Rattle.cb_classfile.proofs.Pairs.{differ_more, differ_less}
 use Rattle.cb_classfile.proofs.differ.do_differ.Goals as goal
 
--- what a test tells of one fact it tells of another that goes with it
-told : {E : Type 0} (test : Result Bool E) (P Q : Type 0) → (P → Q) × (Q → P) → IfOk test (λ b. IsTrue b ↔ P) → IfOk test (λ b. IsTrue b ↔ Q)
-told (Ok b) P Q alike is = (λ yes. alike.0 (is.0 yes), λ holds. is.1 (alike.1 holds))
-told (Err fault) P Q alike is = tt
+pub returns-then-not-differs_from : goal.returns-then-not-differs_from
+returns-then-not-differs_from g c = (
+  λ is. absurd (false≢true is),
+  λ differ.
+      let (apart, others) = differ_less g.M.Named.indices _ c.in-Some.first.now c.in-Some.behind.now (rw c.in-Some.ensures.cases.0 at (c.loop-first.invariant.0 differ)) in
+      absurd (false≢true (sym c.if-not-differs_from.true ∙ c.differs_from.ensures.1 apart)),
+)
 
-pub returns : goal.returns
-returns c =
-    let are = c.deref-2.ensures.value ∙ c.in_ok-pairs.ensures in
-    told _ _ _ (differ_alike c.args.constants.now c.deref.result.now (rw c.deref.ensures.value c.in_ok-numbers.ensures) c.args.members.now _ are) c.are_distinct.ensures
+pub loop-first-preserved : goal.loop-first-preserved
+loop-first-preserved g c = (
+  λ differ. (differ_less g.M.Named.indices _ c.in-Some.first.now c.in-Some.behind.now (rw c.in-Some.ensures.cases.0 at (c.loop-first.invariant.0 differ))).1,
+  λ differ. c.loop-first.invariant.1 (rw c.in-Some.ensures.cases.0 (differ_more g.M.Named.indices _ c.in-Some.first.now c.in-Some.behind.now (c.differs_from.ensures.0 c.if-not-differs_from.false) differ)),
+)

@@ -1,34 +1,17 @@
-use Rattle.std.proofs.Common.{rules, ◌++◌, ◌∙◌, ap, refl}
-use Rattle.cb_classfile.specs.Tables.{u2}
+use Rattle.std.proofs.Common.{refl}
+use Rattle.cb_classfile.proofs.Failing.{handed}
+use Rattle.cb_classfile.proofs.OneItem.{front}
+use Rattle.cb_classfile.proofs.OneMember.{exact_member}
+use Rattle.cb_classfile.proofs.Sequence.{by_first, by_second, found_both}
 use Rattle.cb_classfile.proofs.member.member_at.Goals as goal
 
-pub returns-in_err-occurrence-clause-only : goal.returns-in_err-occurrence-clause-only
-returns-in_err-occurrence-clause-only c = λ flags name descriptor attributes rest (front, spelled, split).
-    let head = c.in_ok-flags.ensures.only flags name descriptor (spelled.attributes ++ rest) spelled.flags_fit spelled.name_fits spelled.descriptor_fits (split ∙ ap (λ bytes. bytes ++ rest) spelled.spelled) in
-    absurd (c.in_err-occurrence.ensures.only attributes rest (spelled.attributes, spelled.attributes_spelled, head.3))
+pub returns-in_err-flags : goal.returns-in_err-flags
+returns-in_err-flags c = handed _ _ _ _ c.from_residual.ensures (by_first c.in_err-flags.ensures)
 
-pub returns-clause-found : goal.returns-clause-found
-returns-clause-found c =
-    let told = c.in_ok-occurrence.ensures.found in
-    let head = u2 c.in_ok-flags.flags ++ u2 c.in_ok-flags.name ++ u2 c.in_ok-flags.descriptor in (
-      told.0,
-      (
-        head ++ told.1.0,
-        record {
-          attributes = told.1.0;
-          spelled = refl;
-          flags_fit = search rules;
-          name_fits = search rules;
-          descriptor_fits = search rules;
-          attributes_spelled = told.1.1;
-        },
-        c.in_ok-flags.ensures.found ∙ ap (λ bytes. head ++ bytes) told.1.2,
-      ),
-      told.2,
-    )
+pub returns-in_err-occurrence : goal.returns-in_err-occurrence
+returns-in_err-occurrence c = handed _ _ _ _ c.from_residual-in_err-occurrence.ensures (by_second c.in_ok-flags.ensures c.in_err-occurrence.ensures)
 
-pub returns-clause-only : goal.returns-clause-only
-returns-clause-only c = λ flags name descriptor attributes rest (front, spelled, split).
-    let head = c.in_ok-flags.ensures.only flags name descriptor (spelled.attributes ++ rest) spelled.flags_fit spelled.name_fits spelled.descriptor_fits (split ∙ ap (λ bytes. bytes ++ rest) spelled.spelled) in
-    let told = c.in_ok-occurrence.ensures.only attributes rest (spelled.attributes, spelled.attributes_spelled, head.3) in
-    (head.0, head.1, head.2, told.0, told.1)
+pub returns : goal.returns
+returns c =
+    let (attributes, here, told) = c.in_ok-occurrence.ensures in
+    (((c.in_ok-flags.flags, c.in_ok-flags.name, c.in_ok-flags.descriptor), attributes), front (exact_member _) (found_both c.in_ok-flags.ensures.found here.found), record { head = refl; occurrence = told })

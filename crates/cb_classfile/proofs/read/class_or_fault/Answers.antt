@@ -1,47 +1,19 @@
-use Rattle.std.proofs.Common.{rules, ◌≡◌, sym, ◌∙◌, ap, subst}
-use Rattle.cb_classfile.specs.Answers.{Stands}
-use Rattle.cb_classfile.specs.Class.{IsAccepted}
-use Rattle.cb_classfile.specs.Faults.{class_fault}
-use Rattle.cb_classfile.specs.Profile.{unsupported}
-use Rattle.cb_classfile.specs.declared.fault.Fault.TheVariants.{OutOfMemory}
-use Rattle.cb_classfile.proofs.Answering.{fault_stands}
+use Rattle.std.proofs.Common.{sym, subst}
+use Rattle.cb_classfile.specs.Answers.{IsAcceptedClass}
+use Rattle.cb_classfile.specs.Texts.{Describe}
+use Rattle.cb_classfile.proofs.Answering.{version_missing, fault_stands, class_stands}
+use Rattle.cb_classfile.proofs.Failing.{handed}
 use Rattle.cb_classfile.proofs.read.class_or_fault.Goals as goal
 
-pub returns-in_err-minor-clause-found : goal.returns-in_err-minor-clause-found
-returns-in_err-minor-clause-found c =
-    let none = c.in_err-minor.ensures.only in
-    let stands : Stands c.args.bytes.now (class_fault c.in_err-minor.field-0.0) = fault_stands _ _
-    (λ class spelled. absurd (none class.minor class.major spelled.contents spelled.minor_fits spelled.major_fits spelled.spelled))
-    (λ major (minor, rest, minor_fits, major_fits, split). absurd (none minor major rest minor_fits major_fits split)) in
-    search (rules, stands)
+pub returns-in_default : goal.returns-in_default
+returns-in_default c = version_missing _ c.in_default.ensures
 
-pub returns-in_err-class-clause-found : goal.returns-in_err-class-clause-found
-returns-in_err-class-clause-found c =
-    let version = c.in_ok-minor.ensures.only in
-    let stands : Stands c.args.bytes.now (class_fault c.in_err-class.field-0.0) = fault_stands _ _
-    (λ class spelled.
-    let same = version class.minor class.major spelled.contents spelled.minor_fits spelled.major_fits spelled.spelled in
-    c.in_err-class.ensures.only class (sym same.0) (sym same.1) (rw same.2 spelled.contents_spelled))
-    (λ major (minor, rest, minor_fits, major_fits, split).
-    subst IsAccepted (version minor major rest minor_fits major_fits split).1 (c.is_accepted.ensures.0 c.if-not-is_accepted.false)) in
-    search (rules, stands)
+pub returns-in_err-read : goal.returns-in_err-read
+returns-in_err-read c =
+    handed _ _ _ _ c.from_residual.ensures (fault_stands _ c.in-Some.ensures (c.is_accepted.ensures.0 c.if-not-is_accepted.false) c.in_err-read.ensures)
 
-pub returns-in_err-class-clause-only : goal.returns-in_err-class-clause-only
-returns-in_err-class-clause-only c = λ class accepted.
-    let spelled = accepted.spelled in
-    let same = c.in_ok-minor.ensures.only class.minor class.major spelled.contents spelled.minor_fits spelled.major_fits spelled.spelled in
-    let memory : c.in_err-class.field-0.0 ≡ OutOfMemory = c.in_err-class.ensures.only class (sym same.0) (sym same.1) (rw same.2 spelled.contents_spelled) in
-    search (rules, memory)
-
-pub returns-in-Some-clause-only : goal.returns-in-Some-clause-only
-returns-in-Some-clause-only c = λ class accepted.
-    let spelled = accepted.spelled in
-    let version = c.in_ok-minor.ensures.only class.minor class.major spelled.contents spelled.minor_fits spelled.major_fits spelled.spelled in
-    let same = c.in_ok-class.ensures.only class (sym version.0) (sym version.1) (rw version.2 spelled.contents_spelled) in
-    sym (ap unsupported same) ∙ sym c.in-Some.ensures
-
-pub returns-in-None-clause-only : goal.returns-in-None-clause-only
-returns-in-None-clause-only c = λ class accepted.
-    let spelled = accepted.spelled in
-    let version = c.in_ok-minor.ensures.only class.minor class.major spelled.contents spelled.minor_fits spelled.major_fits spelled.spelled in
-    c.in_ok-class.ensures.only class (sym version.0) (sym version.1) (rw version.2 spelled.contents_spelled)
+pub returns : goal.returns
+returns c =
+    let (class, here, (is, described)) = c.in_ok-read.ensures in
+    let accepted = class_stands c.in-Some.ensures (c.is_accepted.ensures.0 c.if-not-is_accepted.false) here.found in
+    (subst (IsAcceptedClass c.args.bytes.now) (sym is) accepted, subst (λ class. Describe class.pool c.in_ok-read.read.1.items) (sym is) described)

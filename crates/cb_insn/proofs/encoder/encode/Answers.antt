@@ -4,7 +4,7 @@ use Rattle.std.proofs.lemmas.List.Elements.{All-get_or}
 use Rattle.cb_insn.specs.declared.insn.Insn.{Insn}
 use Rattle.cb_insn.specs.Grammar.{SpellsCode}
 use Rattle.cb_insn.specs.Writing.{code_bytes}
-use Rattle.cb_insn.proofs.Codes.{one_code_spelled}
+use Rattle.cb_insn.proofs.Laws.{one_code_spelled}
 use Rattle.cb_insn.proofs.Written.{IsSpelled, each_spelled, code_written}
 use Rattle.cb_insn.proofs.encoder.encode.Goals as goal
 

@@ -1,7 +1,7 @@
 use Rattle.std.proofs.Common.{◌≡◌, All, length, refl, sym, ◌∙◌, ap, subst, arith}
 use Rattle.cb_insn.specs.Forms.{head_bytes}
 use Rattle.cb_insn.specs.Faults.{Whole}
-use Rattle.cb_insn.specs.Reads.{IsMarked, Misses}
+use Rattle.cb_insn.specs.Inner.{IsMarked, Misses}
 use Rattle.cb_insn.proofs.Heads.{headed, head_whole, head_targets}
 use Rattle.cb_insn.proofs.Marks.{handed_on}
 use Rattle.cb_insn.proofs.instruction.instruction_at.Goals as goal

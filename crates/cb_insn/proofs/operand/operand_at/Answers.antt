@@ -4,7 +4,7 @@ use Rattle.cb_insn.specs.declared.form.Form.TheVariants.{Lookup}
 use Rattle.cb_insn.specs.declared.insn.Operand.{Operand}
 use Rattle.cb_insn.specs.declared.fault.InsnFault.{InsnFault}
 use Rattle.cb_insn.specs.Faults.{padding_length, lookup_offsets, targets_in}
-use Rattle.cb_insn.specs.Reads.{IsMarked, operand_of, operand_targets, lookup_of}
+use Rattle.cb_insn.specs.Inner.{IsMarked, operand_of, operand_targets, lookup_of}
 use Rattle.std.specs.Int.{w16, w32}
 use Rattle.std.proofs.lemmas.Int.{to_z-of_z}
 use Rattle.cb_insn.proofs.Marks.{handed_on, miss_first}
@@ -17,9 +17,9 @@ lifted pc form behind switch starts result is_lookup is_switch holds =
 pub returns-in_err-target_at-in-Branch-clause-err :
     goal.returns-in_err-target_at-in-Branch-clause-err
 returns-in_err-target_at-in-Branch-clause-err c =
-    let short : FitsSigned w16 c.s2_at.result = search rules in
+    let short : FitsSigned w16 c.s2_at-in-Branch.result = search rules in
     let fits : FitsSigned w32 c.from-offset.result = search rules in
-    let same = to_z-of_z w32 _ fits ∙ c.from-offset.ensures ∙ to_z-of_z w16 _ short ∙ c.s2_at.ensures in
+    let same = to_z-of_z w32 _ fits ∙ c.from-offset.ensures ∙ to_z-of_z w16 _ short ∙ c.s2_at-in-Branch.ensures in
     rw c.in-Branch.is (handed_on c.from_residual.result _ _ c.from_residual.ensures.1 (miss_first _ _ _ [] _ _ same c.in_err-target_at-in-Branch.ensures.err))
 
 pub returns-in_err-target_at-in-LongBranch-clause-err :

@@ -1,6 +1,6 @@
 use Rattle.std.proofs.Common.{◌*◌, ◌≤◌, length, drop}
 use Rattle.cb_insn.specs.Faults.{numbers_at}
-use Rattle.cb_insn.specs.Reads.{pairs_of}
+use Rattle.cb_insn.specs.Inner.{pairs_of}
 use Rattle.cb_insn.proofs.Marks.{Walks}
 use Rattle.cb_insn.proofs.target.pairs_at.Given as goal
 

@@ -4,7 +4,7 @@ use Rattle.std.specs.Int.RustNames.{unsigned_abs}
 use lib.Signed.{lt_z, le_z}
 use Rattle.std.proofs.lemmas.Int.{ints}
 use Rattle.std.proofs.lemmas.List.{get_or_past}
-use Rattle.cb_insn.specs.Reads.{IsMarked}
+use Rattle.cb_insn.specs.Inner.{IsMarked}
 use Rattle.cb_insn.proofs.target.target_at.Goals as goal
 use Rattle.cb_insn.proofs.target.target_at.Goals.{then-target-lt0-via-then-target-lt0, then-target-lt0-via-else-target-lt0+then-target-starts, then-target-lt0-via-else-target-lt0+else-target-starts+then-not-starts-target}
 

@@ -1,6 +1,6 @@
 use Rattle.std.proofs.Common.{◌*◌, ◌≤◌, length, map}
 use Rattle.cb_insn.specs.Faults.{numbers_at}
-use Rattle.cb_insn.specs.Reads.{target_of}
+use Rattle.cb_insn.specs.Inner.{target_of}
 use Rattle.cb_insn.proofs.Marks.{Walks}
 use Rattle.cb_insn.proofs.target.targets_at.Given as goal
 

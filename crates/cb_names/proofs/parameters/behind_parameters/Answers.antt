@@ -1,22 +1,29 @@
-use Rattle.std.proofs.Common.{sym, ◌∙◌, arith}
-use Rattle.cb_names.proofs.Counting.{reached_more, first_left, none_left, same_rest}
+use Rattle.std.proofs.Common.{[], ◌∷◌, ◌++◌, arith}
+use Rattle.cb_names.specs.Types.{type_of}
+use Rattle.cb_names.proofs.ParameterTypes.{none_left, read_more, read_none, read_whole, words_left, words_more}
 use Rattle.cb_names.proofs.parameters.behind_parameters.Goals as goal
 
-pub returns-in_err-words-clause-only : goal.returns-in_err-words-clause-only
-returns-in_err-words-clause-only c = λ words rest few whole.
-    let here = c.loop-after.invariant.left words rest whole in
-    let next = first_left _ _ _ here.0 rest c.in-Some.ensures.found c.in-Some.ensures.only c.words_at.ensures here.2 in
-    absurd (c.in_err-words.ensures (omega (arith, here.1, next.1)))
+pub loop-parameter-init : goal.loop-parameter-init
+loop-parameter-init c = ([], read_none _, omega arith, omega arith)
 
-pub loop-after-preserved : goal.loop-after-preserved
-loop-after-preserved c =
-    rw c.in_ok-words.ensures.1 (reached_more _ _ _ _ _ c.loop-after.invariant c.in-Some.ensures.found c.in-Some.ensures.only c.words_at.ensures)
+pub returns-in_err-words : goal.returns-in_err-words
+returns-in_err-words c =
+    rw c.from_residual.ensures (λ types rest front few.
+    let so_far = c.loop-parameter.invariant in
+    c.in_err-words.ensures (omega (arith, so_far.2, c.words.ensures, words_left _ _ types _ _ _ rest so_far.1 c.in-Some.ensures front)))
 
-pub returns-in_err-behind_unit-clause-only : goal.returns-in_err-behind_unit-clause-only
-returns-in_err-behind_unit-clause-only c = λ words rest few whole.
-    absurd (c.in_err-behind_unit.ensures rest (none_left _ _ _ words rest c.loop-after.invariant c.in_default.ensures.only whole).1)
+pub loop-parameter-preserved : goal.loop-parameter-preserved
+loop-parameter-preserved c =
+    let so_far = c.loop-parameter.invariant in
+    let type = type_of c.in-Some.parameter in
+    (so_far.0 ++ type ∷ [], read_more _ _ _ _ _ so_far.1 c.in-Some.ensures, omega (arith, c.in_ok-words.ensures.1, so_far.2, c.words.ensures, words_more so_far.0 type), omega (arith, c.in_ok-words.ensures.0, c.in_ok-words.ensures.1))
 
-pub returns-clause-only : goal.returns-clause-only
-returns-clause-only c = λ words rest few whole.
-    let none = none_left _ _ _ words rest c.loop-after.invariant c.in_default.ensures.only whole in
-    (none.0, same_rest _ _ _ (sym c.in_ok-behind_unit.ensures ∙ none.1))
+pub returns-in_err-behind_unit : goal.returns-in_err-behind_unit
+returns-in_err-behind_unit c =
+    rw c.from_residual-in_err-behind_unit.ensures (λ types rest front few.
+    c.in_err-behind_unit.ensures rest (none_left _ _ types _ rest c.loop-parameter.invariant.1 c.in_default.ensures front))
+
+pub returns : goal.returns
+returns c =
+    let so_far = c.loop-parameter.invariant in
+    (so_far.0, read_whole _ _ _ _ so_far.1 c.in_ok-behind_unit.ensures, so_far.2, omega (arith, so_far.2, so_far.3))

@@ -1,9 +1,10 @@
-use Rattle.std.proofs.Common.{length}
-use Rattle.cb_names.proofs.Counting.{Reached}
+use Rattle.std.proofs.Common.{◌≡◌, ◌≤◌, List, length}
+use Rattle.cb_names.specs.Types.{JavaType, parameters_words}
+use Rattle.cb_names.proofs.ParameterTypes.{IsRead}
 use Rattle.cb_names.proofs.parameters.behind_parameters.Given as goal
 
-abbrev pub invariant-loop-after : goal.invariant-loop-after
-invariant-loop-after l = Reached l.text l.words l.rest
+abbrev pub invariant-loop-parameter : goal.invariant-loop-parameter
+invariant-loop-parameter l = (read : List JavaType) × IsRead l.text read l.rest × (l.words ≡ parameters_words read) × (l.words ≤ 255)
 
-abbrev pub decreases-loop-after : goal.decreases-loop-after
-decreases-loop-after l = length l.rest
+abbrev pub decreases-loop-parameter : goal.decreases-loop-parameter
+decreases-loop-parameter l = length l.rest

@@ -1,9 +1,0 @@
-use Rattle.std.proofs.Common.{◌-◌, length}
-use Rattle.cb_insn.proofs.Walking.{Marked}
-use Rattle.cb_insn.proofs.starts.starts.Given as goal
-
-abbrev pub invariant-loop-pc : goal.invariant-loop-pc
-invariant-loop-pc l = Marked l.bytes l.starts.items l.pc
-
-abbrev pub decreases-loop-pc : goal.decreases-loop-pc
-decreases-loop-pc l = length l.bytes - l.pc
