@@ -1,5 +1,5 @@
 // UTF-16 units as UTF-8 (RFC 3629).
-ghost use Rattle.std.specs.Prelude.{◌≡◌, ◌<◌, ◌++◌, ◌&&◌, [], true, length, IsErr, IfSome, MatchOption, OnOk, OnErr, unwrap_or};
+ghost use Rattle.std.specs.Prelude.{◌≡◌, ◌+◌, ◌<◌, ◌≤◌, ◌++◌, ◌&&◌, [], true, length, take, IsErr, IfSome, MatchOption, OnOk, OnErr, unwrap_or};
 ghost use Rattle.std.specs.Char.{encode_utf8};
 ghost use Rattle.std.specs.Char.Utf16.{is_high_surrogate, is_low_surrogate, lone_unit_char, surrogate_pair_char};
 ghost use Rattle.std.specs.Io.KnownBytes.{Appends};
@@ -9,6 +9,12 @@ ghost use Rattle.cb_io.specs.Utf8.{question_mark, utf8};
 
 use crate::{Failed, Sink, write_all};
 
+/// How many bytes are written in one call at most.
+const PIECE: usize = 256;
+
+/// How many bytes the longest character takes (RFC 3629, section 3).
+const LONGEST: usize = 4;
+
 /// Writes UTF-16 units as UTF-8, with `?` for a surrogate without its partner. After a failed call the sink has taken
 /// a proper prefix of that text, and isn't called again. Takes time in the number of units.
 pub fn utf8_of<S: Sink>(units: &[u16], sink: &mut S) -> Result<(), Failed>
@@ -17,13 +23,45 @@ pub fn utf8_of<S: Sink>(units: &[u16], sink: &mut S) -> Result<(), Failed>
     ensures cause { CountsFaults (S.faults sink.old) (S.faults sink.new) (IsErr result) }
 {
     let mut rest = units;
-    while let Some((character, behind)) = character_at(rest) {
-        let mut buffer = [0; 4];
-        let text = character.encode_utf8(&mut buffer);
-        write_all(sink, text.as_bytes())?;
+    while !rest.is_empty() {
+        let mut piece = [0; PIECE];
+        let (filled, behind) = fill(&mut piece, rest);
+        write_all(sink, &piece[..filled])?;
         rest = behind;
     }
     Ok(())
+}
+
+/// Fills a piece with the characters at the front of the units, while there is room for any character. Gives how many
+/// bytes that took, and the units behind them.
+fn fill<'a>(piece: &mut [u8; PIECE], units: &'a [u16]) -> (usize, &'a [u16])
+    ensures few { result.0 ≤ PIECE }
+    ensures shorter { 0 < length units.now → length result.1.now < length units.now }
+    ensures read { utf8 units.now ≡ take result.0 piece.new ++ utf8 result.1.now }
+{
+    let mut filled = 0;
+    let mut rest = units;
+    while filled <= PIECE - LONGEST {
+        let Some((character, behind)) = character_at(rest) else {
+            break;
+        };
+        let mut buffer = [0; LONGEST];
+        let text = character.encode_utf8(&mut buffer);
+        put(piece, filled, text.as_bytes());
+        filled += text.len();
+        rest = behind;
+    }
+    (filled, rest)
+}
+
+/// Puts bytes into a piece behind its first `filled` bytes, which stay.
+fn put(piece: &mut [u8; PIECE], filled: usize, bytes: &[u8])
+    requires { filled + length bytes.now ≤ PIECE }
+    ensures { take (filled + length bytes.now) piece.new ≡ take filled piece.old ++ bytes.now }
+{
+    for (index, byte) in bytes.iter().enumerate() {
+        piece[filled + index] = *byte;
+    }
 }
 
 /// The character at the front of the units, or `?` for a surrogate without its partner, and the units behind it.

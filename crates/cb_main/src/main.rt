@@ -1,8 +1,9 @@
 //! The program `cbvm`: the real folder, input and outputs, handed to the top call.
 #![tactic(auto)]
 
-ghost use Rattle.std.specs.Prelude.{◌≡◌, ◌≢◌, ◌↔◌, List, ℕ, drop, map, string_bytes, IfSome};
+ghost use Rattle.std.specs.Prelude.{◌≡◌, ◌≢◌, ◌↔◌, List, ℕ, drop, map, string_bytes, IfErr, IfOk, IfSome};
 ghost use Rattle.std.specs.Io.KnownBytes.{Appends};
+ghost use Rattle.std.specs.IoError.{error_kind};
 ghost use Rattle.std.specs.Process.{exit_status};
 ghost use Rattle.cb_io.specs.Faults.{CountsFaults};
 ghost use Rattle.cb_machine.specs.Expression.{Expression};
@@ -19,16 +20,28 @@ use std::process::ExitCode;
 use std::{env, io};
 
 fn main(rt: HostRuntime) -> ExitCode {
-    match words(&rt) {
-        Ok(words) => run(&rt, behind_name(words.as_slice())),
-        Err(error) => exit_without_words(error.kind()),
-    }
+    end_of_words(&rt, words(&rt))
 }
 
 /// The program's name and the words behind it.
 fn words(rt: &HostRuntime) -> io::Result<Vec<String>> {
     let words = env::args(rt)?.collect(rt.alloc())?;
     Ok(words)
+}
+
+/// Does what the words behind the program's name say, and gives the end of the program: that of want of memory, or of
+/// words that are no command, where the system gave none.
+fn end_of_words(rt: &HostRuntime, words: io::Result<Vec<String>>) -> ExitCode
+    ensures status { (cause : Cause) × (exit_status result ≡ status_of cause) }
+    ensures usage { IfOk words (λ words. (exit_status result ≡ 120)
+        ↔ ((name : List ℕ) → IsRun name (map string_bytes (drop 1 words.items)) → ⊥)) }
+    ensures memory { IfErr words (λ error. error_kind error ≡ ErrorKind.OutOfMemory → exit_status result ≡ 119) }
+    ensures unread { IfErr words (λ error. error_kind error ≢ ErrorKind.OutOfMemory → exit_status result ≡ 120) }
+{
+    match words {
+        Ok(words) => run(rt, behind_name(words.as_slice())),
+        Err(error) => exit_without_words(error.kind()),
+    }
 }
 
 /// All words but the first, which is the program's name.
@@ -44,6 +57,7 @@ fn behind_name(words: &[String]) -> &[String]
 /// The end where the words couldn't be read: that of want of memory, or of words that are no command, as words that
 /// aren't text are none.
 fn exit_without_words(kind: ErrorKind) -> ExitCode
+    ensures status { (cause : Cause) × (exit_status result ≡ status_of cause) }
     ensures memory { kind ≡ ErrorKind.OutOfMemory → exit_status result ≡ 119 }
     ensures usage { kind ≢ ErrorKind.OutOfMemory → exit_status result ≡ 120 }
 {
