@@ -8,6 +8,7 @@ use Rattle.cb_first_form.specs.declared.instruction.Instruction.TheVariants.{Get
 use Rattle.cb_first_form.specs.Depth.{entries_after}
 use Rattle.cb_first_form.specs.Instructions.{SpellsInstruction, IsNext, SpellsCode}
 use Rattle.cb_first_form.specs.Program.{code_of_program, greatest_of}
+use Rattle.cb_first_form.specs.Reading.{IsFront, IsFrontless}
 use Rattle.cb_first_form.proofs.Depths.{walk, ended, walk-step, walk-program, accepted_is_program}
 
 -- the walk over the code has come to the rest, with so many entries
@@ -66,15 +67,11 @@ few_more PrintLine (suc (suc zero)) next is = omega (arith, some_number 0 next i
 few_more PrintLine (suc (suc (suc entries))) next is = cc
 few_more Return entries next is = cc
 
--- this instruction stands at the front, and no other
-abbrev pub IsOnlyNext : Instruction → List ℕ → List ℕ → Type 0
-IsOnlyNext instruction after rest = (other : Instruction) (behind : List ℕ) → IsNext other behind rest → (instruction ≡ other) × (after ≡ behind)
-
-pub reached_more : (code rest after : List ℕ) (entries greatest next : ℕ) (instruction : Instruction) → Reached code rest entries greatest → IsNext instruction after rest → IsOnlyNext instruction after rest → instruction ≢ Return → entries_after instruction entries ≡ Some next → Reached code after next (max next greatest)
-reached_more code rest after entries greatest next instruction reached is_next only other is = record {
-  from_rest = λ instructions spelled. from_rest instructions (reached.from_rest (instruction ∷ instructions) (after, is_next, spelled));
+pub reached_more : (code rest after : List ℕ) (entries greatest next : ℕ) (instruction : Instruction) → Reached code rest entries greatest → IsFront IsNext instruction after rest → instruction ≢ Return → entries_after instruction entries ≡ Some next → Reached code after next (max next greatest)
+reached_more code rest after entries greatest next instruction reached here other is = record {
+  from_rest = λ instructions spelled. from_rest instructions (reached.from_rest (instruction ∷ instructions) (after, here.found, spelled));
   from_code = λ all spelled. from_code all (reached.from_code all spelled);
-  few = omega (arith, reached.few, few_more instruction entries next is, next_length instruction after rest is_next);
+  few = omega (arith, reached.few, few_more instruction entries next is, next_length instruction after rest here.found);
 } where
   step : (instructions : List Instruction) → walk (instruction ∷ instructions) entries greatest ≡ walk instructions next (max next greatest)
   step instructions = walk-step instruction instructions entries greatest other ∙ ap (option_and_then (λ n. walk instructions n (max n greatest))) is
@@ -83,42 +80,42 @@ reached_more code rest after entries greatest next instruction reached is_next o
   from_rest instructions (all, spelled, same) = (all, spelled, same ∙ step instructions)
 
   from_code : (all : List Instruction) → (instructions : List Instruction) × SpellsCode rest instructions × (walk all 0 0 ≡ walk instructions entries greatest) → (instructions : List Instruction) × SpellsCode after instructions × (walk all 0 0 ≡ walk instructions next (max next greatest))
-  from_code all ([], spelled, same) = absurd (omega (arith, next_length instruction after rest is_next, ap length spelled))
+  from_code all ([], spelled, same) = absurd (omega (arith, next_length instruction after rest here.found, ap length spelled))
   from_code all (first ∷ instructions, (behind, is_first, more), same) =
-      let alike = only first behind is_first in
+      let alike = here.only first behind is_first in
       (instructions, subst (λ bytes. SpellsCode bytes instructions) (sym alike.1) more, same ∙ ap (λ i. walk (i ∷ instructions) entries greatest) (sym alike.0) ∙ step instructions)
 
 -- where the rest begins with an instruction, so does what is left of a program that the code spells
-pub program_next : (code rest after : List ℕ) (entries greatest : ℕ) (instruction : Instruction) → Reached code rest entries greatest → IsOnlyNext instruction after rest → (program : List Expression) → SpellsCode code (code_of_program program) → (instructions : List Instruction) × SpellsCode after instructions × (walk (instruction ∷ instructions) entries greatest ≡ Some (greatest_of program))
-program_next code rest after entries greatest instruction reached only program spelled = go (reached.from_code (code_of_program program) spelled) where
+pub program_next : (code rest after : List ℕ) (entries greatest : ℕ) (instruction : Instruction) → Reached code rest entries greatest → IsFront IsNext instruction after rest → (program : List Expression) → SpellsCode code (code_of_program program) → (instructions : List Instruction) × SpellsCode after instructions × (walk (instruction ∷ instructions) entries greatest ≡ Some (greatest_of program))
+program_next code rest after entries greatest instruction reached here program spelled = go (reached.from_code (code_of_program program) spelled) where
   accepted : walk (code_of_program program) 0 0 ≡ Some (greatest_of program)
   accepted = walk-program program 0 ∙ ap Some (omega arith)
 
   go : (instructions : List Instruction) × SpellsCode rest instructions × (walk (code_of_program program) 0 0 ≡ walk instructions entries greatest) → (instructions : List Instruction) × SpellsCode after instructions × (walk (instruction ∷ instructions) entries greatest ≡ Some (greatest_of program))
   go ([], none, same) = let none_is_some : None ≡ Some (greatest_of program) = sym same ∙ accepted in cc
   go (first ∷ instructions, (behind, is_first, more), same) =
-      let alike = only first behind is_first in
+      let alike = here.only first behind is_first in
       (instructions, subst (λ bytes. SpellsCode bytes instructions) (sym alike.1) more, ap (λ i. walk (i ∷ instructions) entries greatest) alike.0 ∙ sym same ∙ accepted)
 
 -- nothing is left of the code behind a return between statements, so it is a program's
-pub ends : (code rest after : List ℕ) (entries greatest : ℕ) → Reached code rest entries greatest → IsNext Return after rest → entries ≡ 0 → after ≡ [] → (program : List Expression) × SpellsCode code (code_of_program program)
-ends code rest after entries greatest reached next no_entry no_rest =
-    let all = reached.from_rest (Return ∷ []) (after, next, no_rest) in
+pub ends : (code rest after : List ℕ) (entries greatest : ℕ) → Reached code rest entries greatest → IsFront IsNext Return after rest → entries ≡ 0 → after ≡ [] → (program : List Expression) × SpellsCode code (code_of_program program)
+ends code rest after entries greatest reached here no_entry no_rest =
+    let all = reached.from_rest (Return ∷ []) (after, here.found, no_rest) in
     let found : IsSome (walk all.0 0 0) = rw (all.2, no_entry) refl in
     let program = accepted_is_program all.0 0 found in
     (program.0, subst (SpellsCode code) program.1 all.1)
 
 -- and no other program's
-pub ends_at : (code rest after : List ℕ) (entries greatest : ℕ) → Reached code rest entries greatest → IsOnlyNext Return after rest → entries ≡ 0 → after ≡ [] → (program : List Expression) → SpellsCode code (code_of_program program) → Some greatest ≡ Some (greatest_of program)
-ends_at code rest after entries greatest reached only no_entry no_rest program spelled =
-    let left = program_next code rest after entries greatest Return reached only program spelled in
+pub ends_at : (code rest after : List ℕ) (entries greatest : ℕ) → Reached code rest entries greatest → IsFront IsNext Return after rest → entries ≡ 0 → after ≡ [] → (program : List Expression) → SpellsCode code (code_of_program program) → Some greatest ≡ Some (greatest_of program)
+ends_at code rest after entries greatest reached here no_entry no_rest program spelled =
+    let left = program_next code rest after entries greatest Return reached here program spelled in
     let none = spells_none left.0 (subst (λ bytes. SpellsCode bytes left.0) no_rest left.1) in
     rw (none, no_entry) at left.2
 
 -- behind a return in a statement, or before more code, there is no program
-pub ends_early : (code rest after : List ℕ) (entries greatest : ℕ) → Reached code rest entries greatest → IsOnlyNext Return after rest → (entries ≡ 0 → after ≡ [] → ⊥) → (program : List Expression) → SpellsCode code (code_of_program program) → ⊥
-ends_early code rest after entries greatest reached only early program spelled =
-    let left = program_next code rest after entries greatest Return reached only program spelled in
+pub ends_early : (code rest after : List ℕ) (entries greatest : ℕ) → Reached code rest entries greatest → IsFront IsNext Return after rest → (entries ≡ 0 → after ≡ [] → ⊥) → (program : List Expression) → SpellsCode code (code_of_program program) → ⊥
+ends_early code rest after entries greatest reached here early program spelled =
+    let left = program_next code rest after entries greatest Return reached here program spelled in
     go left.0 left.1 entries early left.2
   where
     go : (instructions : List Instruction) → SpellsCode after instructions → (entries : ℕ) → (entries ≡ 0 → after ≡ [] → ⊥) → ended instructions entries greatest ≡ Some (greatest_of program) → ⊥
@@ -127,14 +124,14 @@ ends_early code rest after entries greatest reached only early program spelled =
     go (instruction ∷ instructions) more entries early is = cc
 
 -- where an instruction may not stand there is no program
-pub stops : (code rest after : List ℕ) (entries greatest : ℕ) (instruction : Instruction) → Reached code rest entries greatest → IsOnlyNext instruction after rest → instruction ≢ Return → entries_after instruction entries ≡ None → (program : List Expression) → SpellsCode code (code_of_program program) → ⊥
-stops code rest after entries greatest instruction reached only other none program spelled =
-    let left = program_next code rest after entries greatest instruction reached only program spelled in
+pub stops : (code rest after : List ℕ) (entries greatest : ℕ) (instruction : Instruction) → Reached code rest entries greatest → IsFront IsNext instruction after rest → instruction ≢ Return → entries_after instruction entries ≡ None → (program : List Expression) → SpellsCode code (code_of_program program) → ⊥
+stops code rest after entries greatest instruction reached here other none program spelled =
+    let left = program_next code rest after entries greatest instruction reached here program spelled in
     let none_is_some : None ≡ Some (greatest_of program) = sym (walk-step instruction left.0 entries greatest other ∙ ap (option_and_then (λ n. walk left.0 n (max n greatest))) none) ∙ left.2 in
     cc
 
 -- where no instruction stands there is no program
-pub breaks_off : (code rest : List ℕ) (entries greatest : ℕ) → Reached code rest entries greatest → ((instruction : Instruction) (after : List ℕ) → IsNext instruction after rest → ⊥) → (program : List Expression) → SpellsCode code (code_of_program program) → ⊥
+pub breaks_off : (code rest : List ℕ) (entries greatest : ℕ) → Reached code rest entries greatest → IsFrontless IsNext rest → (program : List Expression) → SpellsCode code (code_of_program program) → ⊥
 breaks_off code rest entries greatest reached none program spelled = go (reached.from_code (code_of_program program) spelled) where
   go : (instructions : List Instruction) × SpellsCode rest instructions × (walk (code_of_program program) 0 0 ≡ walk instructions entries greatest) → ⊥
   go ([], empty, same) = let none_is_some : None ≡ Some (max (greatest_of program) 0) = sym same ∙ walk-program program 0 in cc

@@ -10,6 +10,7 @@ use Rattle.cb_first_form.specs.FirstForm.{SpellsProgram}
 use Rattle.cb_first_form.specs.Frame.{front, back, attribute_of}
 use Rattle.cb_first_form.specs.Instructions.{IsNext, SpellsCode, opcode_of}
 use Rattle.cb_first_form.specs.Program.{code_of_expression, code_of_program}
+use Rattle.cb_first_form.specs.Reading.{IsFront}
 use Rattle.cb_first_form.proofs.Scanning.{next_length}
 use Rattle.cb_first_form.proofs.Spelling.{behind_same, before_same}
 
@@ -140,6 +141,11 @@ one_shape one other rest behind code first second = absurd (omega (arith, same_k
 one_next : (one other : Instruction) (rest behind code : List ℕ) → IsNext one rest code → IsNext other behind code → (one ≡ other) × (rest ≡ behind)
 one_next one other rest behind code first second =
     one_shape one other rest behind code (shape_of one rest code first) (shape_of other behind code second)
+
+-- so what is found there is all that stands there
+pub only_next : {instruction : Instruction} {rest code : List ℕ} → IsNext instruction rest code → IsFront IsNext instruction rest code
+only_next {instruction} {rest} {code} next =
+    record { found = next; only = λ other behind too. one_next instruction other rest behind code next too }
 
 -- and one list of instructions spells the code
 one_code : (one other : List Instruction) (code : List ℕ) → SpellsCode code one → SpellsCode code other → one ≡ other

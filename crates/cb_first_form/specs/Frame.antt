@@ -1,12 +1,20 @@
 -- The frame of a first-form file: all its bytes but the code and two numbers (JVMS §4.1, §4.4, §4.6, §4.7.3).
-use Rattle.std.specs.Prelude.{ℕ, ◌+◌, List, ◌∷◌, ◌++◌, length, codes}
+use Rattle.std.specs.Prelude.{◌≡◌, ℕ, ◌+◌, ◌^◌, ◌<◌, List, ◌∷◌, ◌++◌, length, codes}
 use Rattle.std.specs.Int.{w16, w32, to_be_bytes}
+use Rattle.cb_first_form.specs.declared.frame.Header.{Header}
 
 abbrev pub u2 : ℕ → List ℕ
 u2 number = to_be_bytes w16 number
 
 abbrev pub u4 : ℕ → List ℕ
 u4 number = to_be_bytes w32 number
+
+-- a number of two and of four bytes at the front of the bytes, and rest behind it
+abbrev pub IsU2 : ℕ → List ℕ → List ℕ → Type 0
+IsU2 number rest bytes = (number < 2 ^ 16) × (bytes ≡ u2 number ++ rest)
+
+abbrev pub IsU4 : ℕ → List ℕ → List ℕ → Type 0
+IsU4 number rest bytes = (number < 2 ^ 32) × (bytes ≡ u4 number ++ rest)
 
 -- the constants of the pool, by their tags
 abbrev pub utf8 : List ℕ → List ℕ
@@ -49,14 +57,15 @@ abbrev pub back : List ℕ
 back = u2 0 ++ u2 0 ++ u2 0
 
 -- the numbers before the code
-abbrev pub header_of : ℕ → ℕ → ℕ → ℕ → List ℕ
-header_of attribute_length max_stack max_locals code_length =
-    u4 attribute_length ++ u2 max_stack ++ u2 max_locals ++ u4 code_length
+abbrev pub IsHeader : Header → List ℕ → List ℕ → Type 0
+IsHeader header rest bytes =
+    (header.attribute_length < 2 ^ 32) × (header.max_stack < 2 ^ 16) × (header.max_locals < 2 ^ 16) × (header.code_length < 2 ^ 32)
+    × (bytes ≡ u4 header.attribute_length ++ u2 header.max_stack ++ u2 header.max_locals ++ u4 header.code_length ++ rest)
 
 -- the length of the attribute Code, the attribute, and what stands behind it
 abbrev pub attribute_of : ℕ → ℕ → List ℕ → List ℕ
 attribute_of max_stack max_locals code =
-    header_of (12 + length code) max_stack max_locals (length code) ++ (code ++ back)
+    u4 (12 + length code) ++ u2 max_stack ++ u2 max_locals ++ u4 (length code) ++ (code ++ back)
 
 -- the whole file
 abbrev pub file_of : ℕ → ℕ → List ℕ → List ℕ

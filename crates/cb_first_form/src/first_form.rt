@@ -1,11 +1,13 @@
 // The reader of first-form files.
-ghost use Rattle.std.specs.Prelude.{List, IsOk, IsOkAnd};
+ghost use Rattle.std.specs.Prelude.{List, IsOk, IsOkAnd, Some};
 ghost use Rattle.cb_machine.specs.Expression.{Expression};
 ghost use Rattle.cb_first_form.specs.FirstForm.{SpellsProgram, RunsProgram};
+ghost use Rattle.cb_first_form.specs.Messages.{not_first_form_text};
 
 use crate::depth::greatest_depth;
 use crate::frame::read_frame;
-use thiserror::Error;
+use std::error::Error;
+use std::fmt;
 
 /// The code of a first-form file, and how many entries its operand stack may have.
 #[derive(Clone, Copy, Debug)]
@@ -17,9 +19,18 @@ pub struct FirstForm<'a> {
 }
 
 /// The bytes are no first-form file.
-#[derive(Clone, Copy, Debug, PartialEq, Eq, Error)]
-#[error("not a class file of the first form")]
+#[derive(Clone, Copy, Debug, PartialEq, Eq)]
 pub struct NotFirstForm;
+
+impl fmt::Display for NotFirstForm {
+    ghost output = { λ _. Some not_first_form_text };
+
+    fn fmt<W: fmt::Write>(&self, f: &mut fmt::Formatter<W>) -> fmt::Result {
+        f.write_str("not a class file of the first form")
+    }
+}
+
+impl Error for NotFirstForm {}
 
 /// The greatest length of code (JVMS §4.7.3).
 const MAX_CODE_LENGTH: usize = 65535;

@@ -1,6 +1,7 @@
 // The frame of a first-form file: its constant pool and all else around the code.
 ghost use Rattle.std.specs.Prelude.{◌≡◌, ◌≢◌, ◌^◌, ◌<◌, ◌++◌, ℕ, List, length, IfSome, IsSomeAnd, MatchOption};
-ghost use Rattle.cb_first_form.specs.Frame.{front, back, header_of, file_of};
+ghost use Rattle.cb_first_form.specs.Frame.{IsHeader, front, back, file_of};
+ghost use Rattle.cb_first_form.specs.Reading.{Reads};
 
 use crate::numbers::{u2_at, u4_at};
 
@@ -58,13 +59,7 @@ pub(crate) fn read_frame(bytes: &[u8]) -> Option<CodeAttribute<'_>>
 
 /// The numbers at the front, and what stands behind them.
 fn header_at(bytes: &[u8]) -> Option<(Header, &[u8])>
-    ensures found { IfSome result (λ read. bytes.now
-        ≡ header_of read.0.attribute_length read.0.max_stack read.0.max_locals read.0.code_length ++ read.1.now) }
-    ensures only { (attribute_length max_stack max_locals code_length : ℕ) (rest : List ℕ)
-        → attribute_length < 2 ^ 32 → max_stack < 2 ^ 16 → max_locals < 2 ^ 16 → code_length < 2 ^ 32
-        → bytes.now ≡ header_of attribute_length max_stack max_locals code_length ++ rest
-        → IsSomeAnd result (λ read. (read.0.attribute_length ≡ attribute_length) × (read.0.max_stack ≡ max_stack)
-        × (read.0.max_locals ≡ max_locals) × (read.0.code_length ≡ code_length) × (read.1.now ≡ rest)) }
+    ensures { Reads IsHeader bytes.now result }
 {
     let (attribute_length, rest) = u4_at(bytes)?;
     let (max_stack, rest) = u2_at(rest)?;

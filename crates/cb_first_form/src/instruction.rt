@@ -1,8 +1,8 @@
 // The instructions of a first-form program, and their bytes.
-ghost use Rattle.std.specs.Prelude.{◌≡◌, ◌<◌, List, [], ◌∷◌, ℕ, length, slice_index, IfSome, IsSomeAnd, MatchOption};
+ghost use Rattle.std.specs.Prelude.{◌≡◌, ◌<◌, List, [], ◌∷◌, ℕ, length, slice_index, IfSome, MatchOption};
 ghost use Rattle.std.specs.Int.{w8, w16, cast_signed, from_be_bytes};
-ghost use Rattle.cb_first_form.specs.declared.instruction.Instruction.{Instruction};
 ghost use Rattle.cb_first_form.specs.Instructions.{IsNext};
+ghost use Rattle.cb_first_form.specs.Reading.{Reads};
 
 use cb_machine::Operator;
 
@@ -24,10 +24,8 @@ pub enum Instruction {
 /// The instruction at the front of some code, and the code behind it, or `None` where no instruction of the first
 /// form is a front of it.
 pub fn next_instruction(code: &[u8]) -> Option<(Instruction, &[u8])>
-    ensures found { IfSome result (λ next. IsNext next.0 next.1.now code.now) }
+    ensures next { Reads IsNext code.now result }
     ensures shorter { IfSome result (λ next. length next.1.now < length code.now) }
-    ensures only { (instruction : Instruction) (rest : List ℕ) → IsNext instruction rest code.now
-        → IsSomeAnd result (λ next. (next.0 ≡ instruction) × (next.1.now ≡ rest)) }
 {
     let (opcode, operands) = code.split_first()?;
     match *opcode {

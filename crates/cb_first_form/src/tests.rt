@@ -1,5 +1,5 @@
 // Instructions as `javap` reads them, and files that differ from a first-form file in one place.
-use crate::{Instruction, next_instruction, read_first_form};
+use crate::{Instruction, NotFirstForm, next_instruction, read_first_form};
 use cb_machine::Operator;
 use std::test::Fail;
 
@@ -37,6 +37,13 @@ fn instructions_are_read_by_their_opcodes(rt: HostRuntime) {
         let next = next_instruction(code).map(|(instruction, rest)| (instruction, rest.len()));
         assert_eq!(rt; next, want, "at {code:?}");
     }
+}
+
+#[test]
+fn a_refusal_is_told_in_words(rt: HostRuntime) -> Result<(), Fail> {
+    let words = format!(in rt.alloc(); "{}", NotFirstForm)?;
+    assert_eq!(rt; words.as_str(), "not a class file of the first form");
+    Ok(())
 }
 
 #[test]

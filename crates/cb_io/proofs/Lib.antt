@@ -1,4 +1,5 @@
 pub mod Characters
 pub mod Files
+pub mod Laws
 pub mod Whole
 pub mod Writing

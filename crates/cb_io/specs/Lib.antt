@@ -3,6 +3,7 @@ pub mod Calls
 pub mod Faults
 pub mod Folder
 pub mod Memory
+pub mod Messages
 pub mod Sink
 pub mod System
 pub mod Utf8

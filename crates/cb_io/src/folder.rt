@@ -1,15 +1,16 @@
 // A folder of files.
-ghost use Rattle.std.specs.Prelude.{◌≡◌, ◌≤◌, ℕ, Option, IfOk, IfSome, IsErrOf};
+ghost use Rattle.std.specs.Prelude.{◌≡◌, ◌≤◌, ℕ, Option, IfOk, IfSome, IsErrOf, Some};
 ghost use Rattle.std.specs.IoError.{error_kind};
 ghost use Rattle.cb_io.specs.Faults.{CountsFaults};
 ghost use Rattle.cb_io.specs.Folder.{Files, Finds, IsWithin};
+ghost use Rattle.cb_io.specs.Messages.{folder_error_text};
 ghost use Rattle.cb_io.specs.System.{folder_error};
 ghost use Rattle.cb_io.specs.declared.folder.FolderError.TheVariants.{OutOfMemory};
 
 use std::alloc::{AllocError, AllocFailed, Global};
-use std::io;
+use std::error::Error;
 use std::io::ErrorKind;
-use thiserror::Error;
+use std::{fmt, io};
 
 /// What a folder has at a path.
 #[derive(Debug, Drop)]
@@ -23,15 +24,26 @@ pub enum Found {
 }
 
 /// Why a folder has no answer.
-#[derive(Clone, Copy, Debug, PartialEq, Eq, Error)]
+#[derive(Clone, Copy, Debug, PartialEq, Eq)]
 pub enum FolderError {
     /// The call failed, and the folder's count of faults rose.
-    #[error("the folder failed")]
     Failed,
     /// No memory was to be had for the file.
-    #[error("out of memory")]
     OutOfMemory,
 }
+
+impl fmt::Display for FolderError {
+    ghost output = { λ error. Some (folder_error_text error) };
+
+    fn fmt<W: fmt::Write>(&self, f: &mut fmt::Formatter<W>) -> fmt::Result {
+        f.write_str(match self {
+            FolderError::Failed => "the folder failed",
+            FolderError::OutOfMemory => "out of memory",
+        })
+    }
+}
+
+impl Error for FolderError {}
 
 impl From<AllocError> for FolderError {
     ghost from_gives = { λ _ error. error ≡ OutOfMemory };

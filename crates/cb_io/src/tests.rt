@@ -202,6 +202,13 @@ fn streams_that_fail_or_take_nothing_are_faults(rt: HostRuntime) -> Result<(), F
 }
 
 #[test]
+fn errors_are_told_in_words(rt: HostRuntime) -> Result<(), Fail> {
+    let words = format!(in rt.alloc(); "{}, {}", Failed, FolderError::Failed)?;
+    assert_eq!(rt; words.as_str(), "an outside call failed, the folder failed");
+    Ok(())
+}
+
+#[test]
 fn units_are_written_as_utf_8(rt: HostRuntime) -> Result<(), Fail> {
     for (units, want) in [
         ([0x24, 0xA2].as_slice(), b"$\xC2\xA2".as_slice()),

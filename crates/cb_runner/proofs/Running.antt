@@ -8,9 +8,9 @@ use Rattle.cb_first_form.specs.declared.instruction.Instruction.TheVariants.{Ope
 use Rattle.cb_first_form.specs.Instructions.{IsNext, SpellsCode}
 use Rattle.cb_first_form.specs.FirstForm.{RunsProgram}
 use Rattle.cb_first_form.specs.Program.{code_of_expression, code_of_program, entries_of, greatest_of}
-use Rattle.cb_first_form.proofs.Scanning.{IsOnlyNext}
+use Rattle.cb_first_form.specs.Reading.{IsFront, IsFrontless}
 use Rattle.cb_io.specs.Sink.{AppendsProperPrefix}
-use Rattle.cb_io.proofs.Writing.{Appends-Appends}
+use Rattle.cb_io.proofs.Laws.{Appends-Appends}
 use Rattle.cb_runner.specs.Execution.{stack_after, text_of}
 
 -- the instructions run from this stack to their end, within the limit, and print this text
@@ -81,12 +81,12 @@ pub record Steps (limit : ℕ) (instruction : Instruction) (after : List ℕ) (s
   pub whole : printed program ≡ done ++ (text_of instruction stack ++ text)
   pub remains : Remains limit after next (done ++ text_of instruction stack) program
 
-pub remains_next : (limit : ℕ) (rest after : List ℕ) (stack : List ℤ) (done : List ℕ) (program : List Expression) (instruction : Instruction) → Remains limit rest stack done program → length after < length rest → IsOnlyNext instruction after rest → Steps limit instruction after stack done program
-remains_next limit rest after stack done program instruction remains shorter only = go remains.instructions remains.spelled remains.executes where
+pub remains_next : (limit : ℕ) (rest after : List ℕ) (stack : List ℤ) (done : List ℕ) (program : List Expression) (instruction : Instruction) → Remains limit rest stack done program → length after < length rest → IsFront IsNext instruction after rest → Steps limit instruction after stack done program
+remains_next limit rest after stack done program instruction remains shorter here = go remains.instructions remains.spelled remains.executes where
   go : (instructions : List Instruction) → SpellsCode rest instructions → Executes limit instructions stack remains.text → Steps limit instruction after stack done program
   go [] none executes = absurd (omega (arith, ap length none))
   go (first ∷ instructions) (behind, is_first, more) (next, text, steps, fits, splits, then) =
-      let alike = only first behind is_first in
+      let alike = here.only first behind is_first in
       let whole : printed program ≡ done ++ (text_of instruction stack ++ text) = remains.whole ∙ ap (λ t. done ++ t) (splits ∙ ap (λ i. text_of i stack ++ text) (sym alike.0)) in
       record {
         next = next;
@@ -104,11 +104,11 @@ remains_next limit rest after stack done program instruction remains shorter onl
       }
 
 -- one more instruction has printed its text
-pub running_more : (limit : ℕ) (code rest after : List ℕ) (stack next : List ℤ) (old mid new : Option (List ℕ)) (before now later : ℕ) (instruction : Instruction) → Running limit code rest stack old mid before now → length after < length rest → IsOnlyNext instruction after rest → stack_after instruction stack ≡ Some next → Appends mid new (text_of instruction stack) → now ≤ later → (now < 2 ^ 64 - 1 → now < later → ⊥) → Running limit code after next old new before later
-running_more limit code rest after stack next old mid new before now later instruction running shorter only steps more rises none = record {
+pub running_more : (limit : ℕ) (code rest after : List ℕ) (stack next : List ℤ) (old mid new : Option (List ℕ)) (before now later : ℕ) (instruction : Instruction) → Running limit code rest stack old mid before now → length after < length rest → IsFront IsNext instruction after rest → stack_after instruction stack ≡ Some next → Appends mid new (text_of instruction stack) → now ≤ later → (now < 2 ^ 64 - 1 → now < later → ⊥) → Running limit code after next old new before later
+running_more limit code rest after stack next old mid new before now later instruction running shorter here steps more rises none = record {
   done = running.done ++ text_of instruction stack;
   taken = Appends-Appends old mid new running.done (text_of instruction stack) running.taken more;
-  remains = λ program runs. remains program (remains_next limit rest after stack running.done program instruction (running.remains program runs) shorter only);
+  remains = λ program runs. remains program (remains_next limit rest after stack running.done program instruction (running.remains program runs) shorter here);
   never_falls = omega (arith, running.never_falls);
   unfailed = λ below. still below;
 } where
@@ -121,9 +121,9 @@ running_more limit code rest after stack next old mid new before now later instr
   still below = let same : now ≤ before = running.unfailed below in omega (arith, none (omega arith))
 
 -- an instruction's text was cut short, and so was the program's
-pub running_cut : (limit : ℕ) (code rest after : List ℕ) (stack : List ℤ) (old mid new : Option (List ℕ)) (before now : ℕ) (instruction : Instruction) → Running limit code rest stack old mid before now → length after < length rest → IsOnlyNext instruction after rest → AppendsProperPrefix mid new (text_of instruction stack) → (program : List Expression) → RunsProgram limit code program → AppendsProperPrefix old new (printed program)
-running_cut limit code rest after stack old mid new before now instruction running shorter only (front, taken, proper) program runs =
-    let stepped = remains_next limit rest after stack running.done program instruction (running.remains program runs) shorter only in
+pub running_cut : (limit : ℕ) (code rest after : List ℕ) (stack : List ℤ) (old mid new : Option (List ℕ)) (before now : ℕ) (instruction : Instruction) → Running limit code rest stack old mid before now → length after < length rest → IsFront IsNext instruction after rest → AppendsProperPrefix mid new (text_of instruction stack) → (program : List Expression) → RunsProgram limit code program → AppendsProperPrefix old new (printed program)
+running_cut limit code rest after stack old mid new before now instruction running shorter here (front, taken, proper) program runs =
+    let stepped = remains_next limit rest after stack running.done program instruction (running.remains program runs) shorter here in
     let text : text_of instruction stack ++ stepped.text ≡ front ++ (proper.rest ++ stepped.text) = ap (λ t. t ++ stepped.text) proper.whole ∙ append_assoc front proper.rest stepped.text in (
       running.done ++ front,
       Appends-Appends old mid new running.done front running.taken taken,
@@ -135,7 +135,7 @@ running_cut limit code rest after stack old mid new before now instruction runni
     )
 
 -- at the end all is printed
-pub running_end : (limit : ℕ) (code rest : List ℕ) (stack : List ℤ) (old new : Option (List ℕ)) (before now : ℕ) → Running limit code rest stack old new before now → ((instruction : Instruction) (after : List ℕ) → IsNext instruction after rest → ⊥) → (program : List Expression) → RunsProgram limit code program → Appends old new (printed program)
+pub running_end : (limit : ℕ) (code rest : List ℕ) (stack : List ℤ) (old new : Option (List ℕ)) (before now : ℕ) → Running limit code rest stack old new before now → IsFrontless IsNext rest → (program : List Expression) → RunsProgram limit code program → Appends old new (printed program)
 running_end limit code rest stack old new before now running none program runs =
     let remains = running.remains program runs in go remains.instructions remains.text remains.spelled remains.executes remains.whole
   where

@@ -1,5 +1,9 @@
 // How a call ends, and the status that tells it.
-use thiserror::Error;
+ghost use Rattle.std.specs.Prelude.{Some};
+ghost use Rattle.cb_runner.specs.Messages.{refusal_text};
+
+use std::error::Error;
+use std::fmt;
 
 /// How a call ended.
 #[derive(Clone, Copy, Debug, PartialEq, Eq)]
@@ -19,15 +23,26 @@ pub enum Cause {
 }
 
 /// Why a program was refused.
-#[derive(Clone, Copy, Debug, PartialEq, Eq, Error)]
+#[derive(Clone, Copy, Debug, PartialEq, Eq)]
 pub enum Refusal {
     /// The class has no file.
-    #[error("E1 missing class First")]
     MissingClass,
     /// The class has a file that isn't of the first form, or has more than 1,048,576 bytes.
-    #[error("E4 unsupported not yet in class First")]
     NotYet,
 }
+
+impl fmt::Display for Refusal {
+    ghost output = { λ refusal. Some (refusal_text refusal) };
+
+    fn fmt<W: fmt::Write>(&self, f: &mut fmt::Formatter<W>) -> fmt::Result {
+        f.write_str(match self {
+            Refusal::MissingClass => "E1 missing class First",
+            Refusal::NotYet => "E4 unsupported not yet in class First",
+        })
+    }
+}
+
+impl Error for Refusal {}
 
 impl Cause {
     ghost use Rattle.std.specs.Prelude.{◌≡◌};

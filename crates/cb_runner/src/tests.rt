@@ -99,6 +99,13 @@ fn programs_print_what_another_machine_prints(rt: HostRuntime) -> Result<(), Fai
 }
 
 #[test]
+fn a_refusal_is_told_in_words(rt: HostRuntime) -> Result<(), Fail> {
+    let words = format!(in rt.alloc(); "{}", Refusal::NotYet)?;
+    assert_eq!(rt; words.as_str(), "E4 unsupported not yet in class First");
+    Ok(())
+}
+
+#[test]
 fn other_files_and_words_are_refused(rt: HostRuntime) -> Result<(), Fail> {
     let alloc = rt.alloc();
     let long = vec![in alloc; 0u8; 1_048_577]?;
