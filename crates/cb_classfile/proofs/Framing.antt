@@ -2,7 +2,7 @@
 use Rattle.std.proofs.Common.{◌≡◌, ◌≢◌, ◌↔◌, ℕ, List, [], ◌∷◌, ◌++◌, refl, ◌∙◌, ap, arith}
 use Rattle.cb_text.specs.declared.constant.Constant.{Constant}
 use Rattle.cb_classfile.specs.declared.frame_map.MapFrame.{MapFrame}
-use Rattle.cb_classfile.specs.FrameMap.{SpellsDelta, SpellsType}
+use Rattle.cb_classfile.specs.FrameMap.{SpellsDelta, SpellsType, type_bytes}
 use Rattle.cb_classfile.specs.declared.map_type.MapType.{MapType}
 use Rattle.cb_classfile.specs.declared.map_type.MapType.TheVariants.{Top, Integer, Float, Double, Long, Null, UninitializedThis, Object, Uninitialized}
 use Rattle.cb_classfile.specs.declared.frame_form.FrameForm.{FrameForm}
@@ -39,18 +39,21 @@ behind_tag (Object class) = u2 class
 behind_tag (Uninitialized place) = u2 place
 behind_tag other = []
 
--- a type is spelled by these
-pub type_spelled : (pool : List Constant) (bytes : List ℕ) (type : MapType) → SpellsType pool bytes type → bytes ≡ tag_of type ∷ behind_tag type
+-- the bytes of a type are these
+tagged : (type : MapType) → type_bytes type ≡ tag_of type ∷ behind_tag type
 unfolding tag_of behind_tag
-type_spelled pool bytes (Object class) spelled = spelled.2
-type_spelled pool bytes (Uninitialized place) spelled = spelled.1
-type_spelled pool bytes Top spelled = spelled
-type_spelled pool bytes Integer spelled = spelled
-type_spelled pool bytes Float spelled = spelled
-type_spelled pool bytes Double spelled = spelled
-type_spelled pool bytes Long spelled = spelled
-type_spelled pool bytes Null spelled = spelled
-type_spelled pool bytes UninitializedThis spelled = spelled
+tagged (Object class) = refl
+tagged (Uninitialized place) = refl
+tagged Top = refl
+tagged Integer = refl
+tagged Float = refl
+tagged Double = refl
+tagged Long = refl
+tagged Null = refl
+tagged UninitializedThis = refl
+
+pub type_spelled : (pool : List Constant) (bytes : List ℕ) (type : MapType) → SpellsType pool bytes type → bytes ≡ tag_of type ∷ behind_tag type
+type_spelled pool bytes type spelled = spelled.spelled ∙ tagged type
 
 -- the tag at the front of a type
 pub tag_stands : (pool : List Constant) {bytes rest : List ℕ} (type : MapType) → BeginsWith (SpellsType pool) bytes type rest → BeginsWith SpellsU1 bytes (tag_of type) (behind_tag type ++ rest)
@@ -61,11 +64,11 @@ tag_stands pool {bytes} {rest} type (first, spelled, split) =
 pub object_behind : {P : Type 0} (pool : List Constant) {bytes middle : List ℕ} {tag : ℕ} → tag ≡ 7 → IsFront SpellsU1 bytes tag middle → ((index : ℕ) (rest : List ℕ) → BeginsWith SpellsU2 middle index rest → P) → (type : MapType) (rest : List ℕ) → BeginsWith (SpellsType pool) bytes type rest → P
 unfolding tag_of behind_tag
 object_behind pool is here next (Object class) rest begins =
-    next class rest (u2 class, (begins.1.1, refl), (here.only _ _ (tag_stands pool (Object class) begins)).1)
+    next class rest (u2 class, (begins.1.allowed.1, refl), (here.only _ _ (tag_stands pool (Object class) begins)).1)
 object_behind pool is here next type rest begins = absurd (omega (arith, is, (here.only _ _ (tag_stands pool type begins)).0))
 
 pub uninitialized_behind : {P : Type 0} (pool : List Constant) {bytes middle : List ℕ} {tag : ℕ} → tag ≡ 8 → IsFront SpellsU1 bytes tag middle → ((place : ℕ) (rest : List ℕ) → BeginsWith SpellsU2 middle place rest → P) → (type : MapType) (rest : List ℕ) → BeginsWith (SpellsType pool) bytes type rest → P
 unfolding tag_of behind_tag
 uninitialized_behind pool is here next (Uninitialized place) rest begins =
-    next place rest (u2 place, (begins.1.0, refl), (here.only _ _ (tag_stands pool (Uninitialized place) begins)).1)
+    next place rest (u2 place, (begins.1.allowed, refl), (here.only _ _ (tag_stands pool (Uninitialized place) begins)).1)
 uninitialized_behind pool is here next type rest begins = absurd (omega (arith, is, (here.only _ _ (tag_stands pool type begins)).0))

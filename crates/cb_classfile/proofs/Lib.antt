@@ -25,3 +25,10 @@ pub mod Pairs
 pub mod Sequence
 pub mod Tabling
 pub mod Words
+pub mod Canonical
+pub mod CanonicalClass
+pub mod CanonicalFrames
+pub mod CanonicalMembers
+pub mod Laws
+pub mod LeastIndex
+pub mod OneAttribute

@@ -21,10 +21,10 @@ tagged_same pool Long Long first second rest behind spelled spelled_too tags sam
 tagged_same pool Null Null first second rest behind spelled spelled_too tags same = (refl, same)
 tagged_same pool UninitializedThis UninitializedThis first second rest behind spelled spelled_too tags same = (refl, same)
 tagged_same pool (Object class) (Object other) first second rest behind spelled spelled_too tags same =
-    let number = one_u2 spelled.1 spelled_too.1 same in
+    let number = one_u2 spelled.allowed.1 spelled_too.allowed.1 same in
     (ap Object number.0, number.1)
 tagged_same pool (Uninitialized place) (Uninitialized other) first second rest behind spelled spelled_too tags same =
-    let number = one_u2 spelled.0 spelled_too.0 same in
+    let number = one_u2 spelled.allowed spelled_too.allowed same in
     (ap Uninitialized number.0, number.1)
 tagged_same pool one other first second rest behind spelled spelled_too tags same = absurd (omega (arith, tags))
 

@@ -1,12 +1,13 @@
 -- Attributes (JVMS §4.7). Those that no rule asks for are skipped by their length.
-use Rattle.std.specs.Prelude.{◌≡◌, ℕ, ◌≤◌, Bool, false, List, [], ◌∷◌, length, Option, Some, None, IsSome, if◌then◌else◌, nat_eq}
+use Rattle.std.specs.Prelude.{◌≡◌, ℕ, suc, ◌≤◌, Bool, false, List, [], ◌∷◌, ◌++◌, length, Option, Some, None, IsSome, if◌then◌else◌, nat_eq}
 use Rattle.std.specs.Cmp.Lexicographic.{pointwise}
 use denote.Ref.{Bor}
 use Rattle.cb_text.specs.declared.constant.Constant.{Constant}
 use Rattle.cb_classfile.specs.declared.attribute.Occurrence.{Occurrence}
 use Rattle.cb_classfile.specs.declared.attribute.Occurrence.TheVariants.{Never, Once, Again}
+use Rattle.cb_text.specs.Naming.{units_of}
 use Rattle.cb_classfile.specs.Pool.{text_at}
-use Rattle.cb_classfile.specs.Tables.{SpellsBlock, SpellsTable, SpellsU2, Then}
+use Rattle.cb_classfile.specs.Tables.{u2, block_bytes, table_bytes, SpellsBlock, SpellsTable, SpellsU2, Then}
 
 -- the index of an attribute's name, and its contents
 abbrev pub Attribute : Type 0
@@ -38,6 +39,27 @@ abbrev pub SpellsOnce : {Item : Type 0} → (List ℕ → Item → Type 0) → L
 SpellsOnce Spells [] None = Unit {0}
 SpellsOnce Spells (contents ∷ []) (Some item) = Spells contents item
 SpellsOnce Spells contents item = ⊥
+
+-- the least index of a text in a pool, counted on from the index of its first constant. Where none is the text it is one
+-- more than the greatest
+abbrev pub index_from : ℕ → List ℕ → List Constant → ℕ
+index_from index name [] = index
+index_from index name (constant ∷ pool) = if is_text name (units_of constant) then index else index_from (suc index) name pool
+
+abbrev pub least_index : List Constant → List ℕ → ℕ
+least_index pool name = index_from 1 name pool
+
+-- an attribute of a name, at its least index, where it has contents: the only one of a table
+abbrev pub one_attribute : List Constant → List ℕ → Option (List ℕ) → List Attribute
+one_attribute pool name None = []
+one_attribute pool name (Some contents) = (least_index pool name, contents) ∷ []
+
+-- the bytes of attributes
+abbrev pub attribute_bytes : Attribute → List ℕ
+attribute_bytes attribute = u2 attribute.0 ++ block_bytes attribute.1
+
+abbrev pub attributes_bytes : List Attribute → List ℕ
+attributes_bytes attributes = table_bytes attribute_bytes attributes
 
 -- what is told of an attribute: all of it
 abbrev pub TellsAttribute : ℕ × Bor (List ℕ) → Attribute → Type 0

@@ -1,18 +1,18 @@
 -- Class files (JVMS §4.1).
-use Rattle.std.specs.Prelude.{◌≡◌, ◌≢◌, ◌⊎◌, ◌↔◌, ℕ, ◌^◌, ◌<◌, ◌≤◌, List, ◌++◌, map, Option, Some, IfSome, codes}
+use Rattle.std.specs.Prelude.{◌≡◌, ◌≢◌, ◌⊎◌, ◌↔◌, ℕ, ◌^◌, ◌<◌, ◌≤◌, List, [], ◌++◌, map, Option, Some, IfSome, codes}
 use Rattle.std.specs.List.{AllByRecursion, AllPairs}
 use Rattle.cb_text.specs.declared.constant.Constant.{Constant}
-use Rattle.cb_text.specs.Pool.{SpellsPool}
+use Rattle.cb_text.specs.Pool.{SpellsPool, pool_bytes}
 use Rattle.cb_names.specs.Names.{IsClassName}
 use Rattle.cb_classfile.specs.declared.class.ClassFile.{ClassFile}
 use Rattle.cb_classfile.specs.declared.field.Field.{Field}
 use Rattle.cb_classfile.specs.declared.method.Method.{Method}
-use Rattle.cb_classfile.specs.Attributes.{Attribute, SpellsAttributes}
+use Rattle.cb_classfile.specs.Attributes.{Attribute, SpellsAttributes, attributes_bytes}
 use Rattle.cb_classfile.specs.Needed.{CallsClasses}
 use Rattle.cb_classfile.specs.Flags.{acc_static, acc_interface, acc_abstract, HasFlag}
-use Rattle.cb_classfile.specs.Members.{SpellsField, SpellsMethod}
+use Rattle.cb_classfile.specs.Members.{SpellsField, SpellsMethod, field_bytes, method_bytes}
 use Rattle.cb_classfile.specs.Pool.{text_at, class_at, HasClass, AreNamed}
-use Rattle.cb_classfile.specs.Tables.{u2, u4, BeginsWith, SpellsTable, SpellsTriple, Then}
+use Rattle.cb_classfile.specs.Tables.{u2, u4, table_bytes, BeginsWith, SpellsTable, SpellsTriple, Then}
 
 abbrev pub magic : ℕ
 magic = 0xCAFEBABE
@@ -106,3 +106,13 @@ SpellsClassOn minor major pool bytes class =
 -- a ClassFile
 abbrev pub SpellsClass : List ℕ → ClassFile → Type 0
 SpellsClass bytes class = Then SpellsVersion SpellsContents bytes ((class.minor, class.major), class)
+
+-- some bytes spell the class
+abbrev pub IsWellFormed : ClassFile → Type 0
+IsWellFormed class = (bytes : List ℕ) × SpellsClass bytes class
+
+-- the bytes of a class that have nothing to skip: padding is 0, frames, code and constants are the only attributes, and
+-- the name of each is at its least index
+abbrev pub class_bytes : ClassFile → List ℕ
+class_bytes class =
+    u4 magic ++ u2 class.minor ++ u2 class.major ++ pool_bytes class.pool ++ u2 class.flags.0 ++ u2 class.this_class ++ u2 class.super_class ++ table_bytes u2 class.interfaces ++ table_bytes (field_bytes class.pool) class.fields ++ table_bytes (method_bytes class.pool) class.methods ++ attributes_bytes []

@@ -1,5 +1,6 @@
 -- The attribute StackMapTable (JVMS §4.7.4).
-use Rattle.std.specs.Prelude.{◌≡◌, ℕ, ◌+◌, ◌-◌, ◌^◌, ◌<◌, List, [], ◌∷◌, IsSome, nat_lt, if◌then◌else◌}
+use Rattle.std.specs.Prelude.{◌≡◌, ℕ, ◌+◌, ◌-◌, ◌^◌, ◌<◌, List, [], ◌∷◌, ◌++◌, IsSome, nat_lt, if◌then◌else◌}
+use Rattle.std.specs.List.{flat_map}
 use Rattle.cb_text.specs.declared.constant.Constant.{Constant}
 use Rattle.cb_classfile.specs.declared.frame_map.MapFrame.{MapFrame}
 use Rattle.cb_classfile.specs.declared.map_type.MapType.{MapType}
@@ -7,19 +8,30 @@ use Rattle.cb_classfile.specs.declared.map_type.MapType.TheVariants.{Top, Intege
 use Rattle.cb_classfile.specs.declared.frame_form.FrameForm.{FrameForm}
 use Rattle.cb_classfile.specs.declared.frame_form.FrameForm.TheVariants as forms
 use Rattle.cb_classfile.specs.Pool.{class_at}
-use Rattle.cb_classfile.specs.Tables.{u2, SpellsCount, SpellsTable, SpellsU1, Then, ThenOf}
+use Rattle.cb_classfile.specs.Tables.{u2, table_bytes, SpellsCount, SpellsTable, SpellsU1, Then, ThenOf}
 
--- a verification_type_info, by its tag
-abbrev pub SpellsType : List Constant → List ℕ → MapType → Type 0
-SpellsType pool bytes Top = bytes ≡ 0 ∷ []
-SpellsType pool bytes Integer = bytes ≡ 1 ∷ []
-SpellsType pool bytes Float = bytes ≡ 2 ∷ []
-SpellsType pool bytes Double = bytes ≡ 3 ∷ []
-SpellsType pool bytes Long = bytes ≡ 4 ∷ []
-SpellsType pool bytes Null = bytes ≡ 5 ∷ []
-SpellsType pool bytes UninitializedThis = bytes ≡ 6 ∷ []
-SpellsType pool bytes (Object class) = IsSome (class_at pool class) × (class < 2 ^ 16) × (bytes ≡ 7 ∷ u2 class)
-SpellsType pool bytes (Uninitialized place) = (place < 2 ^ 16) × (bytes ≡ 8 ∷ u2 place)
+-- the bytes of a verification_type_info: its tag, and what stands behind it
+abbrev pub type_bytes : MapType → List ℕ
+type_bytes Top = 0 ∷ []
+type_bytes Integer = 1 ∷ []
+type_bytes Float = 2 ∷ []
+type_bytes Double = 3 ∷ []
+type_bytes Long = 4 ∷ []
+type_bytes Null = 5 ∷ []
+type_bytes UninitializedThis = 6 ∷ []
+type_bytes (Object class) = 7 ∷ u2 class
+type_bytes (Uninitialized place) = 8 ∷ u2 place
+
+-- what it names is there, and its numbers fit two bytes
+abbrev pub IsType : List Constant → MapType → Type 0
+IsType pool (Object class) = IsSome (class_at pool class) × (class < 2 ^ 16)
+IsType pool (Uninitialized place) = place < 2 ^ 16
+IsType pool other = Unit {0}
+
+-- a verification_type_info
+pub record SpellsType (pool : List Constant) (bytes : List ℕ) (kind : MapType) : Type 0 where
+  pub spelled : bytes ≡ type_bytes kind
+  pub allowed : IsType pool kind
 
 -- the form of a frame, by its kind. Those from 128 to 246 are reserved
 abbrev pub form_of_frame : ℕ → FrameForm
@@ -60,6 +72,29 @@ SpellsFormed pool form kind = Then (SpellsDelta form kind) (Then (SpellsLocals p
 abbrev pub SpellsFrame : List Constant → List ℕ → MapFrame → Type 0
 SpellsFrame pool bytes frame =
     ThenOf SpellsU1 (λ kind. SpellsFormed pool (form_of_frame kind) kind) bytes (frame.kind, (frame.delta, (frame.locals, frame.stack)))
+
+-- the bytes of the parts of a frame, by its form
+abbrev pub delta_bytes : FrameForm → ℕ → List ℕ
+delta_bytes forms.Same delta = []
+delta_bytes forms.SameOneItem delta = []
+delta_bytes forms.Reserved delta = []
+delta_bytes form delta = u2 delta
+
+abbrev pub locals_bytes : FrameForm → List MapType → List ℕ
+locals_bytes forms.Append locals = flat_map type_bytes locals
+locals_bytes forms.Full locals = table_bytes type_bytes locals
+locals_bytes form locals = []
+
+abbrev pub stack_bytes : FrameForm → List MapType → List ℕ
+stack_bytes forms.SameOneItem stack = flat_map type_bytes stack
+stack_bytes forms.SameOneItemExtended stack = flat_map type_bytes stack
+stack_bytes forms.Full stack = table_bytes type_bytes stack
+stack_bytes form stack = []
+
+-- the bytes of a frame: no others spell it
+abbrev pub frame_bytes : MapFrame → List ℕ
+frame_bytes frame =
+    frame.kind ∷ delta_bytes (form_of_frame frame.kind) frame.delta ++ locals_bytes (form_of_frame frame.kind) frame.locals ++ stack_bytes (form_of_frame frame.kind) frame.stack
 
 -- the frames of code, by the contents of its attributes StackMapTable, of which there is at most one
 abbrev pub SpellsFrames : List Constant → List (List ℕ) → List MapFrame → Type 0

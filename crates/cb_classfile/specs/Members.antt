@@ -1,5 +1,5 @@
 -- Fields and methods (JVMS §4.5, §4.6, §4.7.2).
-use Rattle.std.specs.Prelude.{◌≡◌, ◌⊎◌, ◌↔◌, ℕ, ◌+◌, ◌^◌, ◌<◌, ◌≤◌, List, Some, IsSome, IsSomeAnd, codes}
+use Rattle.std.specs.Prelude.{◌≡◌, ◌⊎◌, ◌↔◌, ℕ, ◌+◌, ◌^◌, ◌<◌, ◌≤◌, List, ◌++◌, Some, IsSome, IsSomeAnd, codes, option_map}
 use Rattle.cb_text.specs.declared.constant.Constant.{Constant}
 use Rattle.cb_text.specs.declared.constant.Constant.TheVariants as constants
 use Rattle.cb_text.specs.Pool.{constant_at}
@@ -7,8 +7,8 @@ use Rattle.cb_names.specs.Descriptors.{IsMethodDescriptor}
 use Rattle.cb_classfile.specs.declared.field.Field.{Field}
 use Rattle.cb_classfile.specs.declared.member.Member.{Member}
 use Rattle.cb_classfile.specs.declared.method.Method.{Method}
-use Rattle.cb_classfile.specs.Attributes.{Attribute, SpellsAttributes, SpellsOnce, TellsOfName, contents_named}
-use Rattle.cb_classfile.specs.Code.{SpellsBody}
+use Rattle.cb_classfile.specs.Attributes.{Attribute, SpellsAttributes, SpellsOnce, TellsOfName, attributes_bytes, contents_named, one_attribute}
+use Rattle.cb_classfile.specs.Code.{SpellsBody, body_bytes}
 use Rattle.cb_classfile.specs.Flags.{acc_static, acc_native, acc_abstract, HasFlag}
 use Rattle.cb_classfile.specs.Pool.{text_at, HasText, NamesField, NamesMethod}
 use Rattle.cb_classfile.specs.Tables.{u2, SpellsTriple, Then}
@@ -80,3 +80,12 @@ pub record SpellsMethod (pool : List Constant) (bytes : List ℕ) (method : Meth
   pub named : NamesMethod pool method.name method.descriptor
   pub body : SpellsOnce (SpellsBody pool) (contents_named pool (codes "Code") attribute_list) method.body
   pub rules : IsMethod pool method
+
+-- the bytes of a field and of a method that have nothing to skip
+abbrev pub field_bytes : List Constant → Field → List ℕ
+field_bytes pool field =
+    u2 field.flags.0 ++ u2 field.name ++ u2 field.descriptor ++ attributes_bytes (one_attribute pool (codes "ConstantValue") (option_map u2 field.constant))
+
+abbrev pub method_bytes : List Constant → Method → List ℕ
+method_bytes pool method =
+    u2 method.flags.0 ++ u2 method.name ++ u2 method.descriptor ++ attributes_bytes (one_attribute pool (codes "Code") (option_map (body_bytes pool) method.body))

@@ -3,12 +3,9 @@ use Rattle.std.specs.Prelude.{◌≡◌, ℕ, List, Result, MatchResult}
 use denote.Ref.{Bor}
 use Rattle.cb_classfile.specs.declared.fault.Fault.{Fault}
 use Rattle.cb_classfile.specs.declared.fault.Fault.TheVariants.{OutOfMemory}
-use Rattle.cb_classfile.specs.Tables.{BeginsWith}
-
--- this item stands at the front of the bytes, with this behind it, and no other does
-pub record IsFront {Item : Type 0} (Spells : List ℕ → Item → Type 0) (bytes : List ℕ) (item : Item) (rest : List ℕ) : Type 0 where
-  pub found : BeginsWith Spells bytes item rest
-  pub only : (other : Item) (behind : List ℕ) → BeginsWith Spells bytes other behind → (item ≡ other) × (rest ≡ behind)
+use Rattle.cb_text.specs.Fronts as fronts
+use Rattle.cb_text.specs.Fronts.{ReadsOr}
+pub use Rattle.cb_text.specs.Fronts.{IsFront}
 
 -- the bytes, or whatever stands in their place, spell this item, and no other
 pub record IsWhole {Bytes Item : Type 0} (Spells : Bytes → Item → Type 0) (bytes : Bytes) (item : Item) : Type 0 where
@@ -17,7 +14,7 @@ pub record IsWhole {Bytes Item : Type 0} (Spells : Bytes → Item → Type 0) (b
 
 -- where an item stands at the front the fault is want of memory, and likewise where the bytes spell one
 abbrev pub IsFrontless : {Item : Type 0} → (List ℕ → Item → Type 0) → List ℕ → Fault → Type 0
-IsFrontless Spells bytes fault = (item : _) (rest : List ℕ) → BeginsWith Spells bytes item rest → fault ≡ OutOfMemory
+IsFrontless Spells bytes fault = fronts.IsFrontless OutOfMemory Spells bytes fault
 
 abbrev pub IsUnspelled : {Bytes Item : Type 0} → (Bytes → Item → Type 0) → Bytes → Fault → Type 0
 IsUnspelled Spells bytes fault = (item : _) → Spells bytes item → fault ≡ OutOfMemory
@@ -25,7 +22,7 @@ IsUnspelled Spells bytes fault = (item : _) → Spells bytes item → fault ≡ 
 -- a reader of the front of some bytes gives the item there and what stands behind it, or a fault where none stands
 -- there or there is no memory
 abbrev pub Reads : {Item : Type 0} → (List ℕ → Item → Type 0) → List ℕ → Result (Item × Bor (List ℕ)) Fault → Type 0
-Reads Spells bytes result = MatchResult result (λ read. IsFront Spells bytes read.0 read.1.now) (IsFrontless Spells bytes)
+Reads Spells bytes result = ReadsOr OutOfMemory Spells bytes result
 
 -- a reader of whole bytes
 abbrev pub ReadsWhole : {Bytes Item : Type 0} → (Bytes → Item → Type 0) → Bytes → Result Item Fault → Type 0

@@ -1,7 +1,9 @@
 -- Numbers, which stand with their high bytes first, and tables (JVMS §4).
 use Rattle.std.specs.Prelude.{◌≡◌, ℕ, ◌^◌, ◌<◌, List, [], ◌∷◌, ◌++◌, length}
 use Rattle.std.specs.Int.{w32, to_be_bytes}
+use Rattle.std.specs.List.{flat_map}
 use denote.Ref.{Bor}
+pub use Rattle.cb_text.specs.Fronts.{BeginsWith}
 pub use Rattle.cb_text.specs.Pool.{u2}
 
 abbrev pub u4 : ℕ → List ℕ
@@ -24,9 +26,16 @@ abbrev pub SpellsTriple : List ℕ → ℕ × ℕ × ℕ → Type 0
 SpellsTriple bytes triple =
     (triple.0 < 2 ^ 16) × (triple.1 < 2 ^ 16) × (triple.2 < 2 ^ 16) × (bytes ≡ u2 triple.0 ++ u2 triple.1 ++ u2 triple.2)
 
+-- the bytes of a block, which stand behind their number, and those of a table
+abbrev pub block_bytes : List ℕ → List ℕ
+block_bytes block = u4 (length block) ++ block
+
+abbrev pub table_bytes : {Item : Type 0} → (Item → List ℕ) → List Item → List ℕ
+table_bytes item_bytes items = u2 (length items) ++ flat_map item_bytes items
+
 -- some bytes behind their number, and what is told of them: all
 abbrev pub SpellsBlock : List ℕ → List ℕ → Type 0
-SpellsBlock bytes block = (length block < 2 ^ 32) × (bytes ≡ u4 (length block) ++ block)
+SpellsBlock bytes block = (length block < 2 ^ 32) × (bytes ≡ block_bytes block)
 
 abbrev pub TellsBytes : Bor (List ℕ) → List ℕ → Type 0
 TellsBytes told bytes = told.now ≡ bytes
@@ -53,10 +62,6 @@ SpellsEach Spells bytes (item ∷ items) =
 pub record SpellsCount {Item : Type 0} (Spells : List ℕ → Item → Type 0) (count : ℕ) (bytes : List ℕ) (items : List Item) : Type 0 where
   pub counted : length items ≡ count
   pub each : SpellsEach Spells bytes items
-
--- an item stands at the front of the bytes, and rest behind it
-abbrev pub BeginsWith : {Item : Type 0} → (List ℕ → Item → Type 0) → List ℕ → Item → List ℕ → Type 0
-BeginsWith Spells bytes item rest = (first : List ℕ) × Spells first item × (bytes ≡ first ++ rest)
 
 -- the bytes are a table: the number of its items, and the items
 pub record SpellsTable {Item : Type 0} (Spells : List ℕ → Item → Type 0) (bytes : List ℕ) (items : List Item) : Type 0 where

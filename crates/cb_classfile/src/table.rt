@@ -24,7 +24,8 @@ pub(crate) trait Entry: Sized {
         ensures { Reads (spells constants.now) bytes.now result };
 }
 
-/// So many entries at the front, and what stands behind them.
+/// So many entries at the front, and what stands behind them. Room for them is taken once: for no more than there are
+/// bytes, since each entry has one at least.
 pub(crate) fn entries<'a, T: Entry + Drop>(
     alloc: Global,
     constants: &Constants<'_>,
@@ -33,7 +34,7 @@ pub(crate) fn entries<'a, T: Entry + Drop>(
 ) -> Result<(List<T>, &'a [u8]), Fault>
     ensures { Reads (SpellsCount (T.spells constants.now) count) bytes.now result }
 {
-    let mut entries = List::new(alloc);
+    let mut entries = List::with_capacity(alloc, usize::from(count).min(bytes.len()))?;
     let mut rest = bytes;
     for _ in 0..count {
         let (entry, after) = T::read(alloc, constants, rest)?;

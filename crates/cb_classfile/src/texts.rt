@@ -1,13 +1,13 @@
 // What the texts of a pool are.
 ghost use Rattle.std.specs.Prelude.{◌≡◌, ℕ, List, IfOk, IfSome, Some};
+ghost use Rattle.std.specs.Option.{option_map, option_or};
 ghost use Rattle.cb_names.specs.Descriptors.{floating_in};
-ghost use Rattle.cb_names.specs.Types.{IsElement, SpellsType, element_of, element_text, type_of};
+ghost use Rattle.cb_names.specs.Types.{IsType, type_of, type_text};
 ghost use Rattle.cb_classfile.specs.Pool.{text_at};
 ghost use Rattle.cb_classfile.specs.Texts.{AreFacts, Describe};
 
 use cb_names::{
-    BaseType, ElementType, FieldType, Floating, field_type, floating_in, is_array_descriptor,
-    name_kinds, parameter_words,
+    FieldType, Floating, MethodFacts, field_type, is_array_descriptor, method_facts, name_kinds,
 };
 use cb_text::{Constant, Pool};
 use std::alloc::{AllocError, Global};
@@ -92,44 +92,36 @@ pub(crate) fn facts_of_text(text: &[u16]) -> TextFacts
 {
     let names = name_kinds(text);
     let field = field_type(text);
-    let parameter_words = parameter_words(text);
+    let method = method_facts(text);
     TextFacts {
         unqualified_name: names.unqualified,
         method_name: names.method,
         class_name: names.class,
         array_descriptor: is_array_descriptor(text),
         field_descriptor: field.is_some(),
-        parameter_words,
-        floating: floating_told(text, field, parameter_words),
+        parameter_words: words_told(method),
+        floating: floating_told(field, method),
     }
 }
 
-/// The first floating-point type of a text, told where it is a field descriptor, of this type, or a method descriptor.
-/// A field descriptor isn't walked once more.
+/// How many words the parameters take of what a text says as a method descriptor.
+fn words_told(method: Option<MethodFacts>) -> Option<u8>
+    ensures { result ≡ option_map (λ facts. facts.words) method }
+{
+    Some(method?.words)
+}
+
+/// The first floating-point type of what a text says as the descriptor of a field or else of a method.
 fn floating_told(
-    text: &[u16],
     field: Option<FieldType<'_>>,
-    parameter_words: Option<u8>,
+    method: Option<MethodFacts>,
 ) -> Option<Option<Floating>>
-    requires { IfSome field (λ type. SpellsType text.now (type_of type)) }
-    ensures { IfSome result (λ floating. floating ≡ floating_in text.now) }
+    requires { IfSome field (λ type. IsType (type_of type)) }
+    ensures { result ≡ option_or (option_map (λ type. floating_in (type_text (type_of type))) field.entry)
+        (option_map (λ facts. facts.floating) method) }
 {
     match field {
-        Some(found) => Some(floating_of_element(found.element)),
-        None if parameter_words.is_some() => Some(floating_in(text)),
-        None => None,
-    }
-}
-
-/// The floating-point type that a type is, where it is no array's.
-fn floating_of_element(element: ElementType<'_>) -> Option<Floating>
-    requires { IsElement (element_of element) }
-    ensures { result ≡ floating_in (element_text (element_of element.entry)) }
-{
-    match element {
-        ElementType::Base(BaseType::Float) => Some(Floating::Float),
-        ElementType::Base(BaseType::Double) => Some(Floating::Double),
-        ElementType::Base(_) => None,
-        ElementType::Class(_) => None,
+        Some(found) => Some(found.floating()),
+        None => Some(method?.floating),
     }
 }

@@ -1,5 +1,5 @@
 -- Places that rise, the search of one among them, and the walk over code.
-use Rattle.std.proofs.Common.{◌≡◌, ℕ, zero, suc, ◌+◌, ◌<◌, ◌≤◌, ◌^◌, ◌↔◌, Bool, List, [], ◌∷◌, ◌++◌, length, map, refl, sym, ◌∙◌, ap, subst, arith, length-append, slice_index_or, Contains, ◌⊎◌, inl, inr, IsTrue}
+use Rattle.std.proofs.Common.{◌≡◌, ◌≢◌, ℕ, zero, suc, ◌+◌, ◌<◌, ◌≤◌, ◌^◌, ◌↔◌, Bool, List, [], ◌∷◌, ◌++◌, length, map, refl, sym, ◌∙◌, ap, subst, arith, length-append, slice_index_or, Contains, ◌⊎◌, inl, inr, IsTrue}
 use Rattle.std.specs.List.{AllByRecursion}
 use Rattle.std.proofs.lemmas.List.{map-append}
 use Rattle.std.proofs.lemmas.List.Elements.{Contains-append_left, Contains-append_right, Contains-append_cases}
@@ -8,9 +8,9 @@ use Rattle.cb_insn.specs.declared.insn.Operand.{Operand}
 use Rattle.cb_insn.specs.declared.insn.Operand.TheVariants.{Lookup}
 use Rattle.cb_insn.specs.declared.insn.Pair.{Pair}
 use Rattle.cb_insn.specs.Grammar.{SpellsInsn, SpellsFrom, SpellsCode, targets_of}
-use Rattle.cb_insn.specs.Writing.{insn_bytes}
+use Rattle.cb_insn.specs.Writing.{code_bytes, insn_bytes}
 use Rattle.cb_insn.specs.Places.{HasPlace, Rise, places}
-use Rattle.cb_insn.proofs.Written.{insn_some, insn_written}
+use Rattle.cb_insn.proofs.Written.{code_written, insn_some, insn_written}
 
 -- an instruction has bytes, so places rise
 pub rises : (pc : ℕ) (code : List (ℕ × Insn)) (bytes : List ℕ) → SpellsFrom pc code bytes → Rise (places code)
@@ -102,8 +102,13 @@ unfolds : (code : List (ℕ × Insn)) → Reached code ↔ AllByRecursion (λ pl
 unfolding HasPlace
 unfolds code = (λ reached. reached, λ reached. reached)
 
-pub fit : (code : List (ℕ × Insn)) (reached : Bool) → (bytes : List ℕ) × SpellsFrom 0 code bytes × (length bytes < 2 ^ 32) → (IsTrue reached ↔ Reached code) → IsTrue reached ↔ ((bytes : List ℕ) × SpellsCode code bytes)
-fit code reached (bytes, spelled, short) told = (λ yes. (bytes, record { spelled = spelled; short = short; reached = (unfolds code).0 (told.0 yes) }), λ fits. told.1 ((unfolds code).1 fits.1.reached))
+pub fit : (code : List (ℕ × Insn)) (size : ℕ) → (bytes : List ℕ) × SpellsFrom 0 code bytes × (length bytes < 2 ^ 32) × (size ≡ length bytes) → Reached code → SpellsCode code (code_bytes code) × (size ≡ length (code_bytes code))
+fit code size (bytes, spelled, short, long) reached =
+    let parts = code_written code bytes (record { spelled = spelled; short = short; reached = (unfolds code).0 reached }) in
+    (parts.0, long ∙ parts.1)
+
+pub reach : (code : List (ℕ × Insn)) (bytes : List ℕ) → SpellsCode code bytes → Reached code
+reach code bytes spells = (unfolds code).1 spells.reached
 
 -- the code from a place on is spelled exactly if the whole is
 pub record Walked (code : List (ℕ × Insn)) (pc : ℕ) (rest : List (ℕ × Insn)) : Type 0 where
@@ -136,16 +141,27 @@ walked_next code pc size (at, insn) rest whole walked is here spelled size_is =
     walked_more code pc size insn rest (subst (Walked code pc) (is ∙ ap (λ p. (p, insn) ∷ rest) here) walked) (subst (λ p. SpellsInsn p insn (insn_bytes p insn)) here spelled) (size_is ∙ ap (λ p. length (insn_bytes p insn)) here)
 
 -- an instruction that no bytes spell leaves none for the code
-pub walked_stuck : (code : List (ℕ × Insn)) (pc : ℕ) (placed : ℕ × Insn) (rest whole : List (ℕ × Insn)) → Walked code pc whole → whole ≡ placed ∷ rest → ((bytes : List ℕ) → SpellsInsn placed.0 placed.1 bytes → ⊥) → (bytes : List ℕ) × SpellsFrom 0 code bytes × (length bytes < 2 ^ 32) → ⊥
-walked_stuck code pc (at, insn) rest whole walked is none (bytes, spelled, short) =
+pub walked_stuck : (code : List (ℕ × Insn)) (pc : ℕ) (placed : ℕ × Insn) (rest whole : List (ℕ × Insn)) → Walked code pc whole → whole ≡ placed ∷ rest → ((bytes : List ℕ) → SpellsInsn placed.0 placed.1 bytes → ⊥) → (bytes : List ℕ) → SpellsFrom 0 code bytes → ⊥
+walked_stuck code pc (at, insn) rest whole walked is none bytes spelled =
     let found = walked.part bytes spelled in
     let (first, others, here, spells, apart, from) = subst (λ w. SpellsFrom pc w found.0) is found.1 in
     none first (subst (λ p. SpellsInsn p insn first) (sym here) spells)
 
+-- nor does one at another place
+pub walked_off : (code : List (ℕ × Insn)) (pc : ℕ) (placed : ℕ × Insn) (rest whole : List (ℕ × Insn)) → Walked code pc whole → whole ≡ placed ∷ rest → placed.0 ≢ pc → (bytes : List ℕ) → SpellsFrom 0 code bytes → ⊥
+walked_off code pc (at, insn) rest whole walked is off bytes spelled =
+    let found = walked.part bytes spelled in
+    let (first, others, here, spells, apart, from) = subst (λ w. SpellsFrom pc w found.0) is found.1 in
+    off here
+
 -- at the end the whole code is spelled, in so many bytes
-pub walked_done : (code : List (ℕ × Insn)) (pc : ℕ) (rest : List (ℕ × Insn)) → Walked code pc rest → length rest ≡ 0 → (pc < 2 ^ 32) ↔ ((bytes : List ℕ) × SpellsFrom 0 code bytes × (length bytes < 2 ^ 32))
-walked_done code pc (placed ∷ rest) walked none = absurd (omega (arith, none))
-walked_done code pc [] walked none = (λ short. let found = walked_end code pc walked in (found.0, found.1, omega (arith, found.2, short)), λ has. let long = walked_long code pc walked has.0 has.1 in omega (arith, long, has.2))
+pub walked_found : (code : List (ℕ × Insn)) (pc : ℕ) (rest : List (ℕ × Insn)) → Walked code pc rest → length rest ≡ 0 → (bytes : List ℕ) × SpellsFrom 0 code bytes × (length bytes ≡ pc)
+walked_found code pc (placed ∷ rest) walked none = absurd (omega (arith, none))
+walked_found code pc [] walked none = walked_end code pc walked
+
+pub walked_size : (code : List (ℕ × Insn)) (pc : ℕ) (rest : List (ℕ × Insn)) → Walked code pc rest → length rest ≡ 0 → (bytes : List ℕ) → SpellsFrom 0 code bytes → length bytes ≡ pc
+walked_size code pc (placed ∷ rest) walked none bytes spelled = absurd (omega (arith, none))
+walked_size code pc [] walked none bytes spelled = walked_long code pc walked bytes spelled
 
 -- the targets of pairs
 pub led : (code : List (ℕ × Insn)) (pairs : List Pair) → AllByRecursion (λ pair. HasPlace code pair.target) pairs ↔ AllByRecursion (HasPlace code) (map (λ pair. pair.target) pairs)

@@ -18,10 +18,20 @@ pub fn encode(alloc: Global, code: &Code) -> Result<Vec<u8>, OutOfMemory>
     ensures exact { IfOk result (λ bytes. bytes.items ≡ code_bytes code.now) }
 {
     let mut bytes = Vec::new(alloc);
-    for placed in code.as_slice() {
-        push_insn(&mut bytes, placed.0, &placed.1)?;
-    }
+    encode_into(&mut bytes, code)?;
     Ok(bytes)
+}
+
+/// Adds the bytes that `encode` gives behind those that are there. `OutOfMemory` where no memory was to be had: a part of
+/// them may then stand there. Takes time in the number of bytes.
+pub fn encode_into(bytes: &mut Vec<u8>, code: &Code) -> Result<(), OutOfMemory>
+    requires { (spelled : List ℕ) × SpellsCode code.now spelled }
+    ensures { OnOk result (bytes.new.items ≡ bytes.old.items ++ code_bytes code.now) }
+{
+    for placed in code.as_slice() {
+        push_insn(bytes, placed.0, &placed.1)?;
+    }
+    Ok(())
 }
 
 /// Writes an instruction at the end. A refused growth may leave a part of it there.

@@ -1,8 +1,9 @@
 // Whether code fits some bytes.
-ghost use Rattle.std.specs.Prelude.{◌<◌, ◌^◌, ◌↔◌, ℕ, List, length, IsTrue};
+ghost use Rattle.std.specs.Prelude.{◌≡◌, ◌<◌, ◌^◌, ◌↔◌, ℕ, List, length, IfSome, IsNone, IsTrue};
 ghost use Rattle.std.specs.List.{AllByRecursion};
 ghost use Rattle.cb_insn.specs.Grammar.{SpellsCode, SpellsFrom, targets_of};
 ghost use Rattle.cb_insn.specs.Places.{HasPlace, Rise, places};
+ghost use Rattle.cb_insn.specs.Writing.{code_bytes};
 
 use crate::size::insn_size;
 use crate::{Code, Insn, Operand, Pair};
@@ -12,27 +13,45 @@ use crate::{Code, Insn, Operand, Pair};
 pub fn fits(code: &Code) -> bool
     ensures { IsTrue result ↔ ((bytes : List ℕ) × SpellsCode code.now bytes) }
 {
-    let placed = code.as_slice();
-    are_in_place(placed) && are_reached(placed)
+    code_size(code).is_some()
 }
 
-/// Whether the instructions stand one after the other from the place 0 on. Takes time in their size.
-fn are_in_place(code: &[(u32, Insn)]) -> bool
-    ensures { IsTrue result ↔ ((bytes : List ℕ) × SpellsFrom 0 code.now bytes × (length bytes < 2 ^ 32)) }
+/// How many bytes spell the code, or `None` where none do, or no fewer than 2^32. Takes the time of `fits`, and no
+/// memory.
+pub fn code_size(code: &Code) -> Option<u32>
+    ensures fits { IfSome result (λ size. SpellsCode code.now (code_bytes code.now)
+        × (size ≡ length (code_bytes code.now))) }
+    ensures none { IsNone result → (bytes : List ℕ) → ¬ SpellsCode code.now bytes }
+{
+    let placed = code.as_slice();
+    let size = size_in_place(placed)?;
+    if are_reached(placed) {
+        Some(size)
+    } else {
+        None
+    }
+}
+
+/// How many bytes the instructions take, where they stand one after the other from the place 0 on. Takes time in their
+/// size.
+fn size_in_place(code: &[(u32, Insn)]) -> Option<u32>
+    ensures fits { IfSome result (λ size. (bytes : List ℕ) × SpellsFrom 0 code.now bytes × (length bytes < 2 ^ 32)
+        × (size ≡ length bytes)) }
+    ensures none { IsNone result → (bytes : List ℕ) → SpellsFrom 0 code.now bytes → ¬ (length bytes < 2 ^ 32) }
 {
     let mut pc = 0;
     let mut rest = code;
     while let Some(((at, insn), behind)) = rest.split_first() {
         if *at as usize != pc {
-            return false;
+            return None;
         }
-        let Some(size) = insn_size(*at, insn) else {
-            return false;
-        };
-        pc += size;
+        pc += insn_size(*at, insn)?;
         rest = behind;
     }
-    pc < 0x1_0000_0000
+    if pc >= 0x1_0000_0000 {
+        return None;
+    }
+    Some(pc as u32)
 }
 
 /// Whether each target is the place of an instruction.

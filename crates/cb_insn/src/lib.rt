@@ -33,9 +33,9 @@ mod target;
 mod tests;
 
 pub use decoder::decode;
-pub use encoder::encode;
+pub use encoder::{encode, encode_into};
 pub use fault::InsnFault;
-pub use fit::fits;
+pub use fit::{code_size, fits};
 pub use form::Form;
 pub use insn::{Code, Insn, Operand, Pair, Pairs, Targets};
 pub use law::{code_or_fault, one_code};

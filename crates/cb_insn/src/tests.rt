@@ -1,5 +1,8 @@
 // Instructions as the JVMS and `javap` read them.
-use crate::{Code, Insn, InsnFault, List, Operand, Pair, decode, encode, fits, is_place, opcode};
+use crate::{
+    Code, Insn, InsnFault, List, Operand, Pair, code_size, decode, encode, encode_into, fits,
+    is_place, opcode,
+};
 use std::test::Fail;
 
 /// The code that `javac --release 8 -g:none` of JDK 17 wrote for this method, with a `wide iinc` and both switches.
@@ -61,12 +64,18 @@ fn decoded(rt: HostRuntime, bytes: &[u8]) -> Result<Code, InsnFault> {
     decode(rt.alloc(), bytes)
 }
 
-/// The bytes that spell the code, or none where it fits no bytes.
+/// The bytes that spell the code, written by both writers, or none where it fits no bytes.
 fn encoded(rt: HostRuntime, code: &Code) -> Result<Vec<u8>, Fail> {
     if !fits(code) {
         return Err(Fail::new("it fits no bytes"));
     }
-    Ok(encode(rt.alloc(), code)?)
+    let mut behind = Vec::new(rt.alloc());
+    encode_into(&mut behind, code)?;
+    let bytes = encode(rt.alloc(), code)?;
+    if behind != bytes || code_size(code).map(|size| size as usize) != Some(bytes.len()) {
+        return Err(Fail::new("the writers or the size differ"));
+    }
+    Ok(bytes)
 }
 
 #[test]

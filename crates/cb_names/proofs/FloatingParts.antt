@@ -55,3 +55,21 @@ of_parameters (first ∷ others) rest types =
 pub of_method : (text : List ℕ) (type : JavaMethodType) → SpellsMethodType text type → floating_in text ≡ option_or (first_floating type.parameters) (floating_in (result_text type.result))
 of_method text type spells =
     ap floating_in spells.spelled ∙ of_parameters type.parameters (right_parenthesis ∷ result_text type.result) spells.parameters
+
+-- the first of one type more
+first_more : (types : List JavaType) (last : JavaType) → first_floating (types ++ last ∷ []) ≡ option_or (first_floating types) (floating_in (type_text last))
+first_more [] last = or_none (floating_in (type_text last)) where
+  or_none : (one : Option Floating) → option_or one None ≡ one
+  or_none None = refl
+  or_none (Some one) = refl
+first_more (first ∷ types) last =
+    ap (option_or (floating_in (type_text first))) (first_more types last)
+    ∙ or-assoc (floating_in (type_text first)) (first_floating types) (floating_in (type_text last))
+
+pub floating_more : (types : List JavaType) (last : JavaType) (before more after : Option Floating) → before ≡ first_floating types → more ≡ floating_in (type_text last) → after ≡ option_or before more → after ≡ first_floating (types ++ last ∷ [])
+floating_more types last before more after so_far is either = either ∙ ap (λ one. option_or one more) so_far ∙ ap (option_or (first_floating types)) is ∙ sym (first_more types last)
+
+-- a method's is that of its parameters or of what it gives
+pub floating_of_both : (text : List ℕ) (type : JavaMethodType) (front back found : Option Floating) → SpellsMethodType text type → front ≡ first_floating type.parameters → back ≡ floating_in (result_text type.result) → found ≡ option_or front back → found ≡ floating_in text
+floating_of_both text type front back found spells of_front of_back either =
+    either ∙ ap (λ one. option_or one back) of_front ∙ ap (option_or (first_floating type.parameters)) of_back ∙ sym (of_method text type spells)

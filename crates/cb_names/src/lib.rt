@@ -22,7 +22,7 @@ mod unit;
 pub use base::BaseType;
 pub use descriptor::{class_type, field_type, is_array_descriptor, is_field_descriptor};
 pub use floating::{Floating, floating_in, floating_of_parts};
-pub use method::{method_type, parameter_words};
+pub use method::{MethodFacts, method_facts, method_type, parameter_words};
 pub use name::{NameKinds, is_class_name, is_method_name, is_unqualified_name, name_kinds};
 pub use types::{ElementType, FieldType, MethodType};
 pub use unique::{one_method_type, one_type};

@@ -2,7 +2,8 @@
 use crate::{
     BaseType, ElementType, FieldType, Floating, class_type, field_type, floating_in,
     floating_of_parts, is_array_descriptor, is_class_name, is_field_descriptor, is_method_name,
-    is_unqualified_name, method_type, name_kinds, one_method_type, one_type, parameter_words,
+    is_unqualified_name, method_facts, method_type, name_kinds, one_method_type, one_type,
+    parameter_words,
 };
 use std::alloc::{AllocError, Global};
 use std::test::Fail;
@@ -287,6 +288,12 @@ fn the_first_floating_point_type(rt: HostRuntime) -> Result<(), Fail> {
     ] {
         let text = units(rt.alloc(), bytes)?;
         assert_eq!(rt; floating_in(&text), want, "at {bytes:?}");
+        if let Some(facts) = method_facts(&text) {
+            assert_eq!(rt; facts.floating, want, "at {bytes:?}");
+        }
+        if let Some(found) = field_type(&text) {
+            assert_eq!(rt; found.floating(), want, "at {bytes:?}");
+        }
     }
     Ok(())
 }

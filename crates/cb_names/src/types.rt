@@ -1,8 +1,10 @@
 // Types of fields and methods (JVMS §4.3).
 ghost use Rattle.std.specs.Prelude.{◌≡◌, ◌≢◌, ◌↔◌, ◌+◌, ◌≤◌, List, ℕ, IfSome, IsNone, IsTrue, MatchOption};
-ghost use Rattle.cb_names.specs.Types.{IsReference, Named, element_of, method_type_of, parameters_words, type_of, type_words};
+ghost use Rattle.cb_names.specs.Descriptors.{floating_in};
+ghost use Rattle.cb_names.specs.Types.{IsElement, IsReference, IsType, Named, element_of, element_text, method_type_of, parameters_words, type_of, type_text, type_words};
 
 use crate::base::BaseType;
+use crate::floating::Floating;
 
 /// A type that is no array's.
 #[derive(Clone, Copy, Debug)]
@@ -29,6 +31,21 @@ pub struct MethodType<'a> {
     pub parameters: Vec<FieldType<'a>>,
     /// The type of what it gives, or `None` for `void`.
     pub result: Option<FieldType<'a>>,
+}
+
+impl ElementType<'_> {
+    /// The floating-point type that it is, or `None` where it is none.
+    fn floating(self) -> Option<Floating>
+        requires { IsElement (element_of self) }
+        ensures { result ≡ floating_in (element_text (element_of self.entry)) }
+    {
+        match self {
+            ElementType::Base(BaseType::Float) => Some(Floating::Float),
+            ElementType::Base(BaseType::Double) => Some(Floating::Double),
+            ElementType::Base(_) => None,
+            ElementType::Class(_) => None,
+        }
+    }
 }
 
 impl<'a> FieldType<'a> {
@@ -64,6 +81,15 @@ impl<'a> FieldType<'a> {
             ElementType::Base(_) => None,
             ElementType::Class(name) => Some(name),
         }
+    }
+
+    /// The floating-point type that the type or an array's element is, or `None` where that is none. The name of a class
+    /// has to be one.
+    pub fn floating(self) -> Option<Floating>
+        requires { IsType (type_of self) }
+        ensures { result ≡ floating_in (type_text (type_of self.entry)) }
+    {
+        self.element.floating()
     }
 
     /// Whether values of the type are references: it is a class's or an array's (JVMS §2.4).

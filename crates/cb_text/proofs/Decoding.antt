@@ -1,9 +1,9 @@
 -- Decoding from left to right.
-use Rattle.std.proofs.Common.{◌≡◌, ◌≢◌, ℕ, ◌^◌, ◌<◌, List, [], ◌∷◌, ◌++◌, sym, ◌∙◌, ap, append_assoc}
+use Rattle.std.proofs.Common.{◌≡◌, ◌≢◌, ℕ, List, [], ◌∷◌, ◌++◌, refl, sym, ◌∙◌, ap}
 use Rattle.std.proofs.lemmas.List.{append-nil}
-use Rattle.std.proofs.lemmas.List.Concat.{flat_map-append}
+use Rattle.cb_text.specs.Fronts.{BeginsWith}
+use Rattle.cb_text.specs.Reading.{SpellsUnit}
 use Rattle.cb_text.specs.Text.{unit_bytes, text_bytes, AreUnits}
-use Rattle.cb_text.proofs.Lists.{all-append}
 use Rattle.cb_text.proofs.Spelling.{text_front}
 
 -- the bytes spell these units, and then comes the rest
@@ -11,25 +11,16 @@ pub record Decoded (bytes units rest : List ℕ) : Type 0 where
   pub fit : AreUnits units
   pub spelled : bytes ≡ text_bytes units ++ rest
 
-pub decoded_more : (bytes units rest after : List ℕ) (unit : ℕ) → Decoded bytes units rest → unit < 2 ^ 16 → rest ≡ unit_bytes unit ++ after → Decoded bytes (units ++ unit ∷ []) after
-decoded_more bytes units rest after unit so_far fits next = record {
-  fit = all-append (λ unit. unit < 2 ^ 16) units (unit ∷ []) so_far.fit (fits, tt);
-  spelled =
-      let one : text_bytes (unit ∷ []) ≡ unit_bytes unit = append-nil (unit_bytes unit) in
-      let front : text_bytes (units ++ unit ∷ []) ≡ text_bytes units ++ unit_bytes unit = flat_map-append unit_bytes units (unit ∷ []) ∙ ap (λ back. text_bytes units ++ back) one in
-      so_far.spelled ∙ ap (λ back. text_bytes units ++ back) next ∙ sym (append_assoc (text_bytes units) (unit_bytes unit) after) ∙ ap (λ front. front ++ after) (sym front);
-}
-
 -- at the end the bytes spell these units
 pub decoded_all : (bytes units rest : List ℕ) → Decoded bytes units rest → rest ≡ [] → AreUnits units × (bytes ≡ text_bytes units)
 decoded_all bytes units rest so_far none = (so_far.fit, so_far.spelled ∙ ap (λ back. text_bytes units ++ back) none ∙ append-nil (text_bytes units))
 
 -- where no unit stands in front of the rest, the bytes spell no units
-pub stops : (bytes units rest : List ℕ) → Decoded bytes units rest → rest ≢ [] → ((unit : ℕ) (after : List ℕ) → unit < 2 ^ 16 → rest ≡ unit_bytes unit ++ after → ⊥) → (all : List ℕ) → AreUnits all → bytes ≢ text_bytes all
+pub stops : (bytes units rest : List ℕ) → Decoded bytes units rest → rest ≢ [] → ((unit : ℕ) (after : List ℕ) → ¬ BeginsWith SpellsUnit rest unit after) → (all : List ℕ) → AreUnits all → bytes ≢ text_bytes all
 stops bytes units rest so_far some none all fit spelled =
     let behind = text_front units all rest so_far.fit fit (sym spelled ∙ so_far.spelled) in
     go behind.0 behind.1 behind.3
   where
     go : (tail : List ℕ) → AreUnits tail → rest ≢ text_bytes tail
     go [] tail_fits is = some is
-    go (unit ∷ tail) tail_fits is = none unit (text_bytes tail) tail_fits.0 is
+    go (unit ∷ tail) tail_fits is = none unit (text_bytes tail) (unit_bytes unit, (tail_fits.0, refl), is)

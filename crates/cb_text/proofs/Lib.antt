@@ -6,6 +6,6 @@ pub mod Laws
 pub mod Lists
 pub mod Places
 pub mod Pooling
-pub mod ReadAgain
 pub mod Spelling
+pub mod OneConstant
 pub mod OnePool

@@ -1,99 +1,97 @@
--- Reading the constants of a pool from left to right.
-use Rattle.std.proofs.Common.{◌≡◌, ℕ, ◌+◌, ◌<◌, ◌≤◌, List, [], ◌∷◌, ◌++◌, length, refl, sym, ◌∙◌, ap, subst, arith, append_assoc, length-append}
+-- Constants that stand one behind the other at the front of some bytes.
+use Rattle.std.proofs.Common.{◌≡◌, ℕ, zero, suc, ◌+◌, ◌<◌, ◌≤◌, List, [], ◌∷◌, ◌++◌, length, refl, sym, ◌∙◌, ap, subst, arith, append_assoc, length-append}
 use Rattle.std.specs.List.{AllByRecursion, flat_map}
 use Rattle.std.proofs.lemmas.List.{append-nil, nil_from_length}
 use Rattle.std.proofs.lemmas.List.Concat.{flat_map-append}
 use Rattle.cb_text.specs.declared.constant.Constant.{Constant}
-use Rattle.cb_text.specs.Pool.{Fits, constant_bytes, AreLaidOut}
-use Rattle.cb_text.specs.Reading.{HasBytes, StandsBefore}
+use Rattle.cb_text.specs.Fronts.{BeginsWith, IsFront}
+use Rattle.cb_text.specs.Pool.{Fits, constant_bytes, AreLaidOut, with_gap}
+use Rattle.cb_text.specs.Reading.{SpellsConstant, SpellsConstants}
 use Rattle.cb_text.proofs.Lists.{all-append, all-back}
-use Rattle.cb_text.proofs.Places.{laid_out-append, first_has_bytes, TakesPlaces, behind_spelled}
+use Rattle.cb_text.proofs.OneConstant.{front_constant}
+use Rattle.cb_text.proofs.Places.{laid_out-append, first_has_bytes, takes_places, behind_spelled}
 
--- the constants of the bytes that are left
-pub record AreLeft (tail : List Constant) (after rest : List ℕ) : Type 0 where
-  pub fit : AllByRecursion Fits tail
-  pub laid_out : AreLaidOut tail
-  pub spelled : rest ≡ flat_map constant_bytes tail ++ after
+-- these constants stand at the front of the bytes, with their gaps, and this behind them
+pub record Stand (bytes : List ℕ) (constants : List Constant) (rest : List ℕ) : Type 0 where
+  pub fit : AllByRecursion Fits constants
+  pub laid_out : AreLaidOut constants
+  pub spelled : bytes ≡ flat_map constant_bytes constants ++ rest
 
--- the reading has come behind these constants, to the rest
-pub record Reached (count : ℕ) (bytes : List ℕ) (front : List Constant) (rest : List ℕ) : Type 0 where
-  pub few : length front ≤ count
-  pub read : AreLeft front rest bytes
-  pub left : (all : List Constant) (after : List ℕ) → StandsBefore count all after bytes → (tail : List Constant) × (all ≡ front ++ tail) × AreLeft tail after rest
+-- so does the first of them
+abbrev pub first_stands : {bytes rest : List ℕ} {first : Constant} {others : List Constant} → Stand bytes (first ∷ others) rest → BeginsWith SpellsConstant bytes first (flat_map constant_bytes others ++ rest)
+first_stands {bytes} {rest} {first} {others} all =
+    (constant_bytes first, (first_has_bytes first others all.laid_out, all.fit.0, refl), all.spelled ∙ append_assoc (constant_bytes first) (flat_map constant_bytes others) rest)
 
-pub reached_start : (count : ℕ) (bytes : List ℕ) → Reached count bytes [] bytes
-reached_start count bytes = record {
-  few = omega arith;
-  read = record { fit = tt; laid_out = tt; spelled = refl };
-  left = λ all after stands. (all, refl, record { fit = stands.fit; laid_out = stands.laid_out; spelled = stands.spelled });
-}
+-- and behind it, and its gap, the others
+pub others_stand : {bytes rest : List ℕ} {first : Constant} {others : List Constant} → Stand bytes (first ∷ others) rest → (more : List Constant) × (first ∷ others ≡ with_gap first ++ more) × Stand (flat_map constant_bytes others ++ rest) more rest
+others_stand {bytes} {rest} {first} {others} all =
+    let takes = takes_places first (first_has_bytes first others all.laid_out) in
+    let behind = takes.behind others all.laid_out in (
+      behind.0,
+      behind.2,
+      record {
+        fit = all-back Fits (with_gap first) behind.0 (subst (AllByRecursion Fits) behind.2 all.fit);
+        laid_out = behind.1;
+        spelled = ap (λ bytes. bytes ++ rest) (behind_spelled first (with_gap first) others behind.0 takes behind.2);
+      },
+    )
 
--- what is left before the end has a first constant
-pub record HasFirst (count : ℕ) (front all : List Constant) (after rest : List ℕ) : Type 0 where
-  pub first : Constant
-  pub others : List Constant
-  pub has : HasBytes first
-  pub fits : Fits first
-  pub laid_out : AreLaidOut (first ∷ others)
-  pub others_fit : AllByRecursion Fits others
-  pub is : all ≡ front ++ first ∷ others
-  pub spelled : rest ≡ constant_bytes first ++ (flat_map constant_bytes others ++ after)
-
-pub has_first : (count : ℕ) (bytes : List ℕ) (front : List Constant) (rest : List ℕ) → Reached count bytes front rest → length front < count → (all : List Constant) (after : List ℕ) → StandsBefore count all after bytes → HasFirst count front all after rest
-has_first count bytes front rest reached more all after stands =
-    let left = reached.left all after stands in
-    go left.0 left.1 left.2
-  where
-    go : (tail : List Constant) → all ≡ front ++ tail → AreLeft tail after rest → HasFirst count front all after rest
-    go [] is left = absurd (omega (arith, ap length (is ∙ append-nil front), stands.counted))
-    go (first ∷ others) is left = record {
-      first = first;
-      others = others;
-      has = first_has_bytes first others left.laid_out;
-      fits = left.fit.0;
-      laid_out = left.laid_out;
-      others_fit = left.fit.1;
-      is = is;
-      spelled = left.spelled ∙ append_assoc (constant_bytes first) (flat_map constant_bytes others) after;
+-- a constant that stands behind them stands with them
+pub one_more : {bytes rest : List ℕ} {front : List Constant} (constant : Constant) (after : List ℕ) → Stand bytes front rest → BeginsWith SpellsConstant rest constant after → Stand bytes (front ++ with_gap constant) after
+one_more {bytes} {rest} {front} constant after so_far (first, spelled, split) =
+    let takes = takes_places constant spelled.0 in
+    let one : flat_map constant_bytes (with_gap constant) ≡ first = takes.spelled ∙ append-nil (constant_bytes constant) ∙ sym spelled.2 in
+    let both : flat_map constant_bytes (front ++ with_gap constant) ≡ flat_map constant_bytes front ++ first = flat_map-append constant_bytes front (with_gap constant) ∙ ap (λ back. flat_map constant_bytes front ++ back) one in
+    record {
+      fit = all-append Fits front (with_gap constant) so_far.fit (takes.fit spelled.1);
+      laid_out = laid_out-append front (with_gap constant) so_far.laid_out takes.laid_out;
+      spelled = so_far.spelled ∙ ap (λ back. flat_map constant_bytes front ++ back) split ∙ sym (append_assoc (flat_map constant_bytes front) first after) ∙ ap (λ front. front ++ after) (sym both);
     }
 
--- this constant stands at the front, and no other
-abbrev pub IsOnlyNext : Constant → List ℕ → List ℕ → Type 0
-IsOnlyNext constant after rest = (other : Constant) (behind : List ℕ) → HasBytes other → Fits other → rest ≡ constant_bytes other ++ behind → (constant ≡ other) × (after ≡ behind)
+-- where no more stand than others do, the others are these and what stands behind them
+tail_upto : (n : ℕ) (front all : List Constant) (bytes rest after : List ℕ) → length front ≤ n → length front ≤ length all → Stand bytes front rest → Stand bytes all after → (tail : List Constant) × (all ≡ front ++ tail) × Stand rest tail after
+tail_upto n [] all bytes rest after few long here there = (all, refl, subst (λ bytes. Stand bytes all after) here.spelled there)
+tail_upto n (first ∷ front) [] bytes rest after few long here there = absurd (omega (arith, long))
+tail_upto zero (first ∷ front) (next ∷ all) bytes rest after few long here there = absurd (omega (arith, few))
+tail_upto (suc n) (first ∷ front) (next ∷ all) bytes rest after few long here there =
+    let begins = first_stands here in
+    let head = (front_constant first bytes _ begins.1.0 begins.1.1 begins.2).only next _ (first_stands there) in
+    let here_behind = others_stand here in
+    let there_behind = others_stand (subst (λ c. Stand bytes (c ∷ all) after) (sym head.0) there) in
+    let some = (takes_places first begins.1.0).some in
+    let few_behind = ap length here_behind.1 ∙ length-append (with_gap first) here_behind.0 in
+    let long_behind = ap length there_behind.1 ∙ length-append (with_gap first) there_behind.0 in
+    let tail = tail_upto n here_behind.0 there_behind.0 _ rest after (omega (arith, few, few_behind, some)) (omega (arith, long, few_behind, long_behind)) here_behind.2 (subst (λ bytes. Stand bytes there_behind.0 after) (sym head.1) there_behind.2) in
+    (tail.0, ap (λ c. c ∷ all) (sym head.0) ∙ there_behind.1 ∙ ap (λ more. with_gap first ++ more) tail.1 ∙ sym (append_assoc (with_gap first) here_behind.0 tail.0) ∙ ap (λ front. front ++ tail.0) (sym here_behind.1), tail.2)
 
-pub reached_more : (count : ℕ) (bytes : List ℕ) (front places : List Constant) (rest after : List ℕ) (constant : Constant) → Reached count bytes front rest → TakesPlaces constant places → Fits constant → rest ≡ constant_bytes constant ++ after → IsOnlyNext constant after rest → length front + length places ≤ count → Reached count bytes (front ++ places) after
-reached_more count bytes front places rest after constant reached takes fits next only room = record {
-  few = omega (arith, length-append front places);
-  read = record {
-    fit = all-append Fits front places reached.read.fit (takes.fit fits);
-    laid_out = laid_out-append front places reached.read.laid_out takes.laid_out;
-    spelled =
-        let of_places : flat_map constant_bytes places ≡ constant_bytes constant = takes.spelled ∙ append-nil (constant_bytes constant) in
-        let of_both : flat_map constant_bytes (front ++ places) ≡ flat_map constant_bytes front ++ constant_bytes constant = flat_map-append constant_bytes front places ∙ ap (λ back. flat_map constant_bytes front ++ back) of_places in
-        reached.read.spelled ∙ ap (λ back. flat_map constant_bytes front ++ back) next ∙ sym (append_assoc (flat_map constant_bytes front) (constant_bytes constant) after) ∙ ap (λ front. front ++ after) (sym of_both);
-  };
-  left = λ all end stands. left all end (has_first count bytes front rest reached (omega (arith, takes.some)) all end stands);
-} where
-  left : (all : List Constant) (end : List ℕ) → HasFirst count front all end rest → (tail : List Constant) × (all ≡ (front ++ places) ++ tail) × AreLeft tail end after
-  left all end whole =
-      let alike = only whole.first (flat_map constant_bytes whole.others ++ end) whole.has whole.fits whole.spelled in
-      let behind = takes.behind whole.others (subst (λ first. AreLaidOut (first ∷ whole.others)) (sym alike.0) whole.laid_out) in
-      let is : all ≡ (front ++ places) ++ behind.0 = whole.is ∙ ap (λ first. front ++ first ∷ whole.others) (sym alike.0) ∙ ap (λ back. front ++ back) behind.2 ∙ sym (append_assoc front places behind.0) in
-      let fit : AllByRecursion Fits (places ++ behind.0) = subst (AllByRecursion Fits) behind.2 (fits, whole.others_fit) in
-      let spelled : flat_map constant_bytes whole.others ≡ flat_map constant_bytes behind.0 = behind_spelled constant places whole.others behind.0 takes behind.2 in
-      (behind.0, is, record { fit = all-back Fits places behind.0 fit; laid_out = behind.1; spelled = alike.1 ∙ ap (λ front. front ++ end) spelled })
+tail_stands : {bytes rest after : List ℕ} {front all : List Constant} → length front ≤ length all → Stand bytes front rest → Stand bytes all after → (tail : List Constant) × (all ≡ front ++ tail) × Stand rest tail after
+tail_stands {bytes} {rest} {after} {front} {all} long here there = tail_upto (length front) front all bytes rest after (omega arith) long here there
 
--- a constant that takes more indices than are left can't stand next
-pub no_room : (count : ℕ) (bytes : List ℕ) (front places : List Constant) (rest after : List ℕ) (constant : Constant) → Reached count bytes front rest → TakesPlaces constant places → IsOnlyNext constant after rest → length front < count → count < length front + length places → (all : List Constant) (end : List ℕ) → StandsBefore count all end bytes → ⊥
-no_room count bytes front places rest after constant reached takes only more over all end stands =
-    let whole = has_first count bytes front rest reached more all end stands in
-    let alike = only whole.first (flat_map constant_bytes whole.others ++ end) whole.has whole.fits whole.spelled in
-    let behind = takes.behind whole.others (subst (λ first. AreLaidOut (first ∷ whole.others)) (sym alike.0) whole.laid_out) in
-    omega (arith, ap length whole.is, length-append front (whole.first ∷ whole.others), ap length behind.2, length-append places behind.0, stands.counted)
+-- what is said of so many constants is said of what stands there
+stand : {count : ℕ} {bytes after : List ℕ} {all : List Constant} → BeginsWith (SpellsConstants count) bytes all after → Stand bytes all after
+stand {count} {bytes} {after} {all} (first, spelled, split) = record { fit = spelled.fit; laid_out = spelled.laid_out; spelled = split ∙ ap (λ bytes. bytes ++ after) spelled.spelled }
 
--- where there are so many, there are no others
-pub finished : (count : ℕ) (bytes : List ℕ) (front : List Constant) (rest : List ℕ) → Reached count bytes front rest → count ≤ length front → (all : List Constant) (after : List ℕ) → StandsBefore count all after bytes → (front ≡ all) × (rest ≡ after)
-finished count bytes front rest reached done all after stands =
-    let left = reached.left all after stands in
-    let none : left.0 ≡ [] = nil_from_length left.0 (omega (arith, ap length left.1, length-append front left.0, stands.counted)) in
-    (sym (left.1 ∙ ap (λ tail. front ++ tail) none ∙ append-nil front), left.2.spelled ∙ ap (λ tail. flat_map constant_bytes tail ++ after) none)
+-- as many others that stand there are the same
+pub one_way : {bytes rest behind : List ℕ} {one other : List Constant} → length one ≡ length other → Stand bytes one rest → Stand bytes other behind → (one ≡ other) × (rest ≡ behind)
+one_way {bytes} {rest} {behind} {one} {other} long here there =
+    let tail = tail_stands (omega (arith, long)) here there in
+    let none : tail.0 ≡ [] = nil_from_length tail.0 (omega (arith, ap length tail.1, length-append one tail.0, long)) in
+    (sym (tail.1 ∙ ap (λ tail. one ++ tail) none ∙ append-nil one), tail.2.spelled ∙ ap (λ tail. flat_map constant_bytes tail ++ behind) none)
+
+pub front_constants : {count : ℕ} {bytes rest : List ℕ} {constants : List Constant} → length constants ≡ count → Stand bytes constants rest → IsFront (SpellsConstants count) bytes constants rest
+front_constants {count} {bytes} {rest} {constants} counted here = record {
+  found = (flat_map constant_bytes constants, record { counted = counted; fit = here.fit; laid_out = here.laid_out; spelled = refl }, here.spelled);
+  only = λ other behind there. one_way (counted ∙ sym there.1.counted) here (stand there);
+}
+
+-- where fewer are found than stand there, one more stands behind them, and there is room for it
+pub next_stands : {count : ℕ} {bytes rest after : List ℕ} {front all : List Constant} → length front < count → Stand bytes front rest → BeginsWith (SpellsConstants count) bytes all after → (next : Constant) × (behind : List ℕ) × BeginsWith SpellsConstant rest next behind × (length front + length (with_gap next) ≤ count)
+next_stands {count} {bytes} {rest} {after} {front} {all} few here there =
+    let tail = tail_stands (omega (arith, there.1.counted, few)) here (stand there) in
+    go tail.0 tail.1 tail.2
+  where
+    go : (tail : List Constant) → all ≡ front ++ tail → Stand rest tail after → (next : Constant) × (behind : List ℕ) × BeginsWith SpellsConstant rest next behind × (length front + length (with_gap next) ≤ count)
+    go [] is left = absurd (omega (arith, ap length (is ∙ append-nil front), there.1.counted, few))
+    go (next ∷ others) is left =
+        let more = others_stand left in
+        (next, _, first_stands left, omega (arith, ap length is, length-append front (next ∷ others), ap length more.1, length-append (with_gap next) more.0, there.1.counted))

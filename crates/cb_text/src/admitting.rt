@@ -6,7 +6,7 @@ ghost use Rattle.cb_text.specs.Reading.{HasBytes};
 use crate::Constant;
 use crate::constants::places_of;
 use crate::indices::is_indexed;
-use crate::text::is_short;
+use crate::text::short_length;
 
 /// Whether the constants of a pool are those of one with this constant behind them. Takes time in the length of a
 /// text, and constant time for any other constant.
@@ -26,7 +26,7 @@ fn fits(constant: &Constant) -> bool
     ensures { IsTrue result ↔ (HasBytes constant.now × Fits constant.now) }
 {
     match constant {
-        Constant::Utf8(units) => is_short(units.as_slice()),
+        Constant::Utf8(units) => short_length(units.as_slice()).is_some(),
         Constant::Integer(number) | Constant::Float(number) => *number <= u32::MAX,
         Constant::Long(number) | Constant::Double(number) => *number <= u64::MAX,
         Constant::Class(index) | Constant::String(index) | Constant::MethodType(index) => {

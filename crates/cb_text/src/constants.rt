@@ -1,8 +1,8 @@
 // The constants of a pool, in order (JVMS §4.4).
-ghost use Rattle.std.specs.Prelude.{◌≡◌, ◌↔◌, ◌++◌, ℕ, List, length, IfOk, IsTrue, MatchResult, OnOk, OnErr};
-ghost use Rattle.cb_text.specs.declared.constant.Constant.{Constant as AnyConstant};
+ghost use Rattle.std.specs.Prelude.{◌≡◌, ◌↔◌, ◌++◌, length, IsTrue, MatchResult, OnOk, OnErr};
+ghost use Rattle.cb_text.specs.Fronts.{IsFront, IsFrontless};
 ghost use Rattle.cb_text.specs.Pool.{with_gap};
-ghost use Rattle.cb_text.specs.Reading.{IsWide, StandsBefore};
+ghost use Rattle.cb_text.specs.Reading.{IsWide, SpellsConstants};
 
 use crate::next_constant::next_constant;
 use crate::{Constant, OutOfMemory, PoolFault};
@@ -15,10 +15,8 @@ pub(crate) fn constants_of(
     count: usize,
     bytes: &[u8],
 ) -> Result<(Vec<Constant>, &[u8]), PoolFault>
-    ensures found { IfOk result (λ read. StandsBefore count read.0.items read.1.now bytes.now) }
-    ensures only { (constants : List AnyConstant) (rest : List ℕ) → StandsBefore count constants rest bytes.now
-        → MatchResult result (λ read. (read.0.items ≡ constants) × (read.1.now ≡ rest))
-        (λ fault. fault ≡ PoolFault.OutOfMemory) }
+    ensures { MatchResult result (λ read. IsFront (SpellsConstants count) bytes.now read.0.items read.1.now)
+        (IsFrontless PoolFault.OutOfMemory (SpellsConstants count) bytes.now) }
 {
     let mut constants = Vec::with_capacity(alloc, count)?;
     let mut rest = bytes;

@@ -1,19 +1,16 @@
 // A constant of numbers.
-ghost use Rattle.std.specs.Prelude.{◌≡◌, ◌∷◌, ◌++◌, IfSome, MatchOption, Some, None};
-ghost use Rattle.cb_text.specs.Pool.{Fits, constant_bytes};
-ghost use Rattle.cb_text.specs.Reading.{HasNumbers, indices_at, numbers_at};
+ghost use Rattle.std.specs.Prelude.{◌≢◌, ◌∷◌};
+ghost use Rattle.cb_text.specs.Fronts.{Reads};
+ghost use Rattle.cb_text.specs.Reading.{SpellsConstant};
 
 use crate::Constant;
 use crate::numbers::{u2_at, u4_at, u8_at};
 
 /// The constant of a tag other than that of a text, from its contents at the front of the bytes, and what stands
 /// behind it, or `None` where no such constant is a front of them.
-#[tactic(auto, unfolding(crate::specs::Reading::numbers_at))]
 pub(crate) fn numbers_of(tag: u8, bytes: &[u8]) -> Option<(Constant, &[u8])>
-    ensures found { IfSome result (λ read. HasNumbers read.0 × Fits read.0
-        × (tag ∷ bytes.now ≡ constant_bytes read.0 ++ read.1.now)) }
-    ensures reads { MatchOption result (numbers_at tag bytes.now ≡ None)
-        (λ read. numbers_at tag bytes.now ≡ Some (read.0, read.1.now)) }
+    requires { tag ≢ 1 }
+    ensures { Reads SpellsConstant (tag ∷ bytes.now) result }
 {
     match tag {
         3 => {
@@ -42,12 +39,9 @@ pub(crate) fn numbers_of(tag: u8, bytes: &[u8]) -> Option<(Constant, &[u8])>
 }
 
 /// The constant of a tag whose contents are one or two indices, and what stands behind it.
-#[tactic(auto, unfolding(crate::specs::Reading::indices_at))]
 fn indices_of(tag: u8, bytes: &[u8]) -> Option<(Constant, &[u8])>
-    ensures found { IfSome result (λ read. HasNumbers read.0 × Fits read.0
-        × (tag ∷ bytes.now ≡ constant_bytes read.0 ++ read.1.now)) }
-    ensures reads { MatchOption result (indices_at tag bytes.now ≡ None)
-        (λ read. indices_at tag bytes.now ≡ Some (read.0, read.1.now)) }
+    requires { (tag ≢ 1) × (tag ≢ 3) × (tag ≢ 4) × (tag ≢ 5) × (tag ≢ 6) × (tag ≢ 15) }
+    ensures { Reads SpellsConstant (tag ∷ bytes.now) result }
 {
     let (one, after) = u2_at(bytes)?;
     match tag {

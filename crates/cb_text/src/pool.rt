@@ -1,5 +1,5 @@
 // The constant pool (JVMS §4.1, §4.4).
-ghost use Rattle.std.specs.Prelude.{◌≡◌, ◌↔◌, ◌+◌, ◌^◌, ◌<◌, ◌++◌, ℕ, List, [], length, IfOk, IsErrOf, IsTrue, MatchResult, OnErr, option_copied};
+ghost use Rattle.std.specs.Prelude.{◌≡◌, ◌↔◌, ◌+◌, ◌^◌, ◌<◌, ◌++◌, ℕ, List, [], length, IfOk, IsErrOf, IsTrue, MatchResult, OnErr, OnOk, option_copied};
 ghost use Rattle.std.specs.Iterator.Runs.{EveryRun, ItemsMapTo};
 ghost use Rattle.std.specs.Slice.Iter.{iter_rest, iter_steps};
 ghost use Rattle.cb_text.specs.declared.constant.Constant.{Constant as AnyConstant};
@@ -9,7 +9,7 @@ use crate::admitting::is_admitted;
 use crate::constants::{constants_of, push_with_gap};
 use crate::indices::{are_indexed, entry_at};
 use crate::numbers::u2_at;
-use crate::writing::push_constant;
+use crate::writing::push_constants;
 use crate::{Constant, OutOfMemory, PoolFault};
 use std::alloc::Global;
 use std::marker::Model;
@@ -82,9 +82,10 @@ impl Pool {
         entry_at(&self.constants, index)
     }
 
-    /// The constants in order, the first of which has the index 1, with the gaps.
+    /// The constants in order, the first of which has the index 1, with the gaps: those of a pool.
     pub fn constants(&self) -> &[Constant]
-        ensures { result.now ≡ self.now }
+        ensures constants { result.now ≡ self.now }
+        ensures pool { IsPool self.now }
     {
         self.constants.as_slice()
     }
@@ -95,12 +96,19 @@ impl Pool {
         ensures pool { IfOk result (λ bytes. SpellsPool bytes.items self.now) }
         ensures exact { IfOk result (λ bytes. bytes.items ≡ pool_bytes self.now) }
     {
+        let _ = &self.constants;
         let mut out = Vec::new(alloc);
-        out.extend_from_slice(&self.len().to_be_bytes())?;
-        for constant in &self.constants {
-            push_constant(alloc, &mut out, constant)?;
-        }
+        self.encode_into(&mut out)?;
         Ok(out)
+    }
+
+    /// Adds the bytes that `encode` gives behind those that are there. `OutOfMemory` where no memory was to be had: a
+    /// part of them may then stand there. Takes time in the number of bytes.
+    pub fn encode_into(&self, bytes: &mut Vec<u8>) -> Result<(), OutOfMemory>
+        ensures { OnOk result (bytes.new.items ≡ bytes.old.items ++ pool_bytes self.now) }
+    {
+        bytes.extend_from_slice(&self.len().to_be_bytes())?;
+        push_constants(bytes, &self.constants)
     }
 }
 
@@ -140,10 +148,9 @@ pub fn one_pool()
 
 /// The constants of the pool at the front of the bytes, and how many bytes it takes.
 fn pool_at(alloc: Global, bytes: &[u8]) -> Result<(Vec<Constant>, usize), PoolFault>
-    ensures pool { IfOk result (λ read. IsPool read.0.items × BeginsWithPool bytes.now read.0.items read.1) }
-    ensures exact { (constants : List AnyConstant) (end : ℕ) → BeginsWithPool bytes.now constants end
-        → MatchResult result (λ read. (read.0.items ≡ constants) × (read.1 ≡ end))
-        (λ fault. fault ≡ PoolFault.OutOfMemory) }
+    ensures { MatchResult result (λ read. IsPool read.0.items × BeginsWithPool bytes.now read.0.items read.1)
+        (λ fault. (constants : List AnyConstant) (end : ℕ) → BeginsWithPool bytes.now constants end
+        → fault ≡ PoolFault.OutOfMemory) }
 {
     let Some((count, rest)) = u2_at(bytes) else {
         return Err(PoolFault::BadPool);

@@ -115,8 +115,11 @@ fn a_pool_has_a_constant_of_each_tag(rt: HostRuntime) -> Result<(), Fail> {
     ] {
         assert_eq!(rt; pool.get(index).map(numbers), want, "at {index}");
     }
-    let bytes = pool.encode(rt.alloc())?;
+    let mut bytes = pool.encode(rt.alloc())?;
     assert_eq!(rt; bytes.as_slice(), EVERY_TAG);
+    pool.encode_into(&mut bytes)?;
+    assert_eq!(rt; bytes.len(), 2 * EVERY_TAG.len());
+    assert!(rt; bytes.as_slice().ends_with(EVERY_TAG));
     Ok(())
 }
 

@@ -1,5 +1,5 @@
 // Modified UTF-8 (JVMS §4.4.7).
-ghost use Rattle.std.specs.Prelude.{◌≡◌, ◌≢◌, ◌↔◌, ◌^◌, ◌<◌, ℕ, List, length, IfOk, IsErrOf, IsTrue, MatchResult, Some};
+ghost use Rattle.std.specs.Prelude.{◌≡◌, ◌≢◌, ◌↔◌, ◌++◌, ◌^◌, ◌<◌, ℕ, List, length, IfOk, IfSome, IsErrOf, IsNone, MatchResult, OnOk, Some};
 ghost use Rattle.cb_text.specs.Messages.{text_fault_text};
 ghost use Rattle.cb_text.specs.Text.{AreUnits, text_bytes};
 ghost use Rattle.cb_text.specs.declared.text.TextFault.TheVariants.{OutOfMemory as MemoryFault};
@@ -79,10 +79,18 @@ pub fn encode_modified(alloc: Global, units: &[u16]) -> Result<Vec<u8>, OutOfMem
         → bytes.items ≡ text_bytes other → other ≡ units.now) }
 {
     let mut bytes = Vec::new(alloc);
-    for unit in units {
-        push_unit(&mut bytes, *unit)?;
-    }
+    push_text(&mut bytes, units)?;
     Ok(bytes)
+}
+
+/// Adds the spelling of the units at the end. A refused growth may leave a part of it there. Takes time in their number.
+pub(crate) fn push_text(out: &mut Vec<u8>, units: &[u16]) -> Result<(), OutOfMemory>
+    ensures { OnOk result (out.new.items ≡ out.old.items ++ text_bytes units.now) }
+{
+    for unit in units {
+        push_unit(out, *unit)?;
+    }
+    Ok(())
 }
 
 /// No two texts have one spelling, so what `encode_modified` gives is read back as the same units.
@@ -90,16 +98,14 @@ pub fn one_spelling()
     ensures { (one other : List ℕ) → AreUnits one → AreUnits other → text_bytes one ≡ text_bytes other → one ≡ other }
 {}
 
-/// Whether the spelling of the units has fewer than 65536 bytes. Takes time in the number of units.
-pub(crate) fn is_short(units: &[u16]) -> bool
-    ensures { IsTrue result ↔ (AreUnits units.now × (length (text_bytes units.now) < 2 ^ 16)) }
+/// How many bytes the spelling of the units has, or `None` where it has 65536 or more. Takes time in the number of units.
+pub(crate) fn short_length(units: &[u16]) -> Option<u16>
+    ensures short { IfSome result (λ size. AreUnits units.now × (size ≡ length (text_bytes units.now))) }
+    ensures none { IsNone result → ¬ (length (text_bytes units.now) < 2 ^ 16) }
 {
-    let mut room = u16::MAX;
+    let mut size: u16 = 0;
     for unit in units {
-        let Some(left) = room.checked_sub(spelled_length(*unit)) else {
-            return false;
-        };
-        room = left;
+        size = size.checked_add(spelled_length(*unit))?;
     }
-    true
+    Some(size)
 }

@@ -1,6 +1,7 @@
 // A UTF-16 unit in modified UTF-8 (JVMS §4.4.7).
-ghost use Rattle.std.specs.Prelude.{◌≡◌, ◌^◌, ◌<◌, ◌++◌, ℕ, List, length, IfSome, IsSomeAnd, OnOk};
-ghost use Rattle.cb_text.specs.Reading.{IsLong};
+ghost use Rattle.std.specs.Prelude.{◌≡◌, ◌<◌, ◌≤◌, ◌∷◌, ◌++◌, ℕ, List, length, OnOk};
+ghost use Rattle.cb_text.specs.Fronts.{Reads};
+ghost use Rattle.cb_text.specs.Reading.{SpellsUnit};
 ghost use Rattle.cb_text.specs.Text.{unit_bytes};
 
 use crate::OutOfMemory;
@@ -8,9 +9,7 @@ use crate::OutOfMemory;
 /// The unit at the front of the bytes, and what stands behind it, or `None` where no unit's spelling is a front of
 /// them.
 pub(crate) fn unit_at(bytes: &[u8]) -> Option<(u16, &[u8])>
-    ensures found { IfSome result (λ read. bytes.now ≡ unit_bytes read.0 ++ read.1.now) }
-    ensures only { (unit : ℕ) (rest : List ℕ) → unit < 2 ^ 16 → bytes.now ≡ unit_bytes unit ++ rest
-        → IsSomeAnd result (λ read. (read.0 ≡ unit) × (read.1.now ≡ rest)) }
+    ensures { Reads SpellsUnit bytes.now result }
 {
     match bytes {
         [unit @ 1..=0x7F, rest @ ..] => Some((u16::from(*unit), rest)),
@@ -20,9 +19,8 @@ pub(crate) fn unit_at(bytes: &[u8]) -> Option<(u16, &[u8])>
 
 /// The unit of two or three bytes at the front, and what stands behind it.
 fn long_unit_at(bytes: &[u8]) -> Option<(u16, &[u8])>
-    ensures found { IfSome result (λ read. bytes.now ≡ unit_bytes read.0 ++ read.1.now) }
-    ensures only { (unit : ℕ) (rest : List ℕ) → unit < 2 ^ 16 → IsLong unit → bytes.now ≡ unit_bytes unit ++ rest
-        → IsSomeAnd result (λ read. (read.0 ≡ unit) × (read.1.now ≡ rest)) }
+    requires { (byte : ℕ) (rest : List ℕ) → bytes.now ≡ byte ∷ rest → ¬ ((1 ≤ byte) × (byte < 0x80)) }
+    ensures { Reads SpellsUnit bytes.now result }
 {
     match bytes {
         [high @ 0xC0..=0xDF, low @ 0x80..=0xBF, rest @ ..] => {

@@ -1,25 +1,36 @@
 // The bytes of a constant (JVMS §4.4).
 ghost use Rattle.std.specs.Prelude.{◌≡◌, ◌∷◌, ◌++◌, OnOk};
 ghost use Rattle.std.specs.Int.{w32, w64, to_be_bytes};
+ghost use Rattle.std.specs.List.{AllByRecursion, flat_map};
 ghost use Rattle.cb_text.specs.Pool.{Fits, constant_bytes, u2};
 
-use crate::{Constant, OutOfMemory, encode_modified};
-use std::alloc::Global;
+use crate::text::{push_text, short_length};
+use crate::{Constant, OutOfMemory};
 
-/// Adds the bytes of a constant at the end. Takes time in their number.
-pub(crate) fn push_constant(
-    alloc: Global,
-    out: &mut Vec<u8>,
-    constant: &Constant,
-) -> Result<(), OutOfMemory>
+/// Adds the bytes of the constants at the end. A refused growth may leave a part of them there. Takes time in the number
+/// of bytes.
+pub(crate) fn push_constants(out: &mut Vec<u8>, constants: &[Constant]) -> Result<(), OutOfMemory>
+    requires { AllByRecursion Fits constants.now }
+    ensures { OnOk result (out.new.items ≡ out.old.items ++ flat_map constant_bytes constants.now) }
+{
+    for constant in constants {
+        push_constant(out, constant)?;
+    }
+    Ok(())
+}
+
+/// Adds the bytes of a constant at the end.
+fn push_constant(out: &mut Vec<u8>, constant: &Constant) -> Result<(), OutOfMemory>
     requires { Fits constant.now }
     ensures { OnOk result (out.new.items ≡ out.old.items ++ constant_bytes constant.now) }
 {
     match constant {
         Constant::Utf8(units) => {
-            let text = encode_modified(alloc, units.as_slice())?;
-            push_index(out, 1, text.len() as u16)?;
-            out.extend_from_slice(&text)?;
+            let Some(length) = short_length(units.as_slice()) else {
+                unreachable!()
+            };
+            push_index(out, 1, length)?;
+            push_text(out, units.as_slice())?;
         }
         Constant::Integer(number) => push_word(out, 3, *number)?,
         Constant::Float(bits) => push_word(out, 4, *bits)?,

@@ -5,7 +5,7 @@ use Rattle.cb_classfile.proofs.table.entries.Goals as goal
 
 pub returns-in_err-entry : goal.returns-in_err-entry
 returns-in_err-entry g c =
-    handed _ _ _ _ c.from_residual.ensures (from_next _ _ _ _ _ _ c.loop.invariant c.loop-test.true c.in_err-entry.ensures)
+    handed _ _ _ _ c.from_residual-in_err-entry.ensures (from_next _ _ _ _ _ _ c.loop.invariant c.loop-test.true c.in_err-entry.ensures)
 
 pub loop-preserved : goal.loop-preserved
 loop-preserved g c =

@@ -1,7 +1,6 @@
 use Rattle.std.proofs.Common.{sym, ◌∙◌}
-use Rattle.cb_text.proofs.ReadAgain.{none_stands}
 use Rattle.cb_text.proofs.next_constant.next_constant.Goals as goal
 
-pub returns-in-None-clause-only : goal.returns-in-None-clause-only
-returns-in-None-clause-only c = λ constant rest has fit spelled.
-    absurd (none_stands constant _ _ rest has fit c.if-tag-eq1.false c.in-None.ensures.reads (sym c.in-Some.ensures.cases.0 ∙ spelled))
+pub returns-in-None : goal.returns-in-None
+returns-in-None c = λ constant rest (first, spelled, split).
+    absurd (c.in-None.ensures constant rest (first, spelled, sym c.in-Some.ensures.cases.0 ∙ split))

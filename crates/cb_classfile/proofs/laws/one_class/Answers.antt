@@ -1,5 +1,0 @@
-use Rattle.cb_classfile.proofs.OneClass.{one_class_spelled}
-use Rattle.cb_classfile.proofs.laws.one_class.Goals as goal
-
-pub returns : goal.returns
-returns c = one_class_spelled

@@ -1,6 +1,0 @@
-use Rattle.std.proofs.Common.{◌≡◌, ◌+◌, length, take}
-use Rattle.cb_text.specs.Text.{text_bytes}
-use Rattle.cb_text.proofs.text.is_short.Given as goal
-
-abbrev pub invariant-loop-unit : goal.invariant-loop-unit
-invariant-loop-unit l = length (text_bytes (take l.unit-index l.units)) + l.room ≡ 65535
