@@ -1,0 +1,8 @@
+mod Blocks
+mod Bodies
+mod Classes
+mod Finding
+mod FrameParts
+mod Members
+mod Once
+mod Spelling

@@ -1,0 +1,26 @@
+//! Class files written back: the bytes that spell a record and have nothing to skip (JVMS chapter 4), and whether a
+//! record has any.
+//!
+//! The grammar is that of `cb_classfile`. No clause says that memory is to be had: that `write_class` doesn't always give
+//! up is shown by tests alone.
+#![tactic(auto)]
+
+mod attribute_names;
+mod block;
+mod body;
+mod body_form;
+mod class;
+mod entry;
+mod field;
+mod frame;
+mod frame_parts;
+mod handler;
+mod interface;
+mod map_type;
+mod method;
+mod numbers;
+mod size;
+#[cfg(test)]
+mod tests;
+
+pub use class::{well_formed, write_class};
