@@ -1,15 +1,12 @@
 //! The program `cbvm`: the real folder, input and outputs, handed to the top call.
 #![tactic(auto)]
 
-ghost use Rattle.std.specs.Prelude.{◌≡◌, ◌≢◌, ◌↔◌, List, ℕ, drop, map, string_bytes, IfErr, IfOk, IfSome};
-ghost use Rattle.std.specs.Io.KnownBytes.{Appends};
+ghost use Rattle.std.specs.Prelude.{◌≡◌, ◌≢◌, ◌⊎◌, List, ℕ, drop, map, string_bytes, IfErr, IfOk};
 ghost use Rattle.std.specs.IoError.{error_kind};
 ghost use Rattle.std.specs.Process.{exit_status};
-ghost use Rattle.cb_io.specs.Faults.{CountsFaults};
-ghost use Rattle.cb_machine.specs.Expression.{Expression};
-ghost use Rattle.cb_machine.specs.Printing.{printed};
-ghost use Rattle.cb_runner.specs.Answer.{IsCutShort, NamesProgram, status_of};
-ghost use Rattle.cb_runner.specs.Words.{IsRun};
+ghost use Rattle.cb_runner.specs.Answer.{IsAnswer};
+ghost use Rattle.cb_runner.specs.Ending.{status_of};
+ghost use Rattle.cb_runner.specs.Words.{SaysNone};
 ghost use Rattle.cb_runner.specs.declared.cause.Cause.{Cause};
 
 use cb_io::{DirFolder, Folder, Sink, Source, StreamSink, StreamSource};
@@ -29,18 +26,20 @@ fn words(rt: &HostRuntime) -> io::Result<Vec<String>> {
     Ok(words)
 }
 
-/// Does what the words behind the program's name say, and gives the end of the program: that of want of memory, or of
-/// words that are no command, where the system gave none.
+/// Does what the words behind the program's name say, and gives the end of the program. Where the system gave none, that
+/// is the end of want of memory, or of words that are no command, as words that aren't text are none.
 fn end_of_words(rt: &HostRuntime, words: io::Result<Vec<String>>) -> ExitCode
     ensures status { (cause : Cause) × (exit_status result ≡ status_of cause) }
-    ensures usage { IfOk words (λ words. (exit_status result ≡ 120)
-        ↔ ((name : List ℕ) → IsRun name (map string_bytes (drop 1 words.items)) → ⊥)) }
+    ensures usage { IfOk words (λ words. exit_status result ≡ 120 → SaysNone (map string_bytes (drop 1 words.items))) }
+    ensures none { IfOk words (λ words. SaysNone (map string_bytes (drop 1 words.items))
+        → (exit_status result ≡ 120) ⊎ (exit_status result ≡ 127)) }
     ensures memory { IfErr words (λ error. error_kind error ≡ ErrorKind.OutOfMemory → exit_status result ≡ 119) }
-    ensures unread { IfErr words (λ error. error_kind error ≢ ErrorKind.OutOfMemory → exit_status result ≡ 120) }
+    ensures unread { IfErr words (λ error. error_kind error ≢ ErrorKind.OutOfMemory
+        → (exit_status result ≡ 120) ⊎ (exit_status result ≡ 127)) }
 {
     match words {
         Ok(words) => run(rt, behind_name(words.as_slice())),
-        Err(error) => exit_without_words(error.kind()),
+        Err(error) => end_without_words(rt, error.kind()),
     }
 }
 
@@ -54,16 +53,15 @@ fn behind_name(words: &[String]) -> &[String]
     }
 }
 
-/// The end where the words couldn't be read: that of want of memory, or of words that are no command, as words that
-/// aren't text are none.
-fn exit_without_words(kind: ErrorKind) -> ExitCode
+/// The end where the words couldn't be read.
+fn end_without_words(rt: &HostRuntime, kind: ErrorKind) -> ExitCode
     ensures status { (cause : Cause) × (exit_status result ≡ status_of cause) }
     ensures memory { kind ≡ ErrorKind.OutOfMemory → exit_status result ≡ 119 }
-    ensures usage { kind ≢ ErrorKind.OutOfMemory → exit_status result ≡ 120 }
+    ensures unread { kind ≢ ErrorKind.OutOfMemory → (exit_status result ≡ 120) ⊎ (exit_status result ≡ 127) }
 {
     match kind {
         ErrorKind::OutOfMemory => ExitCode::from(119),
-        _ => ExitCode::from(120),
+        _ => run(rt, &[]),
     }
 }
 
@@ -71,7 +69,8 @@ fn exit_without_words(kind: ErrorKind) -> ExitCode
 /// program.
 fn run(rt: &HostRuntime, words: &[String]) -> ExitCode
     ensures status { (cause : Cause) × (exit_status result ≡ status_of cause) }
-    ensures usage { (exit_status result ≡ 120) ↔ ((name : List ℕ) → IsRun name (map string_bytes words.now) → ⊥) }
+    ensures usage { exit_status result ≡ 120 → SaysNone (map string_bytes words.now) }
+    ensures none { SaysNone (map string_bytes words.now) → (exit_status result ≡ 120) ⊎ (exit_status result ≡ 127) }
 {
     let mut folder = DirFolder::new(rt);
     let mut input = StreamSource::new(rt.stdin());
@@ -87,7 +86,7 @@ fn run(rt: &HostRuntime, words: &[String]) -> ExitCode
     )
 }
 
-/// Does what the words say, and gives the end of the program.
+/// Does what the words say, and gives the end of the program: the status of the cause, with the whole answer of the call.
 fn exit_code<F: Folder, S: Source, O: Sink, E: Sink>(
     alloc: Global,
     words: &[String],
@@ -96,17 +95,12 @@ fn exit_code<F: Folder, S: Source, O: Sink, E: Sink>(
     out: &mut O,
     err: &mut E,
 ) -> ExitCode
-    ensures status { (cause : Cause) × (exit_status result ≡ status_of cause)
-        × IfSome (F.files folder.old) (λ files. (cause ≡ Cause.Returned)
-        ↔ (((program : List Expression) × NamesProgram (map string_bytes words.now) files program)
-        × ¬ IsCutShort cause)) }
-    ensures usage { (exit_status result ≡ 120) ↔ ((name : List ℕ) → IsRun name (map string_bytes words.now) → ⊥) }
-    ensures printed { IfSome (F.files folder.old) (λ files. (program : List Expression)
-        → NamesProgram (map string_bytes words.now) files program → exit_status result ≡ 0
-        → Appends (O.taken out.old) (O.taken out.new) (printed program)) }
-    ensures folder_fault { CountsFaults (F.faults folder.old) (F.faults folder.new) (exit_status result ≡ 124) }
-    ensures output_fault { CountsFaults (O.faults out.old) (O.faults out.new) (exit_status result ≡ 126) }
-    ensures err_kept { (E.taken err.new ≡ E.taken err.old) × (E.faults err.new ≡ E.faults err.old) }
+    ensures answer { (cause : Cause) × (exit_status result ≡ status_of cause) × IsAnswer (map string_bytes words.now)
+        (record { files = F.files folder.old; left = S.left input.old; out = O.taken out.old; err = E.taken err.old })
+        (record { files = F.files folder.new; left = S.left input.new; out = O.taken out.new; err = E.taken err.new })
+        (record { folder = F.faults folder.old; input = S.faults input.old; out = O.faults out.old; err = E.faults err.old })
+        (record { folder = F.faults folder.new; input = S.faults input.new; out = O.faults out.new; err = E.faults err.new })
+        cause }
 {
     ExitCode::from(run_command(alloc, words, folder, input, out, err).status)
 }

@@ -1,4 +1,5 @@
 pub mod Lines
 pub mod Running
 pub mod ThreeItems
-pub mod Causes
+pub mod Endings
+pub mod Laws

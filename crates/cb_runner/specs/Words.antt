@@ -13,3 +13,15 @@ pub record IsRun (folder : List ℕ) (words : List (List ℕ)) : Type 0 where
 -- where the class's file stands
 abbrev pub class_path : List ℕ → List ℕ
 class_path folder = folder ++ codes "/First.class"
+
+-- a command
+pub data Command : Type 0 where
+  RunIn : List ℕ → Command
+
+-- the words say it
+abbrev pub Says : List (List ℕ) → Command → Type 0
+Says words (RunIn folder) = IsRun folder words
+
+-- they say none
+abbrev pub SaysNone : List (List ℕ) → Type 0
+SaysNone words = (command : Command) → ¬ Says words command

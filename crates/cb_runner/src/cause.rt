@@ -5,7 +5,7 @@ ghost use Rattle.cb_runner.specs.Messages.{refusal_text};
 use std::error::Error;
 use std::fmt;
 
-/// How a call ended.
+/// How a call ended. Its last line on the error output tells the rest.
 #[derive(Clone, Copy, Debug, PartialEq, Eq)]
 pub enum Cause {
     /// The program ran to its end.
@@ -13,11 +13,13 @@ pub enum Cause {
     /// The words are no command.
     Usage,
     /// The program was refused before its run.
-    Refused(Refusal),
+    Refused,
     /// A call of the folder failed.
     FolderFault,
     /// A call of the sink for what the program prints failed.
     OutputFault,
+    /// A call of the sink for the last line failed.
+    ErrFault,
     /// No memory was to be had. Nothing was printed.
     OutOfMemory,
 }
@@ -46,7 +48,7 @@ impl Error for Refusal {}
 
 impl Cause {
     ghost use Rattle.std.specs.Prelude.{◌≡◌};
-    ghost use Rattle.cb_runner.specs.Answer.{status_of};
+    ghost use Rattle.cb_runner.specs.Ending.{status_of};
 
     /// The exit status of the program.
     pub fn status(self) -> u8
@@ -56,9 +58,10 @@ impl Cause {
             Cause::Returned => 0,
             Cause::OutOfMemory => 119,
             Cause::Usage => 120,
-            Cause::Refused(_) => 121,
+            Cause::Refused => 121,
             Cause::FolderFault => 124,
             Cause::OutputFault => 126,
+            Cause::ErrFault => 127,
         }
     }
 }

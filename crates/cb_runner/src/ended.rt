@@ -14,7 +14,7 @@ pub struct Ended {
 
 impl Ended {
     ghost use Rattle.std.specs.Prelude.{◌≡◌};
-    ghost use Rattle.cb_runner.specs.Answer.{status_of};
+    ghost use Rattle.cb_runner.specs.Ending.{status_of};
 
     /// Ends by a cause, without a collection.
     pub(crate) fn new(cause: Cause) -> Self

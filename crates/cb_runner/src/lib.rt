@@ -7,7 +7,9 @@ mod cause;
 mod command;
 mod ended;
 mod interpreter;
+mod law;
 mod operand_stack;
+mod stop;
 #[cfg(test)]
 mod tests;
 mod words;
@@ -15,3 +17,4 @@ mod words;
 pub use cause::{Cause, Refusal};
 pub use command::run_command;
 pub use ended::{Ended, Tally};
+pub use law::{run_exactly, usage_exactly};

@@ -1,6 +1,6 @@
 // The top call over objects in memory, against the bytes that the programs print on another virtual machine.
-use crate::{Cause, Refusal, run_command};
-use cb_io::{MemFolder, MemSink, SureFolder, SureSink, SureSource};
+use crate::{Cause, Refusal, run_command, run_exactly, usage_exactly};
+use cb_io::{MemFolder, MemSink, SureFolder, SureSource};
 use cb_plain::Numbers;
 use std::alloc::{AllocError, Global};
 use std::test::Fail;
@@ -58,7 +58,6 @@ fn programs_print_what_another_machine_prints(rt: HostRuntime) -> Result<(), Fai
     let alloc = rt.alloc();
     let words = words_of(alloc, "run F First")?;
     let mut input = SureSource::new(Vec::from_slice(alloc, b"AB")?);
-    let mut err = MemSink::new(alloc, 1, Numbers::new(alloc));
     // The code, how many bytes of the file are left out at its end, and then what comes of it.
     for (code, left_out, want, status) in [
         (PRODUCT, 0, b"42\n".as_slice(), 0),
@@ -82,6 +81,7 @@ fn programs_print_what_another_machine_prints(rt: HostRuntime) -> Result<(), Fai
         file.truncate(file.len().saturating_sub(left_out));
         let mut folder = folder_of(alloc, Some(file))?;
         let mut out = MemSink::new(alloc, 2, Numbers::new(alloc));
+        let mut err = MemSink::new(alloc, 9, Numbers::new(alloc));
         let ended = run_command(
             alloc,
             words.as_slice(),
@@ -92,14 +92,16 @@ fn programs_print_what_another_machine_prints(rt: HostRuntime) -> Result<(), Fai
         );
         assert_eq!(rt; ended.status, status);
         assert_eq!(rt; out.bytes(), want);
+        assert_eq!(rt; err.bytes().is_empty(), status == 0);
     }
     assert_eq!(rt; input.remaining(), b"AB".as_slice());
-    assert_eq!(rt; err.bytes(), b"".as_slice());
     Ok(())
 }
 
 #[test]
-fn a_refusal_is_told_in_words(rt: HostRuntime) -> Result<(), Fail> {
+fn laws_are_called_and_a_refusal_is_told_in_words(rt: HostRuntime) -> Result<(), Fail> {
+    usage_exactly();
+    run_exactly();
     let words = format!(in rt.alloc(); "{}", Refusal::NotYet)?;
     assert_eq!(rt; words.as_str(), "E4 unsupported not yet in class First");
     Ok(())
@@ -109,31 +111,34 @@ fn a_refusal_is_told_in_words(rt: HostRuntime) -> Result<(), Fail> {
 fn other_files_and_words_are_refused(rt: HostRuntime) -> Result<(), Fail> {
     let alloc = rt.alloc();
     let long = vec![in alloc; 0u8; 1_048_577]?;
-    let missing = Cause::Refused(Refusal::MissingClass);
-    let not_yet = Cause::Refused(Refusal::NotYet);
-    for (file, line, want, status) in [
-        (Some(long), "run F First", not_yet, 121),
-        (None, "run F First", missing, 121),
-        (None, "run F", Cause::Usage, 120),
-        (None, "run -F First", Cause::Usage, 120),
-        (None, "run F Second", Cause::Usage, 120),
-        (None, "run F First x", Cause::Usage, 120),
-        (None, "", Cause::Usage, 120),
+    let missing = b"cbvm: E1 missing class First\n".as_slice();
+    let not_yet = b"cbvm: E4 unsupported not yet in class First\n".as_slice();
+    let usage = b"cbvm: these words are no command\n".as_slice();
+    for (file, line, cause, status, want) in [
+        (Some(long), "run F First", Cause::Refused, 121, not_yet),
+        (None, "run F First", Cause::Refused, 121, missing),
+        (None, "run F", Cause::Usage, 120, usage),
+        (None, "run -F First", Cause::Usage, 120, usage),
+        (None, "run F Second", Cause::Usage, 120, usage),
+        (None, "run F First x", Cause::Usage, 120, usage),
+        (None, "", Cause::Usage, 120, usage),
     ] {
         let mut folder = folder_of(alloc, file)?;
         let words = words_of(alloc, line)?;
         let mut out = MemSink::new(alloc, 9, Numbers::new(alloc));
+        let mut err = MemSink::new(alloc, 7, Numbers::new(alloc));
         let ended = run_command(
             alloc,
             words.as_slice(),
             &mut folder,
             &mut SureSource::new(Vec::new(alloc)),
             &mut out,
-            &mut SureSink::new(),
+            &mut err,
         );
-        assert_eq!(rt; ended.cause, want);
+        assert_eq!(rt; ended.cause, cause);
         assert_eq!(rt; ended.status, status);
         assert_eq!(rt; out.bytes(), b"".as_slice());
+        assert_eq!(rt; err.bytes(), want);
     }
     Ok(())
 }
@@ -142,24 +147,43 @@ fn other_files_and_words_are_refused(rt: HostRuntime) -> Result<(), Fail> {
 fn the_call_ends_at_the_first_fault(rt: HostRuntime) -> Result<(), Fail> {
     let alloc = rt.alloc();
     let words = words_of(alloc, "run F First")?;
-    for (failing_folder, cause, status, want) in [
-        (1, Cause::FolderFault, 124, b"".as_slice()),
-        (2, Cause::OutputFault, 126, b"4"),
+    // Which calls of the folder, the output and the error output fail, and then what comes of it.
+    for (fails, cause, status, want, want_err) in [
+        (
+            [1, 9, 99],
+            Cause::FolderFault,
+            124,
+            b"".as_slice(),
+            b"cbvm: folder fault\n".as_slice(),
+        ),
+        (
+            [2, 2, 99],
+            Cause::OutputFault,
+            126,
+            b"4",
+            b"cbvm: output fault\n",
+        ),
+        ([2, 2, 3], Cause::ErrFault, 127, b"4", b"cb"),
+        ([1, 9, 1], Cause::ErrFault, 127, b"", b""),
+        ([2, 9, 1], Cause::Returned, 0, b"42\n", b""),
     ] {
+        let [fails_folder, fails_out, fails_err] = fails;
         let files = folder_of(alloc, Some(class_file(alloc, PRODUCT)?))?;
-        let mut folder = MemFolder::new(files, call(alloc, failing_folder)?);
-        let mut out = MemSink::new(alloc, 1, call(alloc, 2)?);
+        let mut folder = MemFolder::new(files, call(alloc, fails_folder)?);
+        let mut out = MemSink::new(alloc, 1, call(alloc, fails_out)?);
+        let mut err = MemSink::new(alloc, 1, call(alloc, fails_err)?);
         let ended = run_command(
             alloc,
             words.as_slice(),
             &mut folder,
             &mut SureSource::new(Vec::new(alloc)),
             &mut out,
-            &mut SureSink::new(),
+            &mut err,
         );
         assert_eq!(rt; ended.cause, cause);
         assert_eq!(rt; ended.status, status);
         assert_eq!(rt; out.bytes(), want);
+        assert_eq!(rt; err.bytes(), want_err);
     }
     Ok(())
 }

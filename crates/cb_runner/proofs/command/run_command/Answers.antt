@@ -1,20 +1,23 @@
-use Rattle.std.proofs.Common.{subst, sym, ◌∙◌}
-use Rattle.std.proofs.lemmas.Option.{IfSome_then}
-use Rattle.cb_runner.specs.Grounds.{Grounds}
-use Rattle.cb_runner.proofs.Causes.{program_file, not_yet_exactly, returned_exactly}
+use Rattle.std.proofs.Common.{refl}
+use Rattle.cb_runner.specs.Inner.{ending_of}
+use Rattle.cb_runner.proofs.Endings.{folder_counts, nothing_read, output_counts}
 use Rattle.cb_runner.proofs.command.run_command.Goals as goal
 
-pub returns-clause-not_yet : goal.returns-clause-not_yet
-returns-clause-not_yet g c =
-    IfSome_then (g.F.Folder.files c.args.folder.now) c.run_class.ensures.grounds
-    (λ files grounds. not_yet_exactly files _ c.in-Some.name.now c.new-2.result.cause c.in-Some.ensures (subst (Grounds _) (sym c.new-2.ensures.cause) grounds))
-
-pub returns-clause-returned : goal.returns-clause-returned
-returns-clause-returned g c =
-    IfSome_then (g.F.Folder.files c.args.folder.now) c.run_class.ensures.grounds
-    (λ files grounds. returned_exactly files _ c.in-Some.name.now c.new-2.result.cause c.in-Some.ensures (subst (Grounds _) (sym c.new-2.ensures.cause) grounds))
-
-pub returns-clause-cut_short : goal.returns-clause-cut_short
-returns-clause-cut_short g c =
-    IfSome_then (g.F.Folder.files c.args.folder.now) c.run_class.ensures.cut_short
-    (λ files cut program named fault. cut program (program_file files _ c.in-Some.name.now program c.in-Some.ensures named) (sym c.new-2.ensures.cause ∙ fault))
+pub returns-clause-answer : goal.returns-clause-answer
+returns-clause-answer g c =
+    let (printed, appends, ends) = c.carry_out-stop.ensures.ends in
+    let stop = c.carry_out-stop.result in
+    rw c.new.ensures.cause (record {
+      ending = ending_of stop printed;
+      ends = ends _;
+      files = c.carry_out-stop.ensures.kept;
+      left = nothing_read _;
+      out = appends;
+      err = c.tell.ensures.told printed;
+      counts = record {
+        folder = folder_counts stop _ _ c.carry_out-stop.ensures.folder_fault;
+        input = refl;
+        out = output_counts stop _ _ c.carry_out-stop.ensures.output_fault;
+        err = c.tell.ensures.fault;
+      };
+    })

@@ -1,0 +1,49 @@
+-- How a call ends, and the status that tells it.
+use Rattle.std.specs.Prelude.{ℕ, List, []}
+use Rattle.std.specs.Prelude.{codes}
+use Rattle.cb_runner.specs.declared.cause.Cause.{Cause}
+use Rattle.cb_runner.specs.declared.cause.Cause.TheVariants.{Returned, Usage, Refused, FolderFault, OutputFault, ErrFault, OutOfMemory}
+use Rattle.cb_runner.specs.declared.cause.Refusal.{Refusal}
+use Rattle.cb_runner.specs.Messages.{line, refusal_text}
+
+-- the exit status of each cause
+abbrev pub status_of : Cause → ℕ
+status_of Returned = 0
+status_of OutOfMemory = 119
+status_of Usage = 120
+status_of Refused = 121
+status_of FolderFault = 124
+status_of OutputFault = 126
+status_of ErrFault = 127
+
+-- how a call ends: its cause, the bytes that it writes to the output and to the error output, and how many of the input's
+-- it reads
+pub record Ending : Type 0 where
+  pub cause : Cause
+  pub out : List ℕ
+  pub err : List ℕ
+  pub read : ℕ
+
+-- one that has printed nothing and read nothing, with this last line
+abbrev pub without_output : Cause → List ℕ → Ending
+without_output cause text = record { cause = cause; out = []; err = line text; read = 0 }
+
+abbrev pub usage : Ending
+usage = without_output Usage (codes "these words are no command")
+
+abbrev pub refused : Refusal → Ending
+refused refusal = without_output Refused (refusal_text refusal)
+
+abbrev pub out_of_memory : Ending
+out_of_memory = without_output OutOfMemory (codes "out of memory")
+
+abbrev pub folder_fault : Ending
+folder_fault = without_output FolderFault (codes "folder fault")
+
+-- the command came to its end
+abbrev pub returned : List ℕ → ℕ → Ending
+returned out read = record { cause = Returned; out = out; err = []; read = read }
+
+-- a write of the output failed
+abbrev pub output_fault : List ℕ → ℕ → Ending
+output_fault out read = record { cause = OutputFault; out = out; err = line (codes "output fault"); read = read }
