@@ -1,0 +1,8 @@
+mod Distinct
+mod Growing
+mod Having
+mod Naming
+mod Parameters
+mod Pooling
+mod Quoted
+mod Spelled
