@@ -1,6 +1,6 @@
 // The forms of operands.
 ghost use Rattle.std.specs.Prelude.{◌≡◌, ◌<◌, slice_index_or, None};
-ghost use Rattle.cb_insn.specs.Forms.{form_of, wide_form_of};
+ghost use Rattle.cb_insn.specs.Forms.{form_of, head_form, wide_form_of};
 
 use crate::form_table::FORMS;
 use crate::opcode;
@@ -72,5 +72,17 @@ pub(crate) fn wide_form_of(opcode: u8) -> Option<Form>
         Form::Local => Some(Form::WideLocal),
         Form::Increase => Some(Form::WideIncrease),
         _ => None,
+    }
+}
+
+/// The form of the operand behind an opcode, or behind `wide` and an opcode, or `None` where there is no such
+/// instruction (JVMS chapter 6).
+pub fn head_form(wide: bool, opcode: u8) -> Option<Form>
+    ensures { result ≡ head_form wide opcode }
+{
+    if wide {
+        wide_form_of(opcode)
+    } else {
+        form_of(opcode)
     }
 }

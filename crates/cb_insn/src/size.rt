@@ -13,7 +13,7 @@ use crate::switch::{high_bound, padding_length};
 use crate::{Insn, Operand, Pair};
 
 /// How many bytes spell an instruction at a place, or `None` where none do. Takes time in their number.
-pub(crate) fn insn_size(pc: u32, insn: &Insn) -> Option<usize>
+pub fn insn_size(pc: u32, insn: &Insn) -> Option<usize>
     ensures fits { IfSome result (λ size. SpellsInsn pc insn.now (insn_bytes pc insn.now)
         × (size ≡ length (insn_bytes pc insn.now))) }
     ensures bound { IfSome result (λ size. (0 < size) × (size < 2 ^ 41)) }
