@@ -50,8 +50,8 @@ fn methods_differ(constants: &Constants<'_>, class: &ClassFile) -> bool
 }
 
 /// The same, in time linear in the class but for a logarithm: where there are many fields or methods, the texts of the
-/// pool are numbered once, and compared by their numbers.
-pub(crate) fn is_class_by_numbers(
+/// pool are numbered once, and compared by their numbers. `AllocError` where no memory was to be had for that.
+pub fn is_class_by_numbers(
     alloc: Global,
     constants: &Constants<'_>,
     class: &ClassFile,

@@ -39,7 +39,7 @@ mod texts;
 
 pub use body::Body;
 pub use class::ClassFile;
-pub use class_rules::is_class;
+pub use class_rules::{is_class, is_class_by_numbers};
 pub use constants::Constants;
 pub use differ::{Named, do_differ};
 pub use fault::{ClassFault, ReadFault};

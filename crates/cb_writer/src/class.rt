@@ -8,7 +8,7 @@ ghost use Rattle.cb_writer.specs.Formed.{HasSpelling};
 use crate::attribute_names::AttributeNames;
 use crate::entry::{is_table, push_table};
 use crate::numbers::{push_triple, push_u2, push_u4};
-use cb_classfile::{ClassFile, is_class};
+use cb_classfile::{ClassFile, is_class, is_class_by_numbers};
 use cb_plain::OutOfMemory;
 use std::alloc::Global;
 
@@ -29,6 +29,19 @@ pub fn well_formed(class: &ClassFile) -> bool
     keeps_rules(&names, class) && are_tables(&names, class)
 }
 
+/// The same in time linear in the record, times the logarithms that `well_formed` has and that of the number of its texts:
+/// where there are many fields or methods, they aren't compared in pairs. `OutOfMemory` where no memory was to be had for
+/// that.
+pub fn well_formed_by_numbers(alloc: Global, class: &ClassFile) -> Result<bool, OutOfMemory>
+    ensures { IfOk result (λ formed. IsTrue formed ↔ IsWellFormed class.now) }
+{
+    let names = AttributeNames::new(&class.pool);
+    // Numbers that are read are known to fit their bytes.
+    let _minor = class.minor;
+    let _major = class.major;
+    Ok(keeps_rules_by_numbers(alloc, &names, class)? && are_tables(&names, class))
+}
+
 /// Whether the names of its constants follow their grammars, and the class keeps the rules beyond its tables.
 fn keeps_rules(names: &AttributeNames<'_>, class: &ClassFile) -> bool
     requires { class.now.pool ≡ names.now }
@@ -36,6 +49,19 @@ fn keeps_rules(names: &AttributeNames<'_>, class: &ClassFile) -> bool
 {
     let constants = names.constants();
     constants.are_named() && is_class(&constants, class)
+}
+
+/// The same, with its members compared by the numbers of their texts.
+fn keeps_rules_by_numbers(
+    alloc: Global,
+    names: &AttributeNames<'_>,
+    class: &ClassFile,
+) -> Result<bool, OutOfMemory>
+    requires { class.now.pool ≡ names.now }
+    ensures { IfOk result (λ keeps. IsTrue keeps ↔ (AreNamed class.now.pool × IsClass class.now)) }
+{
+    let constants = names.constants();
+    Ok(constants.are_named() && is_class_by_numbers(alloc, &constants, class)?)
 }
 
 /// Whether some bytes spell what stands behind the pool of a class.

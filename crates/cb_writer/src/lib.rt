@@ -23,4 +23,4 @@ mod size;
 #[cfg(test)]
 mod tests;
 
-pub use class::{well_formed, write_class};
+pub use class::{well_formed, well_formed_by_numbers, write_class};

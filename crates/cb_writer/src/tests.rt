@@ -6,7 +6,7 @@ mod files;
 mod formed;
 mod names;
 
-use crate::{well_formed, write_class};
+use crate::{well_formed, well_formed_by_numbers, write_class};
 use cb_classfile::{ClassFile, Constant, Pool, read_any_class};
 use files::{FIRST, LIMITS, SMALL, TOLD, WORK};
 use std::alloc::Global;
@@ -32,6 +32,7 @@ fn files_with_nothing_to_skip_are_written_as_they_were(rt: HostRuntime) -> Resul
     ] {
         let class = again(rt.alloc(), file)?;
         assert!(rt; well_formed(&class), "{name}");
+        assert!(rt; well_formed_by_numbers(rt.alloc(), &class)?, "{name}");
         let written = write_class(rt.alloc(), &class)?;
         assert_eq!(rt; written.as_slice(), file, "{name}");
     }
