@@ -1,8 +1,8 @@
-mod Distinct
-mod Growing
-mod Having
-mod Naming
-mod Parameters
-mod Pooling
-mod Quoted
-mod Spelled
+mod Closed
+mod Fronts
+mod Labels
+mod Parts
+mod Programs
+mod Records
+mod Runs
+mod TextLines

@@ -4,7 +4,7 @@ use Rattle.cb_classfile.specs.declared.class.ClassFile.{ClassFile}
 use Rattle.cb_asm.specs.declared.fault.AsmFault.{AsmFault}
 use Rattle.cb_asm.specs.declared.fault.AsmFault.TheVariants.{BadLine, OutOfMemory}
 use Rattle.cb_asm.specs.BadLines.{IsFirstBadLine}
-use Rattle.cb_asm.specs.Grammar.{Assembles}
+use Rattle.cb_asm_record.specs.Grammar.{Assembles}
 
 -- the greatest number of a line that is told
 abbrev pub greatest_line : ℕ

@@ -8,10 +8,17 @@ use Rattle.cb_classfile.specs.declared.class.ClassFile.{ClassFile}
 use Rattle.cb_classfile.specs.declared.frame_map.MapFrame.{MapFrame}
 use Rattle.cb_classfile.specs.declared.map_type.MapType.TheVariants as types
 use Rattle.cb_classfile.specs.declared.method.Method.{Method}
-use Rattle.cb_asm.specs.Entries.{Entry}
-use Rattle.cb_asm.specs.Lines.{newline}
-use Rattle.cb_asm.specs.Program.{Operand, CodeLine, Here, Do, Top, Int, Long, Null, This, Object, New, Frame, FrameLine, Full, Program}
-use Rattle.cb_asm.specs.Record.{class_of}
+use Rattle.cb_asm_line.specs.declared.operand.Value.TheVariants as values
+use Rattle.cb_asm_line.specs.Lines.{newline}
+use Rattle.cb_asm_line.specs.declared.operand.Operand.{Operand}
+use Rattle.cb_asm_line.specs.declared.program.CodeLine.{CodeLine}
+use Rattle.cb_asm_line.specs.declared.frame.Frame.{Frame}
+use Rattle.cb_asm_line.specs.declared.frame.FrameLine.{FrameLine}
+use Rattle.cb_asm_line.specs.declared.program.Program.{Program}
+use Rattle.cb_asm_line.specs.declared.program.CodeLine.TheVariants.{Here, Do}
+use Rattle.cb_asm_line.specs.declared.frame.FrameType.TheVariants.{Top, Int, Long, Null, This, Object, New}
+use Rattle.cb_asm_line.specs.declared.frame.FrameLine.TheVariants.{Full}
+use Rattle.cb_asm_record.specs.Record.{class_of}
 
 -- a text by its lines
 abbrev pub text_of_lines : List (List ℕ) → List ℕ
@@ -148,10 +155,10 @@ forms_code =
     ∷ insn opcodes.ISTORE (Operand.Local 4)
     ∷ insn opcodes.BIPUSH (Operand.Number (negsuc 0))
     ∷ insn opcodes.SIPUSH (Operand.Number (pos 1000))
-    ∷ insn opcodes.LDC (Operand.Load (Entry.Int (pos 70000)))
-    ∷ insn opcodes.LDC (Operand.Load (Entry.String []))
-    ∷ insn opcodes.LDC_W (Operand.Load (Entry.Class (codes "[I")))
-    ∷ insn opcodes.LDC2_W (Operand.Load (Entry.Long (negsuc 0)))
+    ∷ insn opcodes.LDC (Operand.Load (values.Int (pos 70000)))
+    ∷ insn opcodes.LDC (Operand.Load (values.Text []))
+    ∷ insn opcodes.LDC_W (Operand.Load (values.Class (codes "[I")))
+    ∷ insn opcodes.LDC2_W (Operand.Load (values.Long (negsuc 0)))
     ∷ wide opcodes.IINC (Operand.Increase 300 (negsuc 399))
     ∷ insn opcodes.IINC (Operand.Increase 0 (pos 5))
     ∷ insn opcodes.PUTFIELD (Operand.Member (record { kind = kinds.Field; class = codes "p/Forms"; name = codes "-"; descriptor = codes "[J" }))
@@ -184,9 +191,9 @@ forms_program =
       superclass = Some (codes "java/lang/Object");
       interfaces = codes "java/lang/Runnable" ∷ [];
       fields =
-          record { flags = 0x0018; name = codes "I"; descriptor = codes "I"; value = Some (Entry.Int (negsuc 4)) }
-          ∷ record { flags = 0x0018; name = codes "J"; descriptor = codes "J"; value = Some (Entry.Long (pos 9223372036854775807)) }
-          ∷ record { flags = 0x0018; name = codes "T"; descriptor = codes "Ljava/lang/String;"; value = Some (Entry.String (codes "a \"b\" \\ " ++ newline ∷ [])) }
+          record { flags = 0x0018; name = codes "I"; descriptor = codes "I"; value = Some (values.Int (negsuc 4)) }
+          ∷ record { flags = 0x0018; name = codes "J"; descriptor = codes "J"; value = Some (values.Long (pos 9223372036854775807)) }
+          ∷ record { flags = 0x0018; name = codes "T"; descriptor = codes "Ljava/lang/String;"; value = Some (values.Text (codes "a \"b\" \\ " ++ newline ∷ [])) }
           ∷ record { flags = 0; name = codes "-"; descriptor = codes "[J"; value = None }
           ∷ record { flags = 0; name = codes "-:, "; descriptor = codes "I"; value = None }
           ∷ [];

@@ -1,16 +1,27 @@
-//! The assembly format of class files: which texts are in it, the class record of each, and the listing of a record.
+//! The assembly format of class files: a text assembled to a class record, and a record listed as a text.
 //!
-//! `specs/` has the definitions, in reading order: lines and words, the tree that they spell, the constant pool in the
-//! order of first use, the record of a program, the first bad line of a text, and the listing of a record. The calls here
-//! are laws over them, and examples that the checker computes. There is no assembler and no lister yet.
+//! The lines of the format, the record of a program and the listing of a record are those of `cb_asm_line`, `cb_asm_record`
+//! and `cb_asm_list`; `specs/` has the first line that is outside the format. No clause says that memory is to be had: that no
+//! call always gives up is shown by tests alone.
 #![tactic(auto)]
 
+mod assembled;
+mod assembling;
+mod bad_line;
+mod closing;
 mod fault;
+mod gathering;
 mod law;
+mod listing;
+mod open_labels;
+mod part;
+mod reading;
 mod sample;
 #[cfg(test)]
 mod tests;
 
+pub use assembling::{assemble, assemble_bytes};
 pub use fault::AsmFault;
-pub use law::{constants_named, one_opcode, one_spelling, parameters_spelled};
+pub use law::one_record;
+pub use listing::list;
 pub use sample::{first_sample, forms_sample, frames_in_full, parameters_sample};

@@ -1,13 +1,13 @@
 // Programs, frames and descriptors by which the definitions are tried: each is computed.
 ghost use Rattle.std.specs.Prelude.{◌≡◌, [], ◌∷◌, None, Some, codes, map};
-ghost use Rattle.cb_asm.specs.Expansion.{expanded_behind};
-ghost use Rattle.cb_asm.specs.Parameters.{argument_words, parameters_of};
-ghost use Rattle.cb_asm.specs.Program.{Int};
+ghost use Rattle.cb_asm_list.specs.Expansion.{expanded_behind};
+ghost use Rattle.cb_asm_line.specs.Parameters.{argument_words, parameters_of};
+ghost use Rattle.cb_asm_line.specs.declared.frame.FrameType.TheVariants.{Int};
 ghost use Rattle.cb_names.specs.Types.{type_text};
-ghost use Rattle.cb_asm.specs.Listing.{listing, program_of};
-ghost use Rattle.cb_asm.specs.Record.{class_of};
+ghost use Rattle.cb_asm_list.specs.Listing.{listing, program_of};
+ghost use Rattle.cb_asm_record.specs.Record.{class_of};
 ghost use Rattle.cb_asm.specs.Samples.{first_bytes, first_lines, first_program, forms_bytes, forms_lines, forms_program, framed_class, framed_lines, full_frames, short_frames, text_of_lines};
-ghost use Rattle.cb_asm.specs.Spelling.{program_text};
+ghost use Rattle.cb_asm_line.specs.Spelling.{program_text};
 ghost use Rattle.cb_classfile.specs.Class.{class_bytes};
 
 /// A class that prints 42: its text, its file, and its listing; and the listing with two frames, of which one is bad.

@@ -1,20 +1,90 @@
 -- What crates above may cite. No other file of these proofs is for them.
-use Rattle.std.proofs.Common.{◌≡◌, ◌⊎◌, inl, inr, ℕ, List, Option, sym, ◌∙◌, ap}
+use Rattle.std.proofs.Common.{◌≡◌, ◌⊎◌, inl, inr, ℕ, List, Option, Some, None, refl, sym, ◌∙◌, ap}
 use Rattle.cb_io.specs.Folder.{Files}
 use Rattle.cb_runner.specs.declared.cause.Cause.{Cause}
-use Rattle.cb_runner.specs.declared.cause.Cause.TheVariants.{Returned, Usage, Refused, FolderFault, OutputFault, ErrFault, OutOfMemory}
-use Rattle.cb_runner.specs.Answer.{Ends, IsTold, OfMemory, OfFolder, OfOutput}
+use Rattle.cb_runner.specs.declared.cause.Cause.TheVariants.{Returned, Usage, Refused, FolderFault, InputFault, OutputFault, ErrFault, OutOfMemory}
+use Rattle.cb_runner.specs.Answer.{Answers, Ends, EndsIn, Fault, IsCutShort, IsTold, IsWhole, OfMemory, OfFolder, OfInput, OfOutput}
+use Rattle.cb_runner.specs.Asm.{AssemblesText, TooLong, Assembled, Bad}
 use Rattle.cb_runner.specs.Ending.{Ending}
-use Rattle.cb_runner.specs.Words.{SaysNone}
+use Rattle.cb_runner.specs.List.{ListsBytes, ListsFile, OfVersion, OfNoClass, OfItem, Listed}
+use Rattle.cb_runner.specs.Run.{RunsFile}
+use Rattle.cb_runner.specs.Words.{Command, RunIn, ListOf, Assemble, SaysNone}
+
+-- a command that nothing cuts short returns or is refused
+runs_whole : (file : Option (List ℕ)) (ending : Ending) → RunsFile file ending → IsWhole ending
+runs_whole None ending is = inr (ap (λ e. e.cause) is)
+runs_whole (Some bytes) ending (inl (program, file, is)) = inl (ap (λ e. e.cause) is)
+runs_whole (Some bytes) ending (inr (none, is)) = inr (ap (λ e. e.cause) is)
+
+lists_bytes_whole : (path bytes : List ℕ) (ending : Ending) → ListsBytes path bytes ending → IsWhole ending
+lists_bytes_whole path bytes ending (Listed class listed is) = inl (ap (λ e. e.cause) is)
+lists_bytes_whole path bytes ending (OfVersion major has other is) = inr (ap (λ e. e.cause) is)
+lists_bytes_whole path bytes ending (OfNoClass versions none is) = inr (ap (λ e. e.cause) is)
+lists_bytes_whole path bytes ending (OfItem item leaves is) = inr (ap (λ e. e.cause) is)
+
+lists_whole : (path : List ℕ) (file : Option (List ℕ)) (ending : Ending) → ListsFile path file ending → IsWhole ending
+lists_whole path None ending is = inr (ap (λ e. e.cause) is)
+lists_whole path (Some bytes) ending (inl (long, is)) = inr (ap (λ e. e.cause) is)
+lists_whole path (Some bytes) ending (inr (short, lists)) = lists_bytes_whole path bytes ending lists
+
+assembles_whole : (text : List ℕ) (ending : Ending) → AssemblesText text ending → IsWhole ending
+assembles_whole text ending (TooLong long is) = inr (ap (λ e. e.cause) is)
+assembles_whole text ending (Assembled short class text_of is) = inl (ap (λ e. e.cause) is)
+assembles_whole text ending (Bad short line stops is) = inr (ap (λ e. e.cause) is)
+
+pub answers_whole : (command : Command) (files : Option Files) (left : Option (List ℕ)) (ending : Ending) → Answers command files left ending → IsWhole ending
+answers_whole (RunIn folder) files left ending (file, may, runs) = runs_whole file ending runs
+answers_whole (ListOf path) files left ending (file, may, lists) = lists_whole path file ending lists
+answers_whole Assemble files left ending (text, may, assembles) = assembles_whole text ending assembles
+
+-- what cuts a command short is its cause
+pub fault_cause : Fault → Cause
+fault_cause OfMemory = OutOfMemory
+fault_cause OfFolder = FolderFault
+fault_cause OfInput = InputFault
+fault_cause OfOutput = OutputFault
+
+pub cut_cause : (fault : Fault) (command : Command) (files : Option Files) (left : Option (List ℕ)) (ending : Ending) → IsCutShort fault command files left ending → ending.cause ≡ fault_cause fault
+unfolding fault_cause
+cut_cause OfMemory (RunIn folder) files left ending is = ap (λ e. e.cause) is
+cut_cause OfMemory (ListOf path) files left ending is = ap (λ e. e.cause) is
+cut_cause OfMemory Assemble files left ending (read, may, is) = ap (λ e. e.cause) is
+cut_cause OfFolder (RunIn folder) files left ending is = ap (λ e. e.cause) is
+cut_cause OfFolder (ListOf path) files left ending is = ap (λ e. e.cause) is
+cut_cause OfFolder Assemble files left ending is = absurd is
+cut_cause OfInput (RunIn folder) files left ending is = absurd is
+cut_cause OfInput (ListOf path) files left ending is = absurd is
+cut_cause OfInput Assemble files left ending (read, may, is) = ap (λ e. e.cause) is
+cut_cause OfOutput command files left ending (whole, answers, front, prefix, is) = ap (λ e. e.cause) is
+
+-- a command that is cut short isn't whole
+pub cut_whole : (fault : Fault) (ending : Ending) → ending.cause ≡ fault_cause fault → IsWhole ending → ⊥
+unfolding fault_cause
+cut_whole OfMemory ending cut (inl is) = let no : OutOfMemory ≡ Returned = sym cut ∙ is in cc
+cut_whole OfMemory ending cut (inr is) = let no : OutOfMemory ≡ Refused = sym cut ∙ is in cc
+cut_whole OfFolder ending cut (inl is) = let no : FolderFault ≡ Returned = sym cut ∙ is in cc
+cut_whole OfFolder ending cut (inr is) = let no : FolderFault ≡ Refused = sym cut ∙ is in cc
+cut_whole OfInput ending cut (inl is) = let no : InputFault ≡ Returned = sym cut ∙ is in cc
+cut_whole OfInput ending cut (inr is) = let no : InputFault ≡ Refused = sym cut ∙ is in cc
+cut_whole OfOutput ending cut (inl is) = let no : OutputFault ≡ Returned = sym cut ∙ is in cc
+cut_whole OfOutput ending cut (inr is) = let no : OutputFault ≡ Refused = sym cut ∙ is in cc
 
 -- an end of words that say a command isn't that of words that say none
+whole_says : (ending : Ending) → IsWhole ending → ending.cause ≡ Usage → ⊥
+whole_says ending (inl is) cause_is = let no : Returned ≡ Usage = sym is ∙ cause_is in cc
+whole_says ending (inr is) cause_is = let no : Refused ≡ Usage = sym is ∙ cause_is in cc
+
+cut_says : (fault : Fault) (ending : Ending) → ending.cause ≡ fault_cause fault → ending.cause ≡ Usage → ⊥
+unfolding fault_cause
+cut_says OfMemory ending cut cause_is = let no : OutOfMemory ≡ Usage = sym cut ∙ cause_is in cc
+cut_says OfFolder ending cut cause_is = let no : FolderFault ≡ Usage = sym cut ∙ cause_is in cc
+cut_says OfInput ending cut cause_is = let no : InputFault ≡ Usage = sym cut ∙ cause_is in cc
+cut_says OfOutput ending cut cause_is = let no : OutputFault ≡ Usage = sym cut ∙ cause_is in cc
+
 ends_none : (words : List (List ℕ)) (files : Option Files) (left : Option (List ℕ)) (ending : Ending) → Ends words files left ending → ending.cause ≡ Usage → SaysNone words
 ends_none words files left ending (inl (none, is)) cause_is = none
-ends_none words files left ending (inr (command, says, inl (inl is, answers))) cause_is = let no : Returned ≡ Usage = sym is ∙ cause_is in absurd cc
-ends_none words files left ending (inr (command, says, inl (inr is, answers))) cause_is = let no : Refused ≡ Usage = sym is ∙ cause_is in absurd cc
-ends_none words files left ending (inr (command, says, inr (OfMemory, is))) cause_is = let no : OutOfMemory ≡ Usage = sym (ap (λ e. e.cause) is) ∙ cause_is in absurd cc
-ends_none words files left ending (inr (command, says, inr (OfFolder, is))) cause_is = let no : FolderFault ≡ Usage = sym (ap (λ e. e.cause) is) ∙ cause_is in absurd cc
-ends_none words files left ending (inr (command, says, inr (OfOutput, (whole, answers, front, prefix, is)))) cause_is = let no : OutputFault ≡ Usage = sym (ap (λ e. e.cause) is) ∙ cause_is in absurd cc
+ends_none words files left ending (inr (command, says, inl answers)) cause_is = absurd (whole_says ending (answers_whole command files left ending answers) cause_is)
+ends_none words files left ending (inr (command, says, inr (fault, cut))) cause_is = absurd (cut_says fault ending (cut_cause fault command files left ending cut) cause_is)
 
 -- the cause of a call tells words that say none
 pub told_none : (words : List (List ℕ)) (files : Option Files) (left before now : Option (List ℕ)) (ending : Ending) (cause : Cause) → Ends words files left ending → IsTold ending cause before now → cause ≡ Usage → SaysNone words
@@ -26,3 +96,26 @@ pub none_told : (words : List (List ℕ)) (files : Option Files) (left before no
 none_told words files left before now ending cause ends (inr (fails, appends)) none = inr fails
 none_told words files left before now ending cause (inl (says_none, is)) (inl (same, appends)) none = inl (same ∙ ap (λ e. e.cause) is)
 none_told words files left before now ending cause (inr (command, says, more)) (inl (same, appends)) none = absurd (none command says)
+
+-- `asm` alone asks the input, and it doesn't ask the folder
+whole_asks : (ending : Ending) (cause : Cause) → IsWhole ending → ending.cause ≡ cause → (cause ≡ Returned → ⊥) → (cause ≡ Refused → ⊥) → ⊥
+whole_asks ending cause (inl is) cause_is returns refuses = returns (sym cause_is ∙ is)
+whole_asks ending cause (inr is) cause_is returns refuses = refuses (sym cause_is ∙ is)
+
+pub asks_input : (command : Command) (files : Option Files) (left : Option (List ℕ)) (ending : Ending) → EndsIn command files left ending → ending.cause ≡ InputFault → command ≡ Assemble
+unfolding fault_cause
+asks_input command files left ending (inl answers) is = absurd (whole_asks ending InputFault (answers_whole command files left ending answers) is (λ no. cc) (λ no. cc))
+asks_input Assemble files left ending (inr (fault, cut)) is = refl
+asks_input (RunIn folder) files left ending (inr (OfInput, cut)) is = absurd cut
+asks_input (ListOf path) files left ending (inr (OfInput, cut)) is = absurd cut
+asks_input command files left ending (inr (OfMemory, cut)) is = let no : OutOfMemory ≡ InputFault = sym (cut_cause OfMemory command files left ending cut) ∙ is in absurd cc
+asks_input command files left ending (inr (OfFolder, cut)) is = let no : FolderFault ≡ InputFault = sym (cut_cause OfFolder command files left ending cut) ∙ is in absurd cc
+asks_input command files left ending (inr (OfOutput, cut)) is = let no : OutputFault ≡ InputFault = sym (cut_cause OfOutput command files left ending cut) ∙ is in absurd cc
+
+pub asks_folder : (files : Option Files) (left : Option (List ℕ)) (ending : Ending) → EndsIn Assemble files left ending → ending.cause ≡ FolderFault → ⊥
+unfolding fault_cause
+asks_folder files left ending (inl answers) is = whole_asks ending FolderFault (answers_whole Assemble files left ending answers) is (λ no. cc) (λ no. cc)
+asks_folder files left ending (inr (OfFolder, cut)) is = cut
+asks_folder files left ending (inr (OfMemory, cut)) is = let no : OutOfMemory ≡ FolderFault = sym (cut_cause OfMemory Assemble files left ending cut) ∙ is in cc
+asks_folder files left ending (inr (OfInput, cut)) is = let no : InputFault ≡ FolderFault = sym (cut_cause OfInput Assemble files left ending cut) ∙ is in cc
+asks_folder files left ending (inr (OfOutput, cut)) is = let no : OutputFault ≡ FolderFault = sym (cut_cause OfOutput Assemble files left ending cut) ∙ is in cc

@@ -1,5 +1,9 @@
 pub mod Lines
 pub mod Running
-pub mod ThreeItems
+pub mod Reading
+pub mod FewItems
+pub mod Digits
 pub mod Endings
+pub mod Listing
+pub mod Assembling
 pub mod Laws

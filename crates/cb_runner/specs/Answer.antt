@@ -1,61 +1,64 @@
 -- What a call answers.
-use Rattle.std.specs.Prelude.{◌≡◌, ◌⊎◌, ℕ, ◌≤◌, List, length, drop, Option, Some, None, IfSome, option_map}
+use Rattle.std.specs.Prelude.{◌≡◌, ◌⊎◌, ℕ, ◌+◌, ◌≤◌, List, length, drop, Option, Some, IfSome}
 use Rattle.std.specs.FinMap.{get}
 use Rattle.std.specs.Io.KnownBytes.{Appends}
 use Rattle.cb_io.specs.Faults.{CountsFaults}
 use Rattle.cb_io.specs.Folder.{Files}
 use Rattle.cb_io.specs.Sink.{AppendsProperPrefix, IsProperPrefix}
-use Rattle.cb_machine.specs.Expression.{Expression}
-use Rattle.cb_machine.specs.Printing.{printed}
-use Rattle.cb_first_form.specs.FirstForm.{SpellsProgram}
 use Rattle.cb_runner.specs.declared.cause.Cause.{Cause}
-use Rattle.cb_runner.specs.declared.cause.Cause.TheVariants.{Returned, Refused, FolderFault, OutputFault, ErrFault}
-use Rattle.cb_runner.specs.declared.cause.Refusal.TheVariants.{MissingClass, NotYet}
-use Rattle.cb_runner.specs.Ending.{Ending, folder_fault, out_of_memory, output_fault, refused, returned, usage}
+use Rattle.cb_runner.specs.declared.cause.Cause.TheVariants.{Returned, Refused, FolderFault, InputFault, OutputFault, ErrFault}
+use Rattle.cb_runner.specs.Asm.{AssemblesText, text_limit}
+use Rattle.cb_runner.specs.Ending.{Ending, folder_fault, input_fault, out_of_memory, output_fault, usage}
+use Rattle.cb_runner.specs.List.{ListsFile}
 use Rattle.cb_runner.specs.Outside.{Content, Failures}
-use Rattle.cb_runner.specs.Words.{Command, RunIn, Says, SaysNone, class_path}
-
--- the most bytes of a class file
-abbrev pub file_limit : ℕ
-file_limit = 1048576
-
--- the bytes are a file of this program
-pub record IsProgramFile (bytes : List ℕ) (program : List Expression) : Type 0 where
-  pub short : length bytes ≤ file_limit
-  pub spelled : SpellsProgram bytes program
-
--- the file at the class's path is run to its end: it is missing, a program's, or another
-abbrev pub RunsFile : Option (List ℕ) → Ending → Type 0
-RunsFile None ending = ending ≡ refused MissingClass
-RunsFile (Some bytes) ending =
-    ((program : List Expression) × IsProgramFile bytes program × (ending ≡ returned (printed program) 0))
-    ⊎ (((program : List Expression) → ¬ IsProgramFile bytes program) × (ending ≡ refused NotYet))
+use Rattle.cb_runner.specs.Run.{RunsFile}
+use Rattle.cb_runner.specs.Words.{Command, RunIn, ListOf, Assemble, Says, SaysNone, class_path}
 
 -- a command that nothing cuts short returns or is refused
 abbrev pub IsWhole : Ending → Type 0
 IsWhole ending = (ending.cause ≡ Returned) ⊎ (ending.cause ≡ Refused)
 
--- it comes to this end, by the files and what is left of the input. Nothing is said of files that the folder doesn't tell
+-- the file at a path may have these bytes, or be missing. Where the folder tells its files, it is so; else it may be any
+abbrev pub MayStandAt : Option Files → List ℕ → Option (List ℕ) → Type 0
+MayStandAt files path file = IfSome files (λ files. get files path ≡ file)
+
+-- it comes to this end, by what its file may be, or by what may be left of the input
 abbrev pub Answers : Command → Option Files → Option (List ℕ) → Ending → Type 0
-Answers (RunIn folder) files left ending = IfSome files (λ files. RunsFile (get files (class_path folder)) ending)
+Answers (RunIn folder) files left ending = (file : Option (List ℕ)) × MayStandAt files (class_path folder) file × RunsFile file ending
+Answers (ListOf path) files left ending = (file : Option (List ℕ)) × MayStandAt files path file × ListsFile path file ending
+Answers Assemble files left ending = (text : List ℕ) × IfSome left (λ left. left ≡ text) × AssemblesText text ending
 
 -- what cuts a command short
 pub data Fault : Type 0 where
   OfMemory : Fault
   OfFolder : Fault
+  OfInput : Fault
   OfOutput : Fault
 
--- and how it then ends: before it has printed anything, or within what it prints
+-- so many bytes of the input may be read, of those that are left
+abbrev pub MayRead : Option (List ℕ) → ℕ → ℕ → Type 0
+MayRead left most read = (read ≤ most) × IfSome left (λ left. read ≤ length left)
+
+-- a command is cut short before it has printed anything, and has read so much: `run` and `list` ask the folder alone, and
+-- `asm` the input alone
+abbrev pub StopsShort : Fault → Command → Option (List ℕ) → Ending → Type 0
+StopsShort OfMemory Assemble left ending = (read : ℕ) × MayRead left (text_limit + 1) read × (ending ≡ out_of_memory read)
+StopsShort OfMemory command left ending = ending ≡ out_of_memory 0
+StopsShort OfFolder Assemble left ending = ⊥
+StopsShort OfFolder command left ending = ending ≡ folder_fault
+StopsShort OfInput Assemble left ending = (read : ℕ) × MayRead left text_limit read × (ending ≡ input_fault read)
+StopsShort fault command left ending = ⊥
+
+-- it is cut short so, or within what it prints
 abbrev pub IsCutShort : Fault → Command → Option Files → Option (List ℕ) → Ending → Type 0
-IsCutShort OfMemory command files left ending = ending ≡ out_of_memory
-IsCutShort OfFolder command files left ending = ending ≡ folder_fault
 IsCutShort OfOutput command files left ending =
     (whole : Ending) × Answers command files left whole × (front : List ℕ) × IsProperPrefix front whole.out × (ending ≡ output_fault front whole.read)
+IsCutShort fault command files left ending = StopsShort fault command left ending
 
 -- a command ends so, whole or cut short, and so do words, which may say none
 abbrev pub EndsIn : Command → Option Files → Option (List ℕ) → Ending → Type 0
 EndsIn command files left ending =
-    (IsWhole ending × Answers command files left ending) ⊎ ((fault : Fault) × IsCutShort fault command files left ending)
+    Answers command files left ending ⊎ ((fault : Fault) × IsCutShort fault command files left ending)
 
 abbrev pub Ends : List (List ℕ) → Option Files → Option (List ℕ) → Ending → Type 0
 Ends words files left ending =
@@ -69,16 +72,18 @@ IsTold ending cause before now =
 -- each count rises exactly where a call of its object failed, which ends the call
 pub record CountsEach (ending : Ending) (cause : Cause) (before now : Failures) : Type 0 where
   pub folder : CountsFaults before.folder now.folder (ending.cause ≡ FolderFault)
-  pub input : now.input ≡ before.input
+  pub input : CountsFaults before.input now.input (ending.cause ≡ InputFault)
   pub out : CountsFaults before.out now.out (ending.cause ≡ OutputFault)
   pub err : CountsFaults before.err now.err (cause ≡ ErrFault)
 
--- the answer of a call: an end to which the words are carried out, and what the objects hold and have counted then
+-- the answer of a call: an end to which the words are carried out, and what the objects hold and have counted then. Words
+-- that don't say `asm` leave the input alone
 pub record IsAnswer (words : List (List ℕ)) (before now : Content) (failed fails : Failures) (cause : Cause) : Type 0 where
   pub ending : Ending
   pub ends : Ends words before.files before.left ending
   pub files : now.files ≡ before.files
-  pub left : now.left ≡ option_map (drop ending.read) before.left
+  pub left : IfSome before.left (λ left. now.left ≡ Some (drop ending.read left))
+  pub alone : ¬ Says words Assemble → (now.left ≡ before.left) × (fails.input ≡ failed.input)
   pub out : Appends before.out now.out ending.out
   pub err : IsTold ending cause before.err now.err
   pub counts : CountsEach ending cause failed fails

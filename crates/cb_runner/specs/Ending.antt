@@ -2,9 +2,8 @@
 use Rattle.std.specs.Prelude.{ℕ, List, []}
 use Rattle.std.specs.Prelude.{codes}
 use Rattle.cb_runner.specs.declared.cause.Cause.{Cause}
-use Rattle.cb_runner.specs.declared.cause.Cause.TheVariants.{Returned, Usage, Refused, FolderFault, OutputFault, ErrFault, OutOfMemory}
-use Rattle.cb_runner.specs.declared.cause.Refusal.{Refusal}
-use Rattle.cb_runner.specs.Messages.{line, refusal_text}
+use Rattle.cb_runner.specs.declared.cause.Cause.TheVariants.{Returned, Usage, Refused, FolderFault, InputFault, OutputFault, ErrFault, OutOfMemory}
+use Rattle.cb_runner.specs.Messages.{Reason, line, refusal_text}
 
 -- the exit status of each cause
 abbrev pub status_of : Cause → ℕ
@@ -13,6 +12,7 @@ status_of OutOfMemory = 119
 status_of Usage = 120
 status_of Refused = 121
 status_of FolderFault = 124
+status_of InputFault = 125
 status_of OutputFault = 126
 status_of ErrFault = 127
 
@@ -24,21 +24,24 @@ pub record Ending : Type 0 where
   pub err : List ℕ
   pub read : ℕ
 
--- one that has printed nothing and read nothing, with this last line
-abbrev pub without_output : Cause → List ℕ → Ending
-without_output cause text = record { cause = cause; out = []; err = line text; read = 0 }
+-- one that has printed nothing, with this last line
+abbrev pub without_output : Cause → List ℕ → ℕ → Ending
+without_output cause text read = record { cause = cause; out = []; err = line text; read = read }
 
 abbrev pub usage : Ending
-usage = without_output Usage (codes "these words are no command")
+usage = without_output Usage (codes "these words are no command") 0
 
-abbrev pub refused : Refusal → Ending
-refused refusal = without_output Refused (refusal_text refusal)
+abbrev pub refused : Reason → ℕ → Ending
+refused reason read = without_output Refused (refusal_text reason) read
 
-abbrev pub out_of_memory : Ending
-out_of_memory = without_output OutOfMemory (codes "out of memory")
+abbrev pub out_of_memory : ℕ → Ending
+out_of_memory read = without_output OutOfMemory (codes "out of memory") read
 
 abbrev pub folder_fault : Ending
-folder_fault = without_output FolderFault (codes "folder fault")
+folder_fault = without_output FolderFault (codes "folder fault") 0
+
+abbrev pub input_fault : ℕ → Ending
+input_fault read = without_output InputFault (codes "input fault") read
 
 -- the command came to its end
 abbrev pub returned : List ℕ → ℕ → Ending

@@ -1,60 +1,136 @@
 -- What private contracts and proofs cite: no public clause names this file.
-use Rattle.std.specs.Prelude.{◌≡◌, ℕ, ◌<◌, ◌≤◌, List, [], length, codes, Option, Some, None, Vec, Result, Ok, Err}
+use Rattle.std.specs.Prelude.{◌≡◌, ℕ, ◌+◌, ◌<◌, ◌≤◌, Bool, true, false, List, [], ◌++◌, length, drop, codes, string_bytes, Vec, Result, Ok, Err, Option, Some, IfSome}
+use Rattle.std.specs.Io.KnownBytes.{Appends, Consumes, IsAtEnd, Keeps}
 use Rattle.std.specs.declared.alloc.Global.{Global}
 use Rattle.cb_io.specs.Sink.{IsProperPrefix}
 use Rattle.cb_machine.specs.Expression.{Expression}
 use Rattle.cb_machine.specs.Printing.{printed}
 use Rattle.cb_first_form.specs.FirstForm.{SpellsProgram}
+use Rattle.cb_classfile.specs.declared.fault.ClassFault.{ClassFault}
+use Rattle.cb_classfile.specs.declared.fault.ClassFault.TheVariants as faults
 use Rattle.cb_runner.specs.declared.cause.Cause.{Cause}
 use Rattle.cb_runner.specs.declared.cause.Cause.TheVariants as causes
-use Rattle.cb_runner.specs.declared.cause.Refusal.TheVariants.{MissingClass, NotYet}
+use Rattle.cb_runner.specs.declared.input.Input.{Input}
+use Rattle.cb_runner.specs.declared.input.Input.TheVariants.{Whole, TooLong}
 use Rattle.cb_runner.specs.declared.stop.Stop.{Stop}
-use Rattle.cb_runner.specs.declared.stop.Stop.TheVariants.{Returned, Usage, Refused, FolderFault, OutputFault, OutOfMemory}
-use Rattle.cb_runner.specs.Answer.{file_limit}
-use Rattle.cb_runner.specs.Ending.{Ending}
-use Rattle.cb_runner.specs.Messages.{line, refusal_text}
+use Rattle.cb_runner.specs.declared.stop.Stop.TheVariants.{Returned, Usage, Refused, FolderFault, InputFault, OutputFault, OutOfMemory}
+use Rattle.cb_runner.specs.declared.words.Command.{Command as SaidCommand}
+use Rattle.cb_runner.specs.declared.words.Command.TheVariants as said_commands
+use Rattle.cb_runner.specs.Ending.{Ending, returned}
+use Rattle.cb_runner.specs.Messages.{Reason, BadVersion, Malformed, Unsupported, NotYet, line, refusal_text}
+use Rattle.cb_runner.specs.Words.{Command, RunIn, ListOf, Assemble, main_class}
+
+-- the command that a value of the program is
+abbrev pub said : SaidCommand → Command
+said (said_commands.Run folder) = RunIn folder.now
+said (said_commands.List path) = ListOf path.now
+said said_commands.Assemble = Assemble
 
 -- the cause that a stop tells, and its last line
 abbrev pub cause_of : Stop → Cause
 cause_of Returned = causes.Returned
 cause_of Usage = causes.Usage
-cause_of (Refused refusal) = causes.Refused
+cause_of (Refused text) = causes.Refused
 cause_of FolderFault = causes.FolderFault
+cause_of InputFault = causes.InputFault
 cause_of OutputFault = causes.OutputFault
 cause_of OutOfMemory = causes.OutOfMemory
 
 abbrev pub line_of : Stop → List ℕ
 line_of Returned = []
 line_of Usage = line (codes "these words are no command")
-line_of (Refused refusal) = line (refusal_text refusal)
+line_of (Refused text) = string_bytes text
 line_of FolderFault = line (codes "folder fault")
+line_of InputFault = line (codes "input fault")
 line_of OutputFault = line (codes "output fault")
 line_of OutOfMemory = line (codes "out of memory")
 
--- the end of a call that stopped so and printed these bytes
-abbrev pub ending_of : Stop → List ℕ → Ending
-ending_of stop out = record { cause = cause_of stop; out = out; err = line_of stop; read = 0 }
+-- the end of a call that stopped so, printed these bytes and read so many
+abbrev pub ending_of : Stop → List ℕ → ℕ → Ending
+ending_of stop out read = record { cause = cause_of stop; out = out; err = line_of stop; read = read }
 
--- what stands at the class's path, where reading it gave these bytes or stopped so
-abbrev pub ReadsClass : Option (List ℕ) → Result (Vec ℕ Global) Stop → Type 0
-ReadsClass file (Ok bytes) = (file ≡ Some bytes.items) × (length bytes.items ≤ file_limit)
-ReadsClass file (Err (Refused MissingClass)) = file ≡ None
-ReadsClass file (Err (Refused NotYet)) = (bytes : List ℕ) × (file ≡ Some bytes) × (file_limit < length bytes)
-ReadsClass file (Err FolderFault) = Unit {0}
-ReadsClass file (Err OutOfMemory) = Unit {0}
-ReadsClass file (Err other) = ⊥
+-- it is refused for this reason, or there was no memory for its line
+abbrev pub IsRefusal : Reason → Stop → Type 0
+IsRefusal reason (Refused text) = string_bytes text ≡ line (refusal_text reason)
+IsRefusal reason OutOfMemory = Unit {0}
+IsRefusal reason other = ⊥
 
--- it stopped before it printed anything
-abbrev pub IsBefore : Stop → Type 0
-IsBefore (Refused refusal) = Unit {0}
-IsBefore FolderFault = Unit {0}
-IsBefore OutOfMemory = Unit {0}
-IsBefore other = ⊥
+-- a file could not be looked for
+abbrev pub IsUnfound : Stop → Type 0
+IsUnfound FolderFault = Unit {0}
+IsUnfound OutOfMemory = Unit {0}
+IsUnfound other = ⊥
+
+-- a class file isn't listed for what a reader of it told
+abbrev pub IsUnlisted : List ℕ → ClassFault → Stop → Type 0
+IsUnlisted path (faults.BadVersion major) stop = IsRefusal (BadVersion path major) stop
+IsUnlisted path faults.Malformed stop = IsRefusal (Malformed path) stop
+IsUnlisted path (faults.Unsupported item) stop = IsRefusal (Unsupported path item) stop
+IsUnlisted path faults.OutOfMemory stop = stop ≡ OutOfMemory
+
+-- a command made these bytes, or was refused, or found no memory, by the ends to which it may come
+abbrev pub Makes : (Ending → Type 0) → ℕ → Result (Vec ℕ Global) Stop → Type 0
+Makes MayEnd read (Ok bytes) = MayEnd (returned bytes.items read)
+Makes MayEnd read (Err (Refused text)) = MayEnd (ending_of (Refused text) [] read)
+Makes MayEnd read (Err OutOfMemory) = Unit {0}
+Makes MayEnd read (Err other) = ⊥
+
+-- the bytes were printed, or a part of them before a call failed
+abbrev pub Prints : List ℕ → Stop → List ℕ → Type 0
+Prints bytes Returned out = out ≡ bytes
+Prints bytes OutputFault out = IsProperPrefix out bytes
+Prints bytes other out = ⊥
+
+-- the bytes that were made were printed, if any were
+abbrev pub PrintsMade : Result (Vec ℕ Global) Stop → Stop → List ℕ → Type 0
+PrintsMade (Ok bytes) stop out = Prints bytes.items stop out
+PrintsMade (Err why) stop out = (stop ≡ why) × (out ≡ [])
+
+-- a command stopped so and printed this, by the ends to which it may come
+abbrev pub StopsBy : (Ending → Type 0) → ℕ → Stop → List ℕ → Type 0
+StopsBy MayEnd read Returned out = MayEnd (returned out read)
+StopsBy MayEnd read (Refused text) out = MayEnd (ending_of (Refused text) out read)
+StopsBy MayEnd read OutputFault out = (whole : Ending) × MayEnd whole × IsProperPrefix out whole.out × (read ≡ whole.read)
+StopsBy MayEnd read OutOfMemory out = out ≡ []
+StopsBy MayEnd read other out = ⊥
 
 -- a file of these bytes was run, stopped so and printed this
 abbrev pub RunsBytes : List ℕ → Stop → List ℕ → Type 0
 RunsBytes bytes Returned out = (program : List Expression) × SpellsProgram bytes program × (out ≡ printed program)
 RunsBytes bytes OutputFault out = (program : List Expression) × SpellsProgram bytes program × IsProperPrefix out (printed program)
-RunsBytes bytes (Refused NotYet) out = ((program : List Expression) → ¬ SpellsProgram bytes program) × (out ≡ [])
+RunsBytes bytes (Refused text) out = ((program : List Expression) → ¬ SpellsProgram bytes program) × IsRefusal (NotYet main_class) (Refused text) × (out ≡ [])
 RunsBytes bytes OutOfMemory out = out ≡ []
 RunsBytes bytes other out = ⊥
+
+-- so many bytes were read, at most, and then the input had these left
+abbrev pub HasRead : ℕ → Option (List ℕ) → Option (List ℕ) → ℕ → Type 0
+HasRead most before now read = (front : List ℕ) × Consumes before now front × (length front ≡ read) × (read ≤ most)
+
+-- all that the input had was read, or one byte more than the limit, or less where a call failed or there was no memory
+abbrev pub Reads : ℕ → Option (List ℕ) → Option (List ℕ) → Result Input Stop → Type 0
+Reads limit before now (Ok (Whole bytes)) = Consumes before now bytes.items × IsAtEnd now × (length bytes.items ≤ limit)
+Reads limit before now (Ok TooLong) = HasRead (limit + 1) before now (limit + 1)
+Reads limit before now (Err InputFault) = (read : ℕ) × HasRead limit before now read
+Reads limit before now (Err OutOfMemory) = (read : ℕ) × HasRead (limit + 1) before now read
+Reads limit before now (Err other) = ⊥
+
+-- there were more bytes, or the input is at its end
+abbrev pub IsMore : Bool → List ℕ → Option (List ℕ) → Type 0
+IsMore true piece now = 0 < length piece
+IsMore false piece now = (piece ≡ []) × IsAtEnd now
+
+-- a piece was read and put behind the bytes: one byte more than so many at most, and none only at the end
+abbrev pub ReadsPiece : ℕ → Option (List ℕ) → Option (List ℕ) → List ℕ → List ℕ → Result Bool Stop → Type 0
+ReadsPiece most before now old new (Ok more) =
+    (piece : List ℕ) × Consumes before now piece × (length piece ≤ most + 1) × (new ≡ old ++ piece) × IsMore more piece now
+ReadsPiece most before now old new (Err InputFault) = Keeps before now
+ReadsPiece most before now old new (Err OutOfMemory) = (read : ℕ) × HasRead (most + 1) before now read
+ReadsPiece most before now old new (Err other) = ⊥
+
+-- a command stopped so: what it printed, how much of the input it read, and that it may end by this
+pub record IsCarriedOut (MayEnd : Ending → Type 0) (before now known taken : Option (List ℕ)) (stop : Stop) : Type 0 where
+  pub printed : List ℕ
+  pub read : ℕ
+  pub appends : Appends known taken printed
+  pub left : IfSome before (λ left. now ≡ Some (drop read left))
+  pub ends : MayEnd (ending_of stop printed read)

@@ -1,15 +1,27 @@
 // Laws of the answer, each in one fact.
-ghost use Rattle.std.specs.Prelude.{◌≡◌, ◌↔◌, ℕ, List, Option, None, Some};
+ghost use Rattle.std.specs.Prelude.{◌≡◌, ◌⊎◌, ◌↔◌, ℕ, ◌+◌, ◌<◌, ◌≤◌, List, [], length, Option, None, Some};
 ghost use Rattle.std.specs.FinMap.{get};
 ghost use Rattle.cb_io.specs.Folder.{Files};
 ghost use Rattle.cb_machine.specs.Expression.{Expression};
 ghost use Rattle.cb_machine.specs.Printing.{printed};
-ghost use Rattle.cb_runner.specs.Answer.{Ends, EndsIn, IsProgramFile, IsWhole};
+ghost use Rattle.cb_asm.specs.Answers.{StopsAt};
+ghost use Rattle.cb_asm_list.specs.Listing.{listing};
+ghost use Rattle.cb_asm_record.specs.Grammar.{Assembles};
+ghost use Rattle.cb_classfile.specs.Answers.{HasNoOtherVersion, SpellsNone};
+ghost use Rattle.cb_classfile.specs.Class.{HasVersion, IsAccepted, class_bytes};
+ghost use Rattle.cb_classfile.specs.declared.class.ClassFile.{ClassFile};
+ghost use Rattle.cb_classfile.specs.declared.feature.Feature.{Feature};
+ghost use Rattle.cb_runner.specs.Answer.{Answers, Ends, EndsIn, IsWhole};
+ghost use Rattle.cb_runner.specs.Asm.{text_limit};
 ghost use Rattle.cb_runner.specs.Ending.{Ending, refused, returned, usage};
-ghost use Rattle.cb_runner.specs.Words.{RunIn, SaysNone, class_path};
+ghost use Rattle.cb_runner.specs.List.{IsListed, LeavesOut};
+ghost use Rattle.cb_runner.specs.Messages.{MissingClass, Malformed, BadVersion, Unsupported, NotYet, TooLarge, BadLine};
+ghost use Rattle.cb_runner.specs.Run.{IsProgramFile, file_limit};
+ghost use Rattle.cb_runner.specs.Words.{Assemble, Command, ListOf, RunIn, SaysNone, class_path, main_class};
 ghost use Rattle.cb_runner.specs.declared.cause.Cause.TheVariants as causes;
-ghost use Rattle.cb_runner.specs.declared.cause.Refusal.TheVariants as refusals;
+ghost use Rattle.cb_runner.specs.declared.refusal.Quantity.TheVariants.{ClassFileBytes, AssemblyBytes};
 
+use cb_classfile::one_class;
 use cb_first_form::one_program;
 
 /// A call ends as one whose words are no command exactly where its words say none.
@@ -18,20 +30,74 @@ pub fn usage_exactly()
         → Ends words files left ending → (ending.cause ≡ causes.Usage) ↔ SaysNone words }
 {}
 
+/// A command returns or is refused exactly where nothing cuts it short.
+pub fn whole_exactly()
+    ensures { (command : Command) (files : Option Files) (left : Option (List ℕ)) (ending : Ending)
+        → EndsIn command files left ending → IsWhole ending ↔ Answers command files left ending }
+{}
+
+/// A command that is refused has printed nothing, and read nothing from the input unless it is `asm`. This is said of every
+/// folder, also of one that doesn't tell its files.
+pub fn refused_silently()
+    ensures { (command : Command) (files : Option Files) (left : Option (List ℕ)) (ending : Ending)
+        → EndsIn command files left ending → ending.cause ≡ causes.Refused → (ending.out ≡ []) × ((ending.read ≡ 0) ⊎ (command ≡ Assemble)) }
+{}
+
 /// A run that nothing cuts short is refused for want of its file exactly where there is none, and as one that isn't run
 /// yet exactly where the file is no program's; and that of a program's file returns, having printed what the program
 /// prints.
 pub fn run_exactly()
     ensures missing { (folder : List ℕ) (files : Files) (left : Option (List ℕ)) (ending : Ending)
-        → IsWhole ending → EndsIn (RunIn folder) (Some files) left ending
-        → (ending ≡ refused refusals.MissingClass) ↔ (get files (class_path folder) ≡ None) }
+        → Answers (RunIn folder) (Some files) left ending
+        → (ending ≡ refused (MissingClass main_class) 0) ↔ (get files (class_path folder) ≡ None) }
     ensures not_yet { (folder bytes : List ℕ) (files : Files) (left : Option (List ℕ)) (ending : Ending)
-        → IsWhole ending → EndsIn (RunIn folder) (Some files) left ending → get files (class_path folder) ≡ Some bytes
-        → (ending ≡ refused refusals.NotYet) ↔ ((program : List Expression) → ¬ IsProgramFile bytes program) }
+        → Answers (RunIn folder) (Some files) left ending → get files (class_path folder) ≡ Some bytes
+        → (ending ≡ refused (NotYet main_class) 0) ↔ ((program : List Expression) → ¬ IsProgramFile bytes program) }
     ensures returned { (folder bytes : List ℕ) (files : Files) (left : Option (List ℕ)) (ending : Ending)
-        (program : List Expression) → IsWhole ending → EndsIn (RunIn folder) (Some files) left ending
+        (program : List Expression) → Answers (RunIn folder) (Some files) left ending
         → get files (class_path folder) ≡ Some bytes → IsProgramFile bytes program
         → ending ≡ returned (printed program) 0 }
 {
     one_program();
 }
+
+/// A listing that nothing cuts short is refused for want of its file exactly where there is none, and as too large exactly
+/// where the file has too many bytes. Else the bytes of the file decide: it returns exactly where they are the file of a
+/// class that can be listed, and has then printed the listing.
+pub fn list_exactly()
+    ensures missing { (path : List ℕ) (files : Files) (left : Option (List ℕ)) (ending : Ending)
+        → Answers (ListOf path) (Some files) left ending
+        → (ending ≡ refused (MissingClass path) 0) ↔ (get files path ≡ None) }
+    ensures too_large { (path bytes : List ℕ) (files : Files) (left : Option (List ℕ)) (ending : Ending)
+        → Answers (ListOf path) (Some files) left ending → get files path ≡ Some bytes
+        → (ending ≡ refused (TooLarge ClassFileBytes (file_limit + 1) file_limit) 0) ↔ (file_limit < length bytes) }
+    ensures bad_version { (path bytes : List ℕ) (major : ℕ) (files : Files) (left : Option (List ℕ)) (ending : Ending)
+        → Answers (ListOf path) (Some files) left ending → get files path ≡ Some bytes → length bytes ≤ file_limit
+        → HasVersion bytes major → ¬ IsAccepted major → ending ≡ refused (BadVersion path major) 0 }
+    ensures malformed { (path bytes : List ℕ) (files : Files) (left : Option (List ℕ)) (ending : Ending)
+        → Answers (ListOf path) (Some files) left ending → get files path ≡ Some bytes → length bytes ≤ file_limit
+        → HasNoOtherVersion bytes → SpellsNone bytes → ending ≡ refused (Malformed path) 0 }
+    ensures unsupported { (path bytes : List ℕ) (item : Feature) (files : Files) (left : Option (List ℕ)) (ending : Ending)
+        → Answers (ListOf path) (Some files) left ending → get files path ≡ Some bytes → length bytes ≤ file_limit
+        → LeavesOut bytes item → ending ≡ refused (Unsupported path item) 0 }
+    ensures returned { (path bytes : List ℕ) (class : ClassFile) (files : Files) (left : Option (List ℕ)) (ending : Ending)
+        → Answers (ListOf path) (Some files) left ending → get files path ≡ Some bytes → length bytes ≤ file_limit
+        → IsListed bytes class → ending ≡ returned (listing class) 0 }
+{
+    one_class();
+}
+
+/// An assembly that nothing cuts short is refused as too large exactly where the text has too many bytes, of which one more
+/// than the limit is read. Else the text is read to its end: where it is that of a class, the bytes of the class's file are
+/// printed, and where it is that of none, its first bad line is told.
+pub fn asm_exactly()
+    ensures too_large { (text : List ℕ) (files : Option Files) (ending : Ending) → Answers Assemble files (Some text) ending
+        → (ending ≡ refused (TooLarge AssemblyBytes (text_limit + 1) text_limit) (text_limit + 1))
+        ↔ (text_limit < length text) }
+    ensures returned { (text : List ℕ) (class : ClassFile) (files : Option Files) (ending : Ending)
+        → Answers Assemble files (Some text) ending → length text ≤ text_limit → Assembles text class
+        → ending ≡ returned (class_bytes class) (length text) }
+    ensures bad_line { (text : List ℕ) (files : Option Files) (ending : Ending) → Answers Assemble files (Some text) ending
+        → length text ≤ text_limit → ((class : ClassFile) → ¬ Assembles text class)
+        → (line : ℕ) × StopsAt text line × (ending ≡ refused (BadLine line) (length text)) }
+{}

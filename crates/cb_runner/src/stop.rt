@@ -2,22 +2,26 @@
 ghost use Rattle.std.specs.Prelude.{◌≡◌, List, ℕ};
 ghost use Rattle.cb_io.specs.Faults.{CountsFaults};
 ghost use Rattle.cb_runner.specs.Answer.{IsTold};
-ghost use Rattle.cb_runner.specs.Inner.{cause_of, ending_of, line_of};
+ghost use Rattle.cb_runner.specs.Inner.{IsRefusal, cause_of, ending_of, line_of};
+ghost use Rattle.cb_runner.specs.Messages.{MissingClass, reason_of};
 
 use crate::{Cause, Refusal};
 use cb_io::{Failed, Sink, write_all};
+use std::alloc::Global;
 
 /// How a command stopped.
-#[derive(Clone, Copy, Debug, PartialEq, Eq)]
+#[derive(Debug, Drop)]
 pub(crate) enum Stop {
     /// It came to its end.
     Returned,
     /// The words are no command.
     Usage,
-    /// What it was to do was refused.
-    Refused(Refusal),
+    /// What it was to do was refused, with this last line.
+    Refused(String),
     /// A call of the folder failed.
     FolderFault,
+    /// A call of the input failed.
+    InputFault,
     /// A call of the output failed.
     OutputFault,
     /// No memory was to be had.
@@ -25,9 +29,29 @@ pub(crate) enum Stop {
 }
 
 impl Stop {
+    /// Stops by a refusal, if there is memory for its line.
+    pub(crate) fn refused(alloc: Global, refusal: Refusal) -> Self
+        ensures { IsRefusal (reason_of refusal) result }
+    {
+        match format!(in alloc; "cbvm: {refusal}\n") {
+            Ok(line) => Stop::Refused(line),
+            Err(_) => Stop::OutOfMemory,
+        }
+    }
+
+    /// Stops since a class has no file.
+    pub(crate) fn missing_class(alloc: Global, name: &str) -> Self
+        ensures { IsRefusal (MissingClass name.now) result }
+    {
+        match String::from_str(alloc, name) {
+            Ok(name) => Stop::refused(alloc, Refusal::MissingClass { name }),
+            Err(_) => Stop::OutOfMemory,
+        }
+    }
+
     /// Writes the last line, and gives the cause that is then the call's.
     pub(crate) fn tell<E: Sink>(self, err: &mut E) -> Cause
-        ensures told { (out : List ℕ) → IsTold (ending_of self out) result (E.taken err.old) (E.taken err.new) }
+        ensures told { (out : List ℕ) (read : ℕ) → IsTold (ending_of self out read) result (E.taken err.old) (E.taken err.new) }
         ensures fault { CountsFaults (E.faults err.old) (E.faults err.new) (result ≡ Cause.ErrFault) }
     {
         match write_all(err, self.last_line().as_bytes()) {
@@ -37,29 +61,30 @@ impl Stop {
     }
 
     /// The cause that it tells.
-    fn cause(self) -> Cause
-        ensures { result ≡ cause_of self }
+    fn cause(&self) -> Cause
+        ensures { result ≡ cause_of self.now }
     {
         match self {
             Stop::Returned => Cause::Returned,
             Stop::Usage => Cause::Usage,
             Stop::Refused(_) => Cause::Refused,
             Stop::FolderFault => Cause::FolderFault,
+            Stop::InputFault => Cause::InputFault,
             Stop::OutputFault => Cause::OutputFault,
             Stop::OutOfMemory => Cause::OutOfMemory,
         }
     }
 
     /// Its last line on the error output, or nothing.
-    fn last_line(self) -> &'static str
-        ensures { result.now ≡ line_of self }
+    fn last_line(&self) -> &str
+        ensures { result.now ≡ line_of self.now }
     {
         match self {
             Stop::Returned => "",
             Stop::Usage => "cbvm: these words are no command\n",
-            Stop::Refused(Refusal::MissingClass) => "cbvm: E1 missing class First\n",
-            Stop::Refused(Refusal::NotYet) => "cbvm: E4 unsupported not yet in class First\n",
+            Stop::Refused(line) => line.as_str(),
             Stop::FolderFault => "cbvm: folder fault\n",
+            Stop::InputFault => "cbvm: input fault\n",
             Stop::OutputFault => "cbvm: output fault\n",
             Stop::OutOfMemory => "cbvm: out of memory\n",
         }

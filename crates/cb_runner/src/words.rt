@@ -1,9 +1,39 @@
 // The words of the command line.
-ghost use Rattle.std.specs.Prelude.{◌↔◌, List, ℕ, map, string_bytes, IsTrue, MatchOption};
-ghost use Rattle.cb_runner.specs.Words.{IsOption, IsRun};
+ghost use Rattle.std.specs.Prelude.{◌≡◌, ◌∷◌, [], ◌↔◌, List, ℕ, codes, map, string_bytes, IsTrue, MatchOption};
+ghost use Rattle.cb_runner.specs.Inner.{said};
+ghost use Rattle.cb_runner.specs.Words.{IsList, IsOption, IsRun, Says, SaysNone};
 
-/// The folder of the command `run FOLDER First`, or `None` where the words are no command.
-pub(crate) fn folder_of_run(words: &[String]) -> Option<&str>
+/// A command.
+#[derive(Clone, Copy, Debug)]
+pub(crate) enum Command<'a> {
+    /// `run FOLDER First`
+    Run { folder: &'a str },
+    /// `list PATH`
+    List { path: &'a str },
+    /// `asm`
+    Assemble,
+}
+
+/// The command that the words say, or `None` where they say none.
+pub(crate) fn command_of(words: &[String]) -> Option<Command<'_>>
+    ensures { MatchOption result (SaysNone (map string_bytes words.now))
+        (λ command. Says (map string_bytes words.now) (said command)) }
+{
+    if let Some(folder) = folder_of_run(words) {
+        return Some(Command::Run { folder });
+    }
+    if let Some(path) = path_of_list(words) {
+        return Some(Command::List { path });
+    }
+    if is_assemble(words) {
+        Some(Command::Assemble)
+    } else {
+        None
+    }
+}
+
+/// The folder of the command `run FOLDER First`, or `None` where the words are another or none.
+fn folder_of_run(words: &[String]) -> Option<&str>
     ensures { MatchOption result ((folder : List ℕ) → IsRun folder (map string_bytes words.now) → ⊥)
         (λ folder. IsRun folder.now (map string_bytes words.now)) }
 {
@@ -15,6 +45,31 @@ pub(crate) fn folder_of_run(words: &[String]) -> Option<&str>
     } else {
         None
     }
+}
+
+/// The path of the command `list PATH`, or `None` where the words are another or none.
+fn path_of_list(words: &[String]) -> Option<&str>
+    ensures { MatchOption result ((path : List ℕ) → IsList path (map string_bytes words.now) → ⊥)
+        (λ path. IsList path.now (map string_bytes words.now)) }
+{
+    let [command, path] = words else {
+        return None;
+    };
+    if command.as_str() == "list" && !is_option(path.as_str()) {
+        Some(path.as_str())
+    } else {
+        None
+    }
+}
+
+/// Whether the words are the command `asm`.
+fn is_assemble(words: &[String]) -> bool
+    ensures { IsTrue result ↔ (map string_bytes words.now ≡ codes "asm" ∷ []) }
+{
+    let [command] = words else {
+        return false;
+    };
+    command.as_str() == "asm"
 }
 
 /// Whether a word begins as an option does.

@@ -1,8 +1,41 @@
-use Rattle.std.proofs.Common.{inr}
-use Rattle.cb_runner.specs.Words.{RunIn}
+use Rattle.std.proofs.Common.{◌≡◌, inr, map, string_bytes, ap, subst}
+use Rattle.cb_runner.specs.Inner.{cause_of, said}
+use Rattle.cb_runner.specs.Words.{Assemble, ListOf, RunIn, Says}
+use Rattle.cb_runner.proofs.Endings.{carried, unchanged_count, unsaid}
+use Rattle.cb_runner.proofs.Laws.{asks_folder, asks_input}
 use Rattle.cb_runner.proofs.command.carry_out.Goals as goal
 
-pub returns-in-Some-clause-ends : goal.returns-in-Some-clause-ends
-returns-in-Some-clause-ends g c =
+pub returns-in-Some-Run-clause-ends : goal.returns-in-Some-Run-clause-ends
+returns-in-Some-Run-clause-ends g c =
+    let says = subst (λ command. Says (map string_bytes c.args.words.now) (said command)) c.in-Some-Run.field-0-is c.in-Some-Run.ensures in
     let (printed, appends, ends) = c.run_class.ensures.ends in
-    (printed, appends, λ left. inr (RunIn c.in-Some.name.now, c.in-Some.ensures, ends left))
+    carried _ _ _ _ _ (RunIn c.in-Some-Run.name.now) c.run_class.result printed says appends ends
+
+pub returns-in-Some-Run-clause-input_fault : goal.returns-in-Some-Run-clause-input_fault
+returns-in-Some-Run-clause-input_fault g c =
+    let (printed, appends, ends) = c.run_class.ensures.ends in
+    unchanged_count _ (λ is. let no : RunIn c.in-Some-Run.name.now ≡ Assemble = asks_input _ _ (g.S.Source.left c.args.input.now) _ (ends (g.S.Source.left c.args.input.now)) (ap cause_of is) in cc)
+
+pub returns-in-Some-List-clause-ends : goal.returns-in-Some-List-clause-ends
+returns-in-Some-List-clause-ends g c =
+    let says = subst (λ command. Says (map string_bytes c.args.words.now) (said command)) c.in-Some-List.field-0-is c.in-Some-List.ensures in
+    let (printed, appends, ends) = c.list_file.ensures.ends in
+    carried _ _ _ _ _ (ListOf c.in-Some-List.path.now) c.list_file.result printed says appends ends
+
+pub returns-in-Some-List-clause-input_fault : goal.returns-in-Some-List-clause-input_fault
+returns-in-Some-List-clause-input_fault g c =
+    let (printed, appends, ends) = c.list_file.ensures.ends in
+    unchanged_count _ (λ is. let no : ListOf c.in-Some-List.path.now ≡ Assemble = asks_input _ _ (g.S.Source.left c.args.input.now) _ (ends (g.S.Source.left c.args.input.now)) (ap cause_of is) in cc)
+
+pub returns-in-Some-Assemble-clause-ends : goal.returns-in-Some-Assemble-clause-ends
+returns-in-Some-Assemble-clause-ends g c =
+    let says = subst (λ command. Says (map string_bytes c.args.words.now) (said command)) c.in-Some-Assemble.field-0-is c.in-Some-Assemble.ensures in
+    let done = c.assemble_input.ensures.ends in
+    record { printed = done.printed; read = done.read; appends = done.appends; left = done.left; ends = inr (Assemble, says, done.ends _) }
+
+pub returns-in-Some-Assemble-clause-folder_fault : goal.returns-in-Some-Assemble-clause-folder_fault
+returns-in-Some-Assemble-clause-folder_fault g c =
+    unchanged_count _ (λ is. asks_folder _ _ _ (c.assemble_input.ensures.ends.ends (g.F.Folder.files c.args.folder.now)) (ap cause_of is))
+
+pub returns-in-None-clause-ends : goal.returns-in-None-clause-ends
+returns-in-None-clause-ends g c = unsaid _ _ _ _ c.in-None.ensures

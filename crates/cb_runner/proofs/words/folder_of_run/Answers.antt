@@ -2,7 +2,7 @@ use Rattle.std.proofs.Common.{◌≡◌, codes, string_bytes, map, ap, sym, subs
 use Rattle.std.proofs.lemmas.Bool.{false≢true}
 use Rattle.std.proofs.lemmas.Slice.Eq.{bytes_eq-Decides}
 use Rattle.cb_runner.specs.Words.{IsOption}
-use Rattle.cb_runner.proofs.ThreeItems.{three}
+use Rattle.cb_runner.proofs.FewItems.{three}
 use Rattle.cb_runner.proofs.words.folder_of_run.Goals as goal
 
 pub returns-then-not-is_option : goal.returns-then-not-is_option

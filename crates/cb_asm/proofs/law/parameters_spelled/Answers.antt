@@ -1,5 +1,0 @@
-use Rattle.cb_asm.proofs.Parameters.{parameters_are}
-use Rattle.cb_asm.proofs.law.parameters_spelled.Goals as goal
-
-pub returns : goal.returns
-returns c = parameters_are

@@ -1,0 +1,13 @@
+pub mod Lists
+pub mod Relabelling
+pub mod Sizes
+pub mod Numbers
+pub mod Places
+pub mod Frames
+pub mod Standing
+pub mod Codes
+pub mod Listed
+pub mod Reading
+pub mod Shortness
+pub mod Members
+pub mod Programs

@@ -1,0 +1,7 @@
+use Rattle.std.proofs.Common.{◌≡◌, ◌++◌, take, string_bytes}
+use Rattle.std.specs.List.{flat_map}
+use Rattle.cb_asm_line.specs.Quoting.{name_unit}
+use Rattle.cb_asm_line.proofs.name.push_units.Given as goal
+
+abbrev pub invariant-loop-unit : goal.invariant-loop-unit
+invariant-loop-unit l = string_bytes l.text ≡ string_bytes l.initial.text ++ flat_map name_unit (take l.unit-index l.units)

@@ -1,0 +1,15 @@
+pub mod Lines
+pub mod Numbers
+pub mod Quoting
+pub mod Flags
+pub mod Mnemonics
+pub mod Label
+pub mod Operands
+pub mod Parameters
+pub mod Spelling
+pub mod Statements
+pub mod Said
+pub mod SaidCode
+pub mod SaidFrames
+pub mod SaidLines
+pub mod Inner

@@ -1,0 +1,6 @@
+mod AllOf
+mod Lines
+mod Lists
+mod Placed
+mod Texts
+mod WellFormed

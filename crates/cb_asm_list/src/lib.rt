@@ -1,0 +1,24 @@
+//! Class records listed as texts of the assembly format.
+//!
+//! `specs/` has frames in full and the program that is read off a record. No clause says that memory is to be had: that no
+//! call always gives up is shown by tests alone.
+#![tactic(auto)]
+
+mod body;
+mod code;
+mod constant;
+mod expansion;
+mod frame_line;
+mod frame_types;
+mod labels;
+mod listing;
+mod member;
+mod names;
+mod operand;
+mod places;
+mod start;
+#[cfg(test)]
+mod tests;
+mod words;
+
+pub use listing::list;

@@ -1,0 +1,10 @@
+use Rattle.std.proofs.Common.{map, take}
+use Rattle.std.specs.List.{AllByRecursion}
+use Rattle.cb_asm_record.specs.Grammar.{HasLabel}
+use Rattle.cb_asm_record.specs.Inner.{Gives}
+use Rattle.cb_asm_record.specs.Labels.{place_at}
+use Rattle.cb_asm_record.proofs.operand.pairs_of.Given as goal
+
+abbrev pub invariant-loop-name : goal.invariant-loop-name
+invariant-loop-name l =
+    Gives (map (λ pair. record { key = pair.0; target = place_at l.labels pair.1 }) (take l.name-index l.names)) (AllByRecursion (HasLabel l.labels) (map (λ pair. pair.1) (take l.name-index l.names))) l.pairs

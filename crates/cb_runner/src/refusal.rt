@@ -1,0 +1,89 @@
+// Why a command is refused.
+ghost use Rattle.std.specs.Prelude.{Some};
+ghost use Rattle.cb_runner.specs.Messages.{quantity_text, reason_of, refusal_text};
+
+use cb_classfile::Feature;
+use std::error::Error;
+use std::fmt;
+
+/// Why a command is refused. A class is named as it is printed: for `list` by the path of its file.
+#[derive(Debug, Drop, PartialEq, Eq)]
+pub enum Refusal {
+    /// The class has no file.
+    MissingClass {
+        name: String,
+    },
+    /// The file of the class is no class file.
+    Malformed {
+        class: String,
+    },
+    /// The file of the class has another major version than 50, 51 and 52.
+    BadVersion {
+        class: String,
+        major: u16,
+    },
+    /// The class has an item that this machine leaves out.
+    Unsupported {
+        class: String,
+        item: Feature,
+    },
+    /// The class has a file that isn't of the first form, or is too long for any.
+    NotYet {
+        class: String,
+    },
+    /// There is more of something than its limit. It is counted no further than to one more.
+    TooLarge {
+        what: Quantity,
+        count: u64,
+        limit: u64,
+    },
+    /// This line of an assembly text, counted from 1, is the first that is outside the format.
+    BadLine {
+        line: u32,
+    },
+}
+
+/// What there may be too much of.
+#[derive(Clone, Copy, Debug, PartialEq, Eq)]
+pub enum Quantity {
+    /// The bytes of a class file.
+    ClassFileBytes,
+    /// The bytes of an assembly text.
+    AssemblyBytes,
+}
+
+impl fmt::Display for Quantity {
+    ghost output = { λ quantity. Some (quantity_text quantity) };
+
+    fn fmt<W: fmt::Write>(&self, f: &mut fmt::Formatter<W>) -> fmt::Result {
+        f.write_str(match self {
+            Quantity::ClassFileBytes => "class file bytes",
+            Quantity::AssemblyBytes => "assembly bytes",
+        })
+    }
+}
+
+impl fmt::Display for Refusal {
+    ghost output = { λ refusal. Some (refusal_text (reason_of refusal)) };
+
+    fn fmt<W: fmt::Write>(&self, f: &mut fmt::Formatter<W>) -> fmt::Result {
+        match self {
+            Refusal::MissingClass { name } => write!(f, "E1 missing class {name}"),
+            Refusal::Malformed { class } => write!(f, "E2 malformed class {class}"),
+            Refusal::BadVersion { class, major } => write!(
+                f,
+                "E3 version {major} in class {class}"
+            ),
+            Refusal::Unsupported { class, item } => {
+                write!(f, "E4 unsupported {item} in class {class}")
+            }
+            Refusal::NotYet { class } => write!(f, "E4 unsupported not yet in class {class}"),
+            Refusal::TooLarge { what, count, limit } => {
+                write!(f, "E8 too large {what} {count} over {limit}")
+            }
+            Refusal::BadLine { line } => write!(f, "bad line {line}"),
+        }
+    }
+}
+
+impl Error for Refusal {}
