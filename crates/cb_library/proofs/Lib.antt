@@ -1,0 +1,4 @@
+pub mod Tested
+pub mod Rowed
+pub mod Natives
+pub mod Laws

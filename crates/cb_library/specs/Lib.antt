@@ -1,0 +1,11 @@
+pub mod Flags
+pub mod Rows
+pub mod Instructions
+pub mod Names
+pub mod NativeForms
+pub mod Lang
+pub mod Text
+pub mod Boxes
+pub mod Throwables
+pub mod CoreClasses
+pub mod Questions

@@ -1,0 +1,16 @@
+//! The classes of the library that the machine knows, as one table: for each its flags, name, superclass, interfaces,
+//! fields and members, and for each member what it is: abstract, native, or a short body.
+//!
+//! The table is in `specs/`, over names and descriptors as text; its natives are those of `Native`.
+#![tactic(auto)]
+
+mod law;
+mod native;
+#[cfg(test)]
+mod tests;
+
+pub use law::{
+    fifty_classes, flags_of_methods, four_constructors, marked, natives_once, one_method,
+    sound_bodies,
+};
+pub use native::{Native, NativeForm};
