@@ -11,6 +11,7 @@ use Rattle.cb_insn.specs.Writing.{code_bytes}
 use Rattle.cb_insn.proofs.Laws.{code_length, code_spelled}
 use Rattle.cb_classfile.specs.declared.needed.ConstantKind.TheVariants as needed
 use Rattle.cb_classfile.specs.Needed.{CallsClass, HasConstant, StandsAt, index_in, kind_needed}
+use Rattle.cb_classfile.proofs.Laws.{all_each}
 use Rattle.cb_asm_line.specs.Label.{Label}
 use Rattle.cb_asm_line.specs.Parameters.{argument_words}
 use Rattle.cb_asm_line.specs.declared.operand.Instruction.{Instruction}
@@ -23,7 +24,7 @@ use Rattle.cb_asm_record.specs.Constants.{index_of}
 use Rattle.cb_asm_record.specs.Entries.{Entry, member_entry}
 use Rattle.cb_asm_record.specs.Grammar.{HasLabel, LineHasLabels, labels_of}
 use Rattle.cb_asm_record.specs.Labels.{code_from, insn_of, labels_from, operand_of, place_in, place_of, size_at}
-use Rattle.cb_asm_prefix.proofs.Lists.{all_each, all_mapped, all_of_map}
+use Rattle.cb_asm_prefix.proofs.Lists.{all_mapped, all_of_map}
 use Rattle.cb_asm_prefix.proofs.Nearing.{pair_to}
 use Rattle.cb_asm_prefix.proofs.Placing.{HasDo, end_of, in_first, in_second, labels_append}
 

@@ -9,6 +9,7 @@ use Rattle.cb_classfile.specs.declared.frame_map.MapFrame.{MapFrame}
 use Rattle.cb_classfile.specs.Code.{IsPlaced}
 use Rattle.cb_classfile.specs.FrameMap.{SpellsFrame, frame_bytes}
 use Rattle.cb_classfile.specs.Tables.{u2}
+use Rattle.cb_classfile.proofs.Laws.{HasName, HasSpelling, IsBodyOf, IsHandler, code_name, frames_size}
 use Rattle.cb_asm_line.specs.Label.{Label}
 use Rattle.cb_asm_line.specs.declared.frame.FrameLine.{FrameLine}
 use Rattle.cb_asm_line.specs.declared.frame.FrameLine.TheVariants.{Full, Bad}
@@ -18,11 +19,8 @@ use Rattle.cb_asm_line.specs.declared.program.CodeText.{CodeText}
 use Rattle.cb_asm_record.specs.Entries.{Entry}
 use Rattle.cb_asm_record.specs.Labels.{code_from, place_at}
 use Rattle.cb_asm_record.specs.Record.{body_of, frame_behind, frames_behind, handler_of}
-use Rattle.cb_asm_prefix.proofs.Bodies.{IsHandler, frames_size}
 use Rattle.cb_asm_prefix.proofs.Codes.{IsCodeOf, is_code_of}
-use Rattle.cb_asm_prefix.proofs.Formed.{HasName, HasSpelling}
 use Rattle.cb_asm_prefix.proofs.Lists.{all_front}
-use Rattle.cb_asm_prefix.proofs.Members.{IsBodyOf, code_name}
 use Rattle.cb_asm_prefix.proofs.OpenCode.{closing}
 
 -- the code of a method by its parts

@@ -20,9 +20,10 @@ use Rattle.cb_asm_record.specs.Grammar.{CatchHasLabels, FrameHasLabels, HasLabel
 use Rattle.cb_asm_record.specs.Labels.{labels_from, place_at, place_in}
 use Rattle.cb_asm_prefix.proofs.Codes.{EachLabel, each_label, place_first, place_second, stand_labels}
 use Rattle.cb_asm_prefix.proofs.CutBodies.{text}
-use Rattle.cb_asm_prefix.proofs.Lists.{all_both, all_each, all_flat, all_front, all_mapped, all_of_flat, all_of_map, among_all, pairs_both, pairs_first, pairs_front, pairs_more, pairs_none, pairs_rest}
+use Rattle.cb_asm_prefix.proofs.Lists.{all_both, all_flat, all_front, all_mapped, all_of_flat, all_of_map, among_all, pairs_both, pairs_first, pairs_front, pairs_more, pairs_none, pairs_rest}
 use Rattle.cb_asm_prefix.proofs.OpenCode.{closing, closing_labels}
 use Rattle.cb_asm_prefix.proofs.Placing.{each_found, end_of, labels_append, there_or_not}
+use Rattle.cb_classfile.proofs.Laws.{all_each}
 
 -- fewer entries of the exception table and fewer frames
 rise_front : (front back : List ℕ) → Rise (front ++ back) → Rise front

@@ -3,6 +3,7 @@ use Rattle.std.proofs.Common.{◌≡◌, ◌≢◌, ◌∙◌, ap, sym, subst, a
 use Rattle.std.specs.List.{AllByRecursion, flat_map}
 use Rattle.std.proofs.lemmas.List.{append-nil}
 use Rattle.cb_classfile.specs.Needed.{CallsClass}
+use Rattle.cb_classfile.proofs.Laws.{HasParts, IsBodyOf, IsMethodOf, parts_of}
 use Rattle.cb_asm_line.specs.Label.{Label}
 use Rattle.cb_asm_line.specs.Statements.{HasLines, IsCodeLine}
 use Rattle.cb_asm_line.specs.declared.frame.FrameLine.{FrameLine}
@@ -19,14 +20,12 @@ use Rattle.cb_asm_record.specs.Grammar.{HasCode, HasLabel, IsCode, IsProgram}
 use Rattle.cb_asm_record.specs.Labels.{place_at}
 use Rattle.cb_asm_record.specs.Record.{body_of, class_in, class_of, method_of}
 use Rattle.cb_asm_record.specs.Uses.{code_uses, line_uses, method_uses, program_uses}
-use Rattle.cb_asm_prefix.proofs.Classes.{HasParts, parts_of}
 use Rattle.cb_asm_prefix.proofs.Codes.{EachLabel, IsCodeOf, calls_of_index, each_insn, labels_stand, stand_labels}
 use Rattle.cb_asm_prefix.proofs.CutBodies.{bare_body, code_of_body, fewer_body, nop_code, text}
 use Rattle.cb_asm_prefix.proofs.CutLabels.{IsOpened, bare_is_code, closed_lines, fewer_is_code, lines_closed, nop_lines_are, once_closed, once_front, shared_closed}
 use Rattle.cb_asm_prefix.proofs.EndCode.{all_before, end_code}
 use Rattle.cb_asm_prefix.proofs.LinesOf.{AreCodeLines, AreProgramLines, bare_lines, fewer_code_lines, fewer_lines, last_lines, lines_have, of_lines}
 use Rattle.cb_asm_prefix.proofs.Lists.{all_back, all_both, all_front, all_of_map, pairs_none}
-use Rattle.cb_asm_prefix.proofs.Members.{IsBodyOf, IsMethodOf}
 use Rattle.cb_asm_prefix.proofs.OpenCode.{closing, open_calls, open_code}
 use Rattle.cb_asm_prefix.proofs.Placing.{HasDo, HasNone}
 use Rattle.cb_asm_prefix.proofs.Shrinking.{shrinks}

@@ -19,9 +19,10 @@ use Rattle.cb_asm_record.specs.Entries.{Entry}
 use Rattle.cb_asm_record.specs.Grammar.{HasLabel, labels_of}
 use Rattle.cb_asm_record.specs.Labels.{code_from, insn_of, labels_from, operand_of, place_at, size_at}
 use Rattle.cb_asm_prefix.proofs.Codes.{EachLabel, each_label, of_reach, place_first, place_second}
-use Rattle.cb_asm_prefix.proofs.Lists.{all_each, all_front, all_of_map, all_two, among_all, map_each}
+use Rattle.cb_asm_prefix.proofs.Lists.{all_front, all_of_map, all_two, among_all, map_each}
 use Rattle.cb_asm_prefix.proofs.Nearing.{pair_to}
 use Rattle.cb_asm_prefix.proofs.Placing.{HasNone, below_end, code_append, end_of, labels_at, no_code, place_found, there_or_not}
+use Rattle.cb_classfile.proofs.Laws.{all_each}
 
 -- instructions whose labels stand where they stood are the same
 operand_same : (entries : List Entry) (place place_too : Label → ℕ) (opcode : ℕ) (operand : Operand) → AllByRecursion (λ label. place label ≡ place_too label) (labels_of operand) → operand_of entries place opcode operand ≡ operand_of entries place_too opcode operand

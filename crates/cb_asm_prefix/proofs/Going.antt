@@ -13,7 +13,7 @@ use Rattle.cb_classfile.specs.Members.{IsValueOf}
 use Rattle.cb_classfile.specs.Needed.{CallsClass, HasConstant, StandsAt, index_in, is_of_kind, kind_needed}
 use Rattle.cb_classfile.specs.Pool.{HasText}
 use Rattle.cb_classfile.specs.Tables.{SpellsTable}
-use Rattle.cb_classfile.proofs.Laws.{least_stands, least_within_exactly}
+use Rattle.cb_classfile.proofs.Laws.{HasName, HasSpelling, IsBody, IsBodyOf, IsConstant, IsField, IsHandler, IsMethodOf, code_name, constant_value, least_stands, least_within_exactly, of_table, stack_map_table, table_has}
 use Rattle.cb_asm_line.specs.Label.{Label}
 use Rattle.cb_asm_line.specs.Parameters.{argument_words}
 use Rattle.cb_asm_line.specs.declared.frame.Frame.{Frame}
@@ -37,10 +37,7 @@ use Rattle.cb_asm_record.specs.Labels.{code_from, insn_of, member_operand, opera
 use Rattle.cb_asm_record.specs.Record.{body_of, class_index, field_of, frame_behind, frames_behind, handler_of, map_type_of, method_of}
 use Rattle.cb_asm_record.specs.Uses.{class_use, code_uses, field_uses, frame_uses, frames_uses, line_uses, method_uses, operand_uses, type_uses, value_uses}
 use Rattle.cb_asm_record.proofs.Laws.{text_read}
-use Rattle.cb_asm_prefix.proofs.Bodies.{IsBody, IsHandler, stack_map_table}
-use Rattle.cb_asm_prefix.proofs.Formed.{HasName, HasSpelling, of_table, table_has}
 use Rattle.cb_asm_prefix.proofs.Lists.{all_back, all_front, all_of_flat}
-use Rattle.cb_asm_prefix.proofs.Members.{IsBodyOf, IsConstant, IsField, IsMethodOf, code_name, constant_value}
 use Rattle.cb_asm_prefix.proofs.Pools.{Has}
 use Rattle.cb_asm_prefix.proofs.Standing.{Pool, SameClass, SameConstant, SameText, at, field_names_go, method_names_go, same_class, same_constant, same_text, text_goes}
 use Rattle.cb_asm_prefix.proofs.Staying.{Had, code_had, each_frame_had}

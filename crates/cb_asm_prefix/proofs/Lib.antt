@@ -3,10 +3,6 @@ pub mod Near
 pub mod Pools
 pub mod Standing
 pub mod Named
-pub mod Formed
-pub mod Bodies
-pub mod Members
-pub mod Classes
 pub mod Staying
 pub mod Going
 pub mod Shrinking

@@ -12,8 +12,9 @@ use Rattle.cb_asm_line.specs.declared.program.Program.{Program}
 use Rattle.cb_asm_line.specs.declared.statement.Statement.TheVariants as statements
 use Rattle.cb_asm_line.specs.Statements.{AreWhole, HasLines, IsCatch, IsCodeLine, IsStatement, IsWhole, code_statements, frame_statements, method_statements}
 use Rattle.cb_asm_prefix.proofs.CutBodies.{text}
-use Rattle.cb_asm_prefix.proofs.Lists.{all_back, all_both, all_each, all_flat, all_front, all_mapped, all_of_flat, all_of_map, all_two}
+use Rattle.cb_asm_prefix.proofs.Lists.{all_back, all_both, all_flat, all_front, all_mapped, all_of_flat, all_of_map, all_two}
 use Rattle.cb_asm_prefix.proofs.Trees.{tree, with_code}
+use Rattle.cb_classfile.proofs.Laws.{all_each}
 
 -- the lines of code, of a method and of a program, part by part
 pub record AreCodeLines (code : CodeText) : Type 0 where

@@ -14,10 +14,6 @@ pub all_both : {X : Type 0} (P : X → Type 0) (front back : List X) → AllByRe
 all_both P [] back all more = more
 all_both P (item ∷ front) back all more = (all.0, all_both P front back all.1 more)
 
-pub all_each : {X : Type 0} (P Q : X → Type 0) → ((item : X) → P item → Q item) → (items : List X) → AllByRecursion P items → AllByRecursion Q items
-all_each P Q each [] all = tt
-all_each P Q each (item ∷ items) all = (each item all.0, all_each P Q each items all.1)
-
 pub all_two : {X : Type 0} (P Q R : X → Type 0) → ((item : X) → P item → Q item → R item) → (items : List X) → AllByRecursion P items → AllByRecursion Q items → AllByRecursion R items
 all_two P Q R each [] all too = tt
 all_two P Q R each (item ∷ items) all too = (each item all.0 too.0, all_two P Q R each items all.1 too.1)

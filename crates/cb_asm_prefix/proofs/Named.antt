@@ -7,10 +7,11 @@ use Rattle.cb_text.specs.declared.naming.MemberKind.{MemberKind}
 use Rattle.cb_text.specs.declared.naming.MemberKind.TheVariants as kinds
 use Rattle.cb_text.specs.Pool.{AreLaidOut, Fits, HasIndices, IsClass, IsMember, IsPool, IsText, Names, with_gap}
 use Rattle.cb_classfile.specs.Pool.{AreNamed, IsNamed, NamesClassMethod, NamesField, NamesMethod}
+use Rattle.cb_classfile.proofs.Laws.{all_each}
 use Rattle.cb_asm_record.specs.Constants.{constant_of, entries_of, member_of}
 use Rattle.cb_asm_record.specs.Entries.{Entry, Text, Int, Long, Class, String, NameAndType, Member}
 use Rattle.cb_asm_record.proofs.Laws.{at_its_index}
-use Rattle.cb_asm_prefix.proofs.Lists.{all_each, all_flat, all_front, all_of_flat, all_two}
+use Rattle.cb_asm_prefix.proofs.Lists.{all_flat, all_front, all_of_flat, all_two}
 use Rattle.cb_asm_prefix.proofs.Pools.{Has, all_had, both_of_member, class_of_member, descriptor_of_both, grows, name_of_both, text_of_class, text_of_string}
 use Rattle.cb_asm_prefix.proofs.Standing.{Pool, at, class_method_goes, field_names_go, member_goes, method_names_go, same_text, text_goes}
 

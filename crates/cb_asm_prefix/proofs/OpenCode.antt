@@ -8,6 +8,7 @@ use Rattle.cb_insn.specs.Grammar.{SpellsFrom, targets_of}
 use Rattle.cb_insn.specs.Writing.{code_bytes}
 use Rattle.cb_insn.specs.Places.{places}
 use Rattle.cb_classfile.specs.Needed.{CallsClass, HasConstant}
+use Rattle.cb_classfile.proofs.Laws.{all_each}
 use Rattle.cb_asm_line.specs.Label.{Label}
 use Rattle.cb_asm_line.specs.declared.operand.Instruction.{Instruction}
 use Rattle.cb_asm_line.specs.declared.operand.Operand.TheVariants.{Nothing}
@@ -18,7 +19,7 @@ use Rattle.cb_asm_record.specs.Entries.{Entry}
 use Rattle.cb_asm_record.specs.Grammar.{HasLabel, LineHasLabels}
 use Rattle.cb_asm_record.specs.Labels.{code_from, insn_of, labels_from, place_at, place_of, size_at}
 use Rattle.cb_asm_prefix.proofs.Codes.{EachLabel, IsCodeOf, all_reach, calls_of_index, constant_of_index, each_insn, each_label, first_at, is_code_of, labels_stand, place_first, place_second, some_bytes, spells_append}
-use Rattle.cb_asm_prefix.proofs.Lists.{all_any, all_both, all_each, all_mapped, all_two}
+use Rattle.cb_asm_prefix.proofs.Lists.{all_any, all_both, all_mapped, all_two}
 use Rattle.cb_asm_prefix.proofs.Nearing.{IsNear, insn_again}
 use Rattle.cb_asm_prefix.proofs.Placing.{HasDo, ahead, code_append, end_of, has_behind, in_places, labels_ahead, place_found, there_or_not}
 

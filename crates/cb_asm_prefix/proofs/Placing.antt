@@ -14,7 +14,8 @@ use Rattle.cb_asm_line.specs.declared.program.CodeLine.{CodeLine}
 use Rattle.cb_asm_line.specs.declared.program.CodeLine.TheVariants.{Here, Do}
 use Rattle.cb_asm_record.specs.Entries.{Entry}
 use Rattle.cb_asm_record.specs.Labels.{code_from, insn_of, labels_from, operand_of, place_in, size_at}
-use Rattle.cb_asm_prefix.proofs.Lists.{all_each, among_first, among_rest}
+use Rattle.cb_asm_prefix.proofs.Lists.{among_first, among_rest}
+use Rattle.cb_classfile.proofs.Laws.{all_each}
 
 -- a text is the same as itself
 pub text_itself : (text : List ℕ) → same_text text text ≡ true

@@ -10,7 +10,7 @@ use Rattle.cb_text.specs.Pool.{with_gap}
 use Rattle.cb_asm_record.specs.Constants.{constant_of, entries_of, firsts, index_of, member_of, pool_of}
 use Rattle.cb_asm_record.specs.Entries.{Entry, Text, Int, Long, Class, String, NameAndType, Member, same, with_parts}
 use Rattle.cb_asm_record.proofs.Laws.{closed, first_or, has, in_firsts, index_stays, same_itself, with_itself}
-use Rattle.cb_asm_prefix.proofs.Lists.{all_each}
+use Rattle.cb_classfile.proofs.Laws.{all_each}
 
 -- an entry is had by the pool of what is used
 abbrev pub Has : List Entry → Entry → Type 0

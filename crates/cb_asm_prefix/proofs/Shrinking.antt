@@ -9,6 +9,7 @@ use Rattle.cb_classfile.specs.declared.field.Field.{Field}
 use Rattle.cb_classfile.specs.declared.method.Method.{Method}
 use Rattle.cb_classfile.specs.Class.{Differ, IsClass, IsWellFormed, signature}
 use Rattle.cb_classfile.specs.Needed.{CallsClasses}
+use Rattle.cb_classfile.proofs.Laws.{HasParts, IsField, IsInterface, IsMethodOf, all_each, class_has}
 use Rattle.cb_asm_line.specs.declared.program.CodeText.{CodeText}
 use Rattle.cb_asm_line.specs.declared.program.Program.{Program}
 use Rattle.cb_asm_record.specs.Constants.{entries_of, index_of}
@@ -17,10 +18,8 @@ use Rattle.cb_asm_record.specs.Labels.{place_at}
 use Rattle.cb_asm_record.specs.Record.{body_of, class_in, class_index, class_of, field_of, method_of}
 use Rattle.cb_asm_record.specs.Uses.{class_use, code_uses, field_uses, method_uses, program_uses}
 use Rattle.cb_asm_record.proofs.Laws.{index_stays}
-use Rattle.cb_asm_prefix.proofs.Classes.{HasParts, IsInterface, class_has}
 use Rattle.cb_asm_prefix.proofs.Going.{all_calls_go, class_same, field_goes, method_goes}
-use Rattle.cb_asm_prefix.proofs.Lists.{all_back, all_each, all_front, all_mapped, all_of_flat, all_of_map, all_two, map_each}
-use Rattle.cb_asm_prefix.proofs.Members.{IsField, IsMethodOf}
+use Rattle.cb_asm_prefix.proofs.Lists.{all_back, all_front, all_mapped, all_of_flat, all_of_map, all_two, map_each}
 use Rattle.cb_asm_prefix.proofs.Named.{are_named, is_pool}
 use Rattle.cb_asm_prefix.proofs.Pools.{Has, had}
 use Rattle.cb_asm_prefix.proofs.Standing.{Pool, SameText, at, class_goes, same_class, same_text}

@@ -11,6 +11,7 @@ use Rattle.cb_classfile.specs.declared.handler.Handler.{Handler}
 use Rattle.cb_classfile.specs.declared.map_type.MapType.{MapType}
 use Rattle.cb_classfile.specs.declared.map_type.MapType.TheVariants as types
 use Rattle.cb_classfile.specs.declared.method.Method.{Method}
+use Rattle.cb_classfile.proofs.Laws.{all_each, code_name}
 use Rattle.cb_asm_line.specs.Label.{Label}
 use Rattle.cb_asm_line.specs.declared.frame.Frame.{Frame}
 use Rattle.cb_asm_line.specs.declared.frame.FrameLine.{FrameLine}
@@ -33,8 +34,7 @@ use Rattle.cb_asm_record.specs.Labels.{code_from, insn_of, member_operand, opera
 use Rattle.cb_asm_record.specs.Record.{body_of, class_index, delta_behind, field_of, frame_behind, frames_behind, full_kind, handler_of, map_type_of, method_of}
 use Rattle.cb_asm_record.specs.Uses.{class_use, code_uses, field_uses, frame_uses, frames_uses, line_uses, method_uses, operand_uses, type_uses, value_uses}
 use Rattle.cb_asm_record.proofs.Laws.{index_stays}
-use Rattle.cb_asm_prefix.proofs.Lists.{all_back, all_each, all_front, all_of_flat, map_each}
-use Rattle.cb_asm_prefix.proofs.Members.{code_name}
+use Rattle.cb_asm_prefix.proofs.Lists.{all_back, all_front, all_of_flat, map_each}
 use Rattle.cb_asm_prefix.proofs.Pools.{Has}
 
 -- these entries are had

@@ -8,6 +8,7 @@ use Rattle.cb_classfile.specs.declared.method.Method.{Method}
 use Rattle.cb_classfile.specs.Class.{Differ, IsClass, signature}
 use Rattle.cb_classfile.specs.Flags.{HasFlag, acc_static}
 use Rattle.cb_classfile.specs.Needed.{CallsClasses}
+use Rattle.cb_classfile.proofs.Laws.{HasParts, IsBodyOf, IsField, IsInterface, IsMethodOf}
 use Rattle.cb_asm_line.specs.declared.program.CodeText.{CodeText}
 use Rattle.cb_asm_line.specs.declared.program.FieldText.{FieldText}
 use Rattle.cb_asm_line.specs.declared.program.MethodText.{MethodText}
@@ -15,9 +16,7 @@ use Rattle.cb_asm_line.specs.declared.program.Program.{Program}
 use Rattle.cb_asm_record.specs.Constants.{index_of, pool_of}
 use Rattle.cb_asm_record.specs.Entries.{Entry, Class}
 use Rattle.cb_asm_record.specs.Record.{body_of, class_in, field_of, method_of}
-use Rattle.cb_asm_prefix.proofs.Classes.{HasParts, IsInterface}
 use Rattle.cb_asm_prefix.proofs.Lists.{all_back, all_both, all_front, all_mapped, all_of_map, pairs_front}
-use Rattle.cb_asm_prefix.proofs.Members.{IsBodyOf, IsField, IsMethodOf}
 
 -- a program with other members, and a method with other code
 abbrev pub tree : Program → List (List ℕ) → List FieldText → List MethodText → Program

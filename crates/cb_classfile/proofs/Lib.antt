@@ -32,3 +32,7 @@ pub mod CanonicalMembers
 pub mod Laws
 pub mod LeastIndex
 pub mod OneAttribute
+pub mod FormedTables
+pub mod FormedBodies
+pub mod FormedMembers
+pub mod FormedClasses

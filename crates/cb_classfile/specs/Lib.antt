@@ -22,3 +22,4 @@ pub use Rattle.cb_names.specs.Names
 pub use Rattle.cb_names.specs.Types
 pub use Rattle.cb_text.specs.Naming
 pub use Rattle.cb_text.specs.Text
+pub mod Library

@@ -1,6 +1,6 @@
 // The record of a class file (JVMS §4.1).
 use crate::{ClassFlags, Fields, Methods};
-use cb_plain::Numbers;
+use cb_plain::{List, Numbers};
 use cb_text::Pool;
 
 /// What a class file says (JVMS §4.1). Attributes other than `ConstantValue`, `Code` and `StackMapTable` are skipped.
@@ -26,3 +26,6 @@ pub struct ClassFile {
     /// The methods, in the order of the file.
     pub methods: Methods,
 }
+
+/// Classes, in the order of their numbers.
+pub type Classes = List<ClassFile>;

@@ -38,7 +38,7 @@ mod text_numbers;
 mod texts;
 
 pub use body::Body;
-pub use class::ClassFile;
+pub use class::{ClassFile, Classes};
 pub use class_rules::{is_class, is_class_by_numbers};
 pub use constants::Constants;
 pub use differ::{Named, do_differ};

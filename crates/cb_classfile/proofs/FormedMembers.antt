@@ -10,9 +10,9 @@ use Rattle.cb_classfile.specs.Code.{SpellsBody, body_bytes}
 use Rattle.cb_classfile.specs.Members.{IsMethod, IsValueOf, SpellsField, SpellsMethod, SpellsValue}
 use Rattle.cb_classfile.specs.Pool.{HasText, NamesField, NamesMethod}
 use Rattle.cb_classfile.specs.Tables.{u2}
-use Rattle.cb_classfile.proofs.Laws.{canonical_body, canonical_value}
-use Rattle.cb_asm_prefix.proofs.Bodies.{IsBody, body_has, body_long, body_size, of_body}
-use Rattle.cb_asm_prefix.proofs.Formed.{HasName, HasOnce, HasSpelling, may_stand, of_once, once_none, once_some}
+use Rattle.cb_classfile.proofs.CanonicalMembers.{canonical_body, canonical_value}
+use Rattle.cb_classfile.proofs.FormedBodies.{IsBody, body_has, body_long, body_size, of_body}
+use Rattle.cb_classfile.proofs.FormedTables.{HasName, HasOnce, HasSpelling, may_stand, of_once, once_none, once_some}
 
 abbrev pub constant_value : List ℕ
 constant_value = codes "ConstantValue"

@@ -10,10 +10,10 @@ use Rattle.cb_classfile.specs.Class.{IsClass, IsWellFormed, SpellsInterface, mag
 use Rattle.cb_classfile.specs.Members.{SpellsField, SpellsMethod}
 use Rattle.cb_classfile.specs.Pool.{AreNamed, HasClass}
 use Rattle.cb_classfile.specs.Tables.{u2, u4}
-use Rattle.cb_classfile.proofs.Laws.{none_stands}
-use Rattle.cb_asm_prefix.proofs.Formed.{HasSpelling, of_table, table_has}
-use Rattle.cb_asm_prefix.proofs.Lists.{all_each}
-use Rattle.cb_asm_prefix.proofs.Members.{IsField, IsMethodOf, field_has, method_has, of_field, of_method}
+use Rattle.cb_classfile.proofs.OneAttribute.{none_stands}
+use Rattle.cb_classfile.proofs.FormedTables.{HasSpelling, of_table, table_has}
+use Rattle.cb_classfile.proofs.FormedTables.{all_each}
+use Rattle.cb_classfile.proofs.FormedMembers.{IsField, IsMethodOf, field_has, method_has, of_field, of_method}
 
 -- the index of an interface
 pub record IsInterface (pool : List Constant) (index : ℕ) : Type 0 where

@@ -16,9 +16,12 @@ use Rattle.cb_classfile.specs.FrameMap.{SpellsFrame, SpellsFrames, frame_bytes}
 use Rattle.cb_classfile.specs.Needed.{HasConstant}
 use Rattle.cb_classfile.specs.Pool.{class_at}
 use Rattle.cb_classfile.specs.Tables.{block_bytes, table_bytes, u2}
-use Rattle.cb_classfile.proofs.Laws.{canonical_frame, canonical_table, frames_once, held, none_stands, one_stands}
-use Rattle.cb_asm_prefix.proofs.Lists.{all_each}
-use Rattle.cb_asm_prefix.proofs.Formed.{HasName, HasSpelling, IsTable, may_stand, of_table, table_has}
+use Rattle.cb_classfile.proofs.Canonical.{canonical_table}
+use Rattle.cb_classfile.proofs.CanonicalFrames.{canonical_frame}
+use Rattle.cb_classfile.proofs.CanonicalMembers.{frames_once}
+use Rattle.cb_classfile.proofs.OneAttribute.{held, none_stands, one_stands}
+use Rattle.cb_classfile.proofs.FormedTables.{all_each}
+use Rattle.cb_classfile.proofs.FormedTables.{HasName, HasSpelling, IsTable, may_stand, of_table, table_has}
 
 abbrev pub stack_map_table : List ℕ
 stack_map_table = codes "StackMapTable"

@@ -5,7 +5,14 @@ use Rattle.cb_text.specs.declared.constant.Constant.{Constant}
 use Rattle.cb_classfile.specs.Attributes.{Attribute, SpellsAttributes, SpellsOnce, attributes_bytes, contents_named, least_index, one_attribute}
 use Rattle.cb_classfile.specs.Pool.{text_at}
 use Rattle.cb_classfile.specs.Tables.{u2, SpellsEach, SpellsTable}
-use Rattle.cb_classfile.proofs.Laws.{IsCanonical, MayStand, held, least_stands, none_stands, one_stands}
+use Rattle.cb_classfile.proofs.Canonical.{IsCanonical}
+use Rattle.cb_classfile.proofs.LeastIndex.{least_stands}
+use Rattle.cb_classfile.proofs.OneAttribute.{MayStand, held, none_stands, one_stands}
+
+-- what follows from what holds of each item holds of each
+pub all_each : {X : Type 0} (P Q : X → Type 0) → ((item : X) → P item → Q item) → (items : List X) → AllByRecursion P items → AllByRecursion Q items
+all_each P Q each [] all = tt
+all_each P Q each (item ∷ items) all = (each item all.0, all_each P Q each items all.1)
 
 -- some bytes spell the item
 pub record HasSpelling {Item : Type 0} (Spells : List ℕ → Item → Type 0) (item : Item) : Type 0 where

@@ -1,0 +1,6 @@
+pub mod Built
+pub mod Rowed
+pub mod Sound
+-- what the public clauses cite of the crates below
+pub use Rattle.cb_classfile.specs.Library
+pub use Rattle.cb_library.specs.CoreClasses

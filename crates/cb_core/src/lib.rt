@@ -1,0 +1,12 @@
+//! The records of the library's classes: Object, strings, boxes, throwables and the like, fifty in all, as class records
+//! like those of a folder.
+//!
+//! What they have is the table of `cb_library`. It stands here a second time, as data of the program (`row`, and the files
+//! named for the table's), and the check compares the two. `record` makes a class record of a row.
+#![tactic(auto)]
+
+mod classes;
+mod record;
+mod row;
+
+pub use classes::core_classes;
