@@ -8,5 +8,7 @@
 mod classes;
 mod record;
 mod row;
+#[cfg(test)]
+mod tests;
 
 pub use classes::core_classes;
