@@ -1,6 +1,6 @@
 -- Tests of the bodies of rows.
-use Rattle.std.proofs.Common.{◌≡◌, arith, ℕ, ◌+◌, ◌^◌, ◌<◌, ◌⊎◌, inl, inr, refl, Bool, true, false, ◌&&◌, ◌||◌, not, List, length, Option, Some, None, codes, is_none, nat_eq, nat_le, nat_lt}
-use Rattle.std.specs.List.{AllByRecursion, ends_with, list_all}
+use Rattle.std.proofs.Common.{◌≡◌, arith, ℕ, ◌^◌, ◌⊎◌, inl, inr, refl, Bool, true, false, ◌&&◌, ◌||◌, not, List, length, Option, Some, codes, is_none, nat_eq, nat_le, nat_lt}
+use Rattle.std.specs.List.{ends_with, list_all}
 use Rattle.std.specs.Str.{bytes_eq}
 use Rattle.cb_insn.specs.declared.form.Form.{Form}
 use Rattle.cb_insn.specs.declared.form.Form.TheVariants as forms
@@ -12,7 +12,7 @@ use Rattle.cb_classfile.specs.Needed.{kind_needed}
 use Rattle.cb_classfile.specs.Pool.{GivesNothing}
 use Rattle.cb_classfile.specs.Profile.{opcode_item}
 use Rattle.cb_core.specs.Sound.{IsSoundBody, IsSoundClassName, IsSoundFrame, IsSoundInsn}
-use Rattle.cb_core.proofs.SoundTests.{below, both, each, either, itself, none, one_text, then, within}
+use Rattle.cb_core.proofs.SoundTests.{below, both, each, itself, none, then, within}
 use Rattle.cb_core.proofs.SoundNames.{is_short, is_sound_class_name, is_sound_field_name, is_sound_method_name, short, sound_class_name, sound_field_name, sound_method_name}
 use Rattle.cb_core.proofs.SoundTypes.{is_sound_field_descriptor, is_sound_method_descriptor, sound_field_descriptor, sound_method_descriptor}
 

@@ -1,13 +1,13 @@
 -- Tests of the members of rows, and of rows.
-use Rattle.std.proofs.Common.{◌≡◌, ◌∙◌, ap, refl, arith, ℕ, ◌^◌, ◌<◌, ◌≢◌, Bool, true, false, ◌&&◌, ◌||◌, not, List, [], ◌∷◌, map, bit_and, Option, Some, None, IfSome, codes, nat_eq, nat_lt}
-use Rattle.std.specs.List.{AllByRecursion, list_all}
+use Rattle.std.proofs.Common.{◌≡◌, ap, refl, arith, ℕ, ◌^◌, Bool, true, false, ◌&&◌, ◌||◌, not, List, [], ◌∷◌, map, bit_and, Option, Some, None, IfSome, codes, nat_eq, nat_lt}
+use Rattle.std.specs.List.{list_all}
 use Rattle.std.specs.Str.{bytes_eq}
 use Rattle.std.proofs.lemmas.Bool.Decides.{nat_tests}
 use Rattle.cb_library.specs.Rows.{CoreClass, Field, Kind, Method, Abstract, Performed, Runs}
 use Rattle.cb_classfile.specs.Class.{object}
 use Rattle.cb_classfile.specs.Flags.{acc_static, acc_native, acc_interface, acc_abstract, acc_synchronized, HasFlag}
 use Rattle.cb_core.specs.Sound.{IsSound, IsSoundClassName, IsSoundField, IsSoundInterface, IsSoundKind, IsSoundMethod, class_room}
-use Rattle.cb_core.proofs.SoundTests.{below, both, differ, distinct, each, equal, itself, one_text, other_text, refused, then, unequal}
+use Rattle.cb_core.proofs.SoundTests.{below, both, differ, distinct, each, equal, itself, one_text, other_text, then, unequal}
 use Rattle.cb_core.proofs.SoundNames.{is_sound_class_name, is_sound_field_name, is_sound_method_name, sound_class_name, sound_field_name, sound_method_name}
 use Rattle.cb_core.proofs.SoundTypes.{is_sound_field_descriptor, is_sound_method_descriptor, sound_field_descriptor, sound_method_descriptor}
 use Rattle.cb_core.proofs.SoundBodies.{is_sound_body, sound_body}
@@ -15,12 +15,6 @@ use Rattle.cb_core.proofs.SoundBodies.{is_sound_body, sound_body}
 -- whether flags have one
 abbrev has : ℕ → ℕ → Bool
 has flags flag = nat_eq (bit_and flags flag) flag
-
-has_it : (flags flag : ℕ) → has flags flag ≡ true → HasFlag flags flag
-has_it flags flag is = equal _ _ is
-
-has_not : (flags flag : ℕ) → not (has flags flag) ≡ true → ¬ HasFlag flags flag
-has_not flags flag is = unequal _ _ is
 
 -- what a method is
 abbrev is_sound_kind : ℕ → List ℕ → Kind → Bool
@@ -34,12 +28,12 @@ kind flags name Abstract is =
     let first = both _ _ is in
     let second = both _ _ first.1 in
     let third = both _ _ second.1 in
-    (has_it flags acc_abstract first.0, has_not flags acc_native second.0, has_not flags acc_static third.0, other_text _ _ third.1)
-kind flags name (Performed native) is = let two = both _ _ is in (has_it flags acc_native two.0, has_not flags acc_abstract two.1)
+    (equal _ _ first.0, unequal _ _ second.0, unequal _ _ third.0, other_text _ _ third.1)
+kind flags name (Performed native) is = let two = both _ _ is in (equal _ _ two.0, unequal _ _ two.1)
 kind flags name (Runs body) is =
     let first = both _ _ is in
     let second = both _ _ first.1 in
-    (has_not flags acc_abstract first.0, has_not flags acc_native second.0, sound_body body second.1)
+    (unequal _ _ first.0, unequal _ _ second.0, sound_body body second.1)
 
 -- a method
 abbrev is_sound_method : Method → Bool
@@ -60,7 +54,7 @@ method_is method is =
     let fifth = both _ _ fourth.1 in
     record {
       flags = below _ _ first.0;
-      unsynchronized = has_not method.flags acc_synchronized second.0;
+      unsynchronized = unequal _ _ second.0;
       name = sound_method_name method.name third.0;
       no_finalizer = other_text _ _ fourth.0;
       descriptor = sound_method_descriptor method.descriptor fifth.0;
@@ -129,7 +123,7 @@ interface : (row : CoreClass) → is_sound_interface row ≡ true → IsSoundInt
 interface row is =
     let first = both _ _ is in
     let second = both _ _ first.1 in
-    record { abstract_class = has_it row.flags acc_abstract first.0; superclass = object_is row.superclass second.0; fields = empty row.fields second.1 }
+    record { abstract_class = equal _ _ first.0; superclass = object_is row.superclass second.0; fields = empty row.fields second.1 }
 
 as_interface : (row : CoreClass) → (not (has row.flags acc_interface) || is_sound_interface row) ≡ true → HasFlag row.flags acc_interface → IsSoundInterface row
 as_interface row is flag = interface row (then (has row.flags acc_interface) (is_sound_interface row) is (grind (arith, nat_tests, flag)))

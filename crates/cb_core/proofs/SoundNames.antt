@@ -1,6 +1,6 @@
 -- Tests of the names of rows.
-use Rattle.std.proofs.Common.{◌≡◌, refl, sym, arith, ℕ, ◌^◌, ◌<◌, ◌≢◌, ◌⊎◌, inl, inr, Bool, true, not, ◌&&◌, ◌||◌, List, length, codes, is_none, nat_eq, nat_lt}
-use Rattle.std.specs.List.{AllByRecursion, list_all, slice_split, count_by}
+use Rattle.std.proofs.Common.{◌≡◌, sym, arith, ℕ, ◌^◌, ◌<◌, ◌≢◌, ◌⊎◌, inl, inr, Bool, true, not, ◌&&◌, ◌||◌, List, length, codes, is_none, nat_eq, nat_lt}
+use Rattle.std.specs.List.{list_all, slice_split}
 use Rattle.std.specs.Str.{bytes_eq}
 use Rattle.std.proofs.lemmas.List.Splits.{join_with_byte-slice_split, length-slice_split}
 use Rattle.cb_names.specs.Names.{MayStandInName, IsUnqualifiedName, IsClassName, IsMethodName}

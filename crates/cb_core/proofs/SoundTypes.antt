@@ -1,13 +1,13 @@
 -- Tests of the descriptors of rows. A reader that nothing is known of gives the types of a descriptor, and a test whether
 -- they spell it.
-use Rattle.std.proofs.Common.{◌≡◌, refl, ℕ, ◌+◌, ◌<◌, Bool, true, false, arith, ◌&&◌, List, [], ◌∷◌, ◌++◌, drop, map, fold, Option, Some, None, IfSome, is_none, if◌then◌else◌, nat_eq, nat_le}
-use Rattle.std.specs.List.{AllByRecursion, list_all, concat, before_first, after_first}
+use Rattle.std.proofs.Common.{◌≡◌, refl, ℕ, ◌+◌, Bool, true, false, arith, ◌&&◌, List, [], ◌∷◌, ◌++◌, drop, map, fold, Option, Some, None, IfSome, is_none, if◌then◌else◌, nat_eq, nat_le}
+use Rattle.std.specs.List.{list_all, concat, before_first, after_first}
 use Rattle.std.specs.Str.{bytes_eq}
 use Rattle.cb_names.specs.declared.base.BaseType.{BaseType}
 use Rattle.cb_names.specs.declared.base.BaseType.TheVariants as base
-use Rattle.cb_names.specs.Descriptors.{IsFieldDescriptor, IsMethodDescriptor}
+use Rattle.cb_names.specs.Descriptors.{IsFieldDescriptor}
 use Rattle.cb_names.specs.Signs.{semicolon, bracket, left_parenthesis, right_parenthesis, letter_byte, letter_char, letter_double, letter_float, letter_int, letter_long, letter_class, letter_short, letter_boolean}
-use Rattle.cb_names.specs.Types.{Element, Primitive, Named, JavaType, JavaMethodType, IsElement, IsType, SpellsType, SpellsMethodType, parameters_words, result_text, type_text}
+use Rattle.cb_names.specs.Types.{Element, Primitive, Named, JavaType, JavaMethodType, IsElement, IsType, SpellsType, parameters_words, result_text, type_text}
 use Rattle.cb_classfile.specs.Profile.{descriptor_item}
 use Rattle.cb_core.specs.Sound.{IsShort, IsSoundFieldDescriptor, IsSoundMethodDescriptor}
 use Rattle.cb_core.proofs.SoundTests.{both, each, none, one_text, within}
