@@ -1,0 +1,4 @@
+pub mod LawLists
+pub mod LawPool
+pub mod LawInsns
+pub mod LawCode
