@@ -33,12 +33,18 @@ zip_both R S T each [] (other ∷ others) zipped more = absurd zipped
 zip_both R S T each (one ∷ ones) [] zipped more = absurd zipped
 zip_both R S T each (one ∷ ones) (other ∷ others) zipped more = (each one other zipped.0 more.0, zip_both R S T each ones others zipped.1 more.1)
 
--- what two functions give of the items, place by place
-pub zip_same : {X Y Z : Type 0} (R : X → Y → Type 0) (f : X → Z) (g : Y → Z) → ((one : X) (other : Y) → R one other → f one ≡ g other) → (ones : List X) (others : List Y) → AllZip R ones others → map f ones ≡ map g others
-zip_same R f g each [] [] zipped = refl
-zip_same R f g each [] (other ∷ others) zipped = absurd zipped
-zip_same R f g each (one ∷ ones) [] zipped = absurd zipped
-zip_same R f g each (one ∷ ones) (other ∷ others) zipped = ap₂ (λ item items. item ∷ items) (each one other zipped.0) (zip_same R f g each ones others zipped.1)
+-- nothing stands beside nothing
+pub zip_none : {X Y : Type 0} (R : X → Y → Type 0) (ones : List X) (others : List Y) → ones ≡ [] → AllZip R ones others → others ≡ []
+zip_none R [] [] none zipped = refl
+zip_none R [] (other ∷ others) none zipped = absurd zipped
+zip_none R (one ∷ ones) others none zipped = absurd cc
+
+-- what functions give of the items, place by place
+pub zip_same : {X Y A B Z : Type 0} (R : X → Y → Type 0) (f : X → A) (then_f : A → Z) (g : Y → B) (then_g : B → Z) → ((one : X) (other : Y) → R one other → then_f (f one) ≡ then_g (g other)) → (ones : List X) (others : List Y) → AllZip R ones others → map then_f (map f ones) ≡ map then_g (map g others)
+zip_same R f then_f g then_g each [] [] zipped = refl
+zip_same R f then_f g then_g each [] (other ∷ others) zipped = absurd zipped
+zip_same R f then_f g then_g each (one ∷ ones) [] zipped = absurd zipped
+zip_same R f then_f g then_g each (one ∷ ones) (other ∷ others) zipped = ap₂ (λ item items. item ∷ items) (each one other zipped.0) (zip_same R f then_f g then_g each ones others zipped.1)
 
 -- items that differ are told apart by what tells them back
 pub differ_map : {X Y : Type 0} (f : X → Y) → ((one other : X) → f one ≡ f other → one ≡ other) → (items : List X) → AllPairs (λ one other. one ≢ other) items → AllPairs (λ one other. one ≢ other) (map f items)

@@ -6,3 +6,5 @@ pub mod LawCode
 pub mod LawFrames
 pub mod LawBodies
 pub mod LawMembers
+pub mod LawClasses
+pub mod LawRecords
