@@ -1,9 +1,8 @@
 -- The bodies of a record's methods.
-use Rattle.std.proofs.Common.{◌≡◌, ℕ, ◌+◌, ◌*◌, ◌^◌, ◌<◌, ◌≤◌, List, [], ◌∷◌, ◌++◌, length, map, slice_get, Contains, Option, Some, None, refl, sym, ap, ◌∙◌, subst, arith, codes}
-use Rattle.std.specs.List.{AllByRecursion, AllZip}
+use Rattle.std.proofs.Common.{◌≡◌, ℕ, ◌^◌, ◌<◌, List, length, map, slice_get, Contains, Some, None, sym, ap, subst, arith}
+use Rattle.std.specs.List.{AllByRecursion}
 use Rattle.cb_text.specs.declared.constant.Constant.{Constant}
 use Rattle.cb_text.specs.Pool.{IsPool}
-use Rattle.cb_insn.specs.declared.insn.Insn.{Insn}
 use Rattle.cb_insn.specs.Grammar.{targets_of}
 use Rattle.cb_insn.specs.Places.{places}
 use Rattle.cb_insn.specs.Writing.{code_bytes}
@@ -12,8 +11,7 @@ use Rattle.cb_classfile.specs.declared.body.Body.{Body}
 use Rattle.cb_classfile.specs.Code.{IsPlaced}
 use Rattle.cb_classfile.specs.Library.{SaysBody, SaysInsn}
 use Rattle.cb_classfile.specs.Needed.{HasConstant}
-use Rattle.cb_classfile.specs.Pool.{text_at}
-use Rattle.cb_classfile.specs.Profile.{body_items, first_of, frame_item, insn_item}
+use Rattle.cb_classfile.specs.Profile.{body_items, frame_item, insn_item}
 use Rattle.cb_classfile.proofs.Laws.{HasName, IsBodyOf, IsHandler, all_each, code_name, stack_map_table}
 use Rattle.cb_core.specs.Built.{places_from}
 use Rattle.cb_core.specs.Sound.{IsSoundBody, IsSoundInsn}

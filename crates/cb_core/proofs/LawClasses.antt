@@ -1,13 +1,13 @@
 -- What is asked of a record beyond its tables.
-use Rattle.std.proofs.Common.{◌≡◌, ◌≢◌, ◌⊎◌, inl, inr, ◌↔◌, ℕ, ◌+◌, ◌*◌, ◌^◌, ◌<◌, ◌≤◌, List, [], ◌∷◌, length, map, AllPairs, IfSome, Option, Some, None, refl, sym, ap, ap₂, ◌∙◌, subst, arith}
-use Rattle.std.specs.List.{AllByRecursion, AllZip}
+use Rattle.std.proofs.Common.{◌≡◌, ◌≢◌, ◌⊎◌, inl, inr, ℕ, ◌^◌, ◌<◌, List, map, AllPairs, IfSome, Option, Some, None, refl, sym, ap, ap₂, ◌∙◌, subst, arith}
+use Rattle.std.specs.List.{AllByRecursion}
 use Rattle.std.proofs.lemmas.Option.{same_Some}
 use Rattle.cb_text.specs.declared.constant.Constant.{Constant}
 use Rattle.cb_text.specs.Pool.{IsPool}
 use Rattle.cb_names.specs.Names.{IsClassName}
 use Rattle.cb_library.specs.Rows.{CoreClass}
 use Rattle.cb_classfile.specs.declared.class.ClassFile.{ClassFile}
-use Rattle.cb_classfile.specs.Class.{Differ, HasClasses, IsClass, IsInterface, KeepsRulesAlone, object, signature}
+use Rattle.cb_classfile.specs.Class.{Differ, HasClasses, IsClass, IsInterface, object, signature}
 use Rattle.cb_classfile.specs.Flags.{HasFlag, acc_abstract, acc_interface, acc_static}
 use Rattle.cb_classfile.specs.Library.{IsRecordOf, SaysField, SaysMethod, SaysSuperclass}
 use Rattle.cb_classfile.specs.Pool.{HasClass, class_at}

@@ -1,11 +1,11 @@
 -- The code of a record's body.
-use Rattle.std.proofs.Common.{◌≡◌, ℕ, zero, suc, ◌+◌, ◌*◌, ◌^◌, ◌<◌, ◌≤◌, List, [], ◌∷◌, ◌++◌, length, slice_get, Some, Contains, refl, sym, ap, ◌∙◌, subst, arith, length-append}
+use Rattle.std.proofs.Common.{◌≡◌, ℕ, zero, suc, ◌+◌, ◌*◌, ◌^◌, ◌<◌, ◌≤◌, List, [], ◌∷◌, ◌++◌, length, slice_get, Some, refl, sym, ap, subst, arith, length-append}
 use Rattle.std.specs.List.{AllByRecursion, AllZip}
 use Rattle.std.proofs.lemmas.Option.{same_Some}
 use Rattle.cb_text.specs.declared.constant.Constant.{Constant}
 use Rattle.cb_text.specs.Pool.{IsPool}
 use Rattle.cb_insn.specs.declared.insn.Insn.{Insn}
-use Rattle.cb_insn.specs.Grammar.{SpellsFrom, targets_of}
+use Rattle.cb_insn.specs.Grammar.{SpellsFrom}
 use Rattle.cb_insn.specs.Places.{places}
 use Rattle.cb_insn.specs.Writing.{code_bytes, insn_bytes}
 use Rattle.cb_library.specs.Rows.{Instruction, Plain}

@@ -1,7 +1,6 @@
 -- The frames of a record's body.
-use Rattle.std.proofs.Common.{◌≡◌, ◌≢◌, ℕ, zero, suc, ◌+◌, ◌*◌, ◌^◌, ◌<◌, ◌≤◌, List, [], ◌∷◌, ◌++◌, length, map, flat_map, slice_get, Option, Some, None, IsSome, refl, sym, ap, ◌∙◌, subst, arith, length-append}
-use Rattle.std.specs.List.{AllByRecursion, AllZip}
-use Rattle.std.proofs.lemmas.List.Elements.{length_all_zip}
+use Rattle.std.proofs.Common.{◌≡◌, ℕ, ◌+◌, ◌*◌, ◌^◌, ◌<◌, ◌≤◌, List, [], ◌∷◌, ◌++◌, length, map, flat_map, slice_get, Some, None, IsSome, refl, sym, ap, subst, arith, length-append}
+use Rattle.std.specs.List.{AllByRecursion}
 use Rattle.std.proofs.lemmas.Slice.Zip.{AllZip-long}
 use Rattle.cb_text.specs.declared.constant.Constant.{Constant}
 use Rattle.cb_text.specs.Pool.{IsPool}
@@ -11,8 +10,7 @@ use Rattle.cb_classfile.specs.declared.map_type.MapType.{MapType}
 use Rattle.cb_classfile.specs.declared.map_type.MapType.TheVariants as types
 use Rattle.cb_classfile.specs.FrameMap.{SpellsFormed, SpellsFrame, SpellsType, delta_bytes, form_of_frame, frame_bytes, locals_bytes, stack_bytes, type_bytes}
 use Rattle.cb_classfile.specs.Library.{IsObjectOf, SaysFrame, SaysFrames, full_frame}
-use Rattle.cb_classfile.specs.Pool.{class_at}
-use Rattle.cb_classfile.specs.Profile.{first_of, frame_item, type_item}
+use Rattle.cb_classfile.specs.Profile.{frame_item, type_item}
 use Rattle.cb_classfile.specs.Tables.{table_bytes, u2}
 use Rattle.cb_classfile.proofs.Laws.{HasSpelling, IsTable, frames_size, table_has}
 use Rattle.cb_core.specs.Sound.{IsSoundClassName, IsSoundFrame}

@@ -1,5 +1,5 @@
 -- The fields and methods of a record.
-use Rattle.std.proofs.Common.{◌≡◌, ◌≢◌, ◌⊎◌, inl, inr, ◌↔◌, ℕ, ◌+◌, ◌^◌, ◌<◌, ◌≤◌, Bool, true, false, not, List, [], ◌∷◌, bit_and, ◌==◌, ◌&&◌, IsSome, IsSomeAnd, IfSome, Option, Some, None, option_and_then, refl, sym, ap, ◌∙◌, subst, arith, codes}
+use Rattle.std.proofs.Common.{◌≡◌, ◌≢◌, inr, ◌↔◌, ℕ, Bool, true, false, not, List, ◌∷◌, bit_and, ◌==◌, ◌&&◌, IsSome, IsSomeAnd, IfSome, Option, Some, None, option_and_then, refl, sym, ap, ◌∙◌, subst, arith, codes}
 use Rattle.std.specs.List.{AllByRecursion}
 use Rattle.std.proofs.lemmas.Option.{same_Some}
 use Rattle.cb_text.specs.declared.constant.Constant.{Constant}
@@ -9,16 +9,15 @@ use Rattle.cb_names.specs.Descriptors.{IsFieldDescriptor}
 use Rattle.cb_library.specs.Rows as rows
 use Rattle.cb_library.specs.Rows.{Abstract, Performed, Runs}
 use Rattle.cb_classfile.specs.declared.body.Body.{Body}
-use Rattle.cb_classfile.specs.declared.feature.Feature.{Feature}
 use Rattle.cb_classfile.specs.declared.feature.Feature.TheVariants as features
 use Rattle.cb_classfile.specs.declared.field.Field.{Field}
 use Rattle.cb_classfile.specs.declared.method.Method.{Method}
 use Rattle.cb_classfile.specs.Attributes.{is_text}
 use Rattle.cb_classfile.specs.Flags.{HasFlag, acc_abstract, acc_native, acc_static, acc_synchronized}
-use Rattle.cb_classfile.specs.Library.{SaysBody, SaysField, SaysKind, SaysMethod, is_native}
-use Rattle.cb_classfile.specs.Members.{HasFewWords, IsInitialiser, IsMethod, MayBeAbstract}
+use Rattle.cb_classfile.specs.Library.{SaysField, SaysKind, SaysMethod, is_native}
+use Rattle.cb_classfile.specs.Members.{HasFewWords}
 use Rattle.cb_classfile.specs.Pool.{IsAnyMethodDescriptor, text_at}
-use Rattle.cb_classfile.specs.Profile.{body_items, descriptor_item, descriptor_item_at, first_of, item_if, method_item}
+use Rattle.cb_classfile.specs.Profile.{body_items, descriptor_item, descriptor_item_at, item_if, method_item}
 use Rattle.cb_classfile.proofs.Laws.{IsBodyOf, IsConstant, IsField, IsMethodOf}
 use Rattle.cb_core.specs.Built.{IsLaidOut}
 use Rattle.cb_core.specs.Sound.{IsSoundField, IsSoundKind, IsSoundMethod}
@@ -97,6 +96,20 @@ no_native : (native : Bool) → not native ≡ true → item_if native features.
 no_native true is = absurd cc
 no_native false is = refl
 
+-- a method that is no native isn't left out
+kept : (pool : List Constant) (row : rows.Method) (method : Method) → IsSoundMethod row → SaysMethod pool row method → IfSome method.body (IsFineBody pool) → not (is_native method) ≡ true → method_item pool method ≡ None
+kept pool row method sound says fine other =
+    let gives_nothing = is_text (codes "()V") (text_at pool method.descriptor) in
+    let synchronized_item = item_if (bit_and method.flags.0 acc_synchronized == acc_synchronized) features.Synchronized in
+    let native_item = item_if (is_native method) features.Native in
+    let finalize_item = item_if (is_text (codes "finalize") (text_at pool method.name) && gives_nothing) features.Finalize in
+    let synchronized : synchronized_item ≡ None = differ_none (bit_and method.flags.0 acc_synchronized) acc_synchronized features.Synchronized (λ is. sound.unsynchronized (subst (λ flags. HasFlag flags acc_synchronized) says.flags is)) in
+    let native : native_item ≡ None = no_native (is_native method) other in
+    let finalize : finalize_item ≡ None = other_name (codes "finalize") row.name (text_at pool method.name) gives_nothing features.Finalize sound.no_finalizer says.name in
+    let descriptor : descriptor_item_at pool method.descriptor ≡ None = item_at pool method.descriptor row.descriptor says.descriptor sound.descriptor.supported in
+    let items : AllByRecursion (λ item. item ≡ None) (synchronized_item ∷ native_item ∷ finalize_item ∷ descriptor_item_at pool method.descriptor ∷ body_items method.body) = (synchronized, (native, (finalize, (descriptor, items_of pool method.body fine)))) in
+    none_first (synchronized_item ∷ native_item ∷ finalize_item ∷ descriptor_item_at pool method.descriptor ∷ body_items method.body) items
+
 pub method_fine : (pool : List Constant) → HasNames pool → (row : rows.Method) (method : Method) → IsSoundMethod row → SaysMethod pool row method → IsLaidOut row.kind method.body → IsFineMethod pool method
 method_fine pool names row method sound says laid =
     let kind = subst (λ flags. FitsKind pool flags row.name method.body) (sym says.flags) (kind_fits pool row.flags row.name row.kind method.body names sound.kind says.kind laid) in
@@ -115,17 +128,5 @@ method_fine pool names row method sound says laid =
         };
         body = body_of pool method.body kind.fine;
       };
-      item = λ kept. none_first (
-      item_if (bit_and method.flags.0 acc_synchronized == acc_synchronized) features.Synchronized
-      ∷ item_if (is_native method) features.Native
-      ∷ item_if (is_text (codes "finalize") (text_at pool method.name) && is_text (codes "()V") (text_at pool method.descriptor)) features.Finalize
-      ∷ descriptor_item_at pool method.descriptor
-      ∷ body_items method.body
-      ) (
-        differ_none (bit_and method.flags.0 acc_synchronized) acc_synchronized features.Synchronized (λ is. sound.unsynchronized (subst (λ flags. HasFlag flags acc_synchronized) says.flags is)),
-        (no_native (is_native method) kept,
-        (other_name (codes "finalize") row.name (text_at pool method.name) (is_text (codes "()V") (text_at pool method.descriptor)) features.Finalize sound.no_finalizer says.name,
-        (item_at pool method.descriptor row.descriptor says.descriptor sound.descriptor.supported,
-        items_of pool method.body kind.fine)))
-      );
+      item = kept pool row method sound says kind.fine;
     }

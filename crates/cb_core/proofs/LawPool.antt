@@ -1,8 +1,8 @@
 -- What an index that names something says of its pool.
-use Rattle.std.proofs.Common.{◌≡◌, ◌⊎◌, ℕ, zero, suc, ◌+◌, ◌^◌, ◌<◌, Bool, true, false, List, [], ◌∷◌, length, Option, Some, None, IsSome, IsSomeAnd, option_map, option_and_then, refl, sym, ap, ◌∙◌, subst, arith}
+use Rattle.std.proofs.Common.{◌≡◌, ℕ, zero, suc, ◌+◌, ◌^◌, ◌<◌, true, List, length, Option, Some, None, IsSomeAnd, option_map, option_and_then, refl, ap, ◌∙◌, arith}
 use Rattle.std.proofs.lemmas.Option.{slice_get_within, option_and_then_some, same_Some}
 use Rattle.cb_text.specs.declared.constant.Constant.{Constant}
-use Rattle.cb_text.specs.declared.constant.Constant.TheVariants.{Utf8, Integer, Float, Long, Double, Class, String, Fieldref, Methodref, InterfaceMethodref, NameAndType, MethodHandle, MethodType, InvokeDynamic, Gap}
+use Rattle.cb_text.specs.declared.constant.Constant.TheVariants.{Class, String, Fieldref, Methodref, InterfaceMethodref}
 use Rattle.cb_text.specs.declared.naming.MemberKind.{MemberKind}
 use Rattle.cb_text.specs.declared.naming.MemberKind.TheVariants as members
 use Rattle.cb_text.specs.Pool.{IsPool, constant_at}

@@ -1,5 +1,5 @@
 -- The record of a sound row is readable.
-use Rattle.std.proofs.Common.{◌≡◌, ℕ, ◌+◌, ◌*◌, ◌^◌, ◌<◌, ◌≤◌, List, [], ◌∷◌, ◌++◌, length, map, filter, not, true, sum, Option, Some, None, refl, sym, ap, ◌∙◌, subst, arith}
+use Rattle.std.proofs.Common.{◌≡◌, ◌≤◌, List, [], ◌∷◌, ◌++◌, length, map, filter, not, true, Some, None, arith}
 use Rattle.std.specs.List.{AllByRecursion, AllZip}
 use Rattle.std.proofs.lemmas.List.Sums.{sum_by-cons}
 use Rattle.std.proofs.lemmas.Slice.Zip.{AllZip-long}
@@ -14,13 +14,13 @@ use Rattle.cb_classfile.specs.Pool.{IsNamed, class_at}
 use Rattle.cb_classfile.specs.Profile.{constant_item, descriptor_item_at, method_item, unsupported}
 use Rattle.cb_classfile.proofs.Laws.{HasParts, IsField, IsInterface, IsMethodOf, all_each, class_has}
 use Rattle.cb_core.specs.Built.{IsBuilt, IsFine, IsLaidOut}
-use Rattle.cb_core.specs.Sound.{IsSound, IsSoundClassName, IsSoundField, IsSoundMethod, class_room, method_room, methods_room}
+use Rattle.cb_core.specs.Sound.{IsSound, IsSoundClassName, IsSoundField, IsSoundMethod, method_room, methods_room}
 use Rattle.cb_core.proofs.LawBodies.{HasNames}
 use Rattle.cb_core.proofs.LawClasses.{class_rules, superclass_fits}
 use Rattle.cb_core.proofs.LawItems.{none_first}
 use Rattle.cb_core.proofs.LawLists.{all_append, all_filter, all_map, zip_both, zip_each}
 use Rattle.cb_core.proofs.LawMembers.{IsFineField, IsFineMethod, field_fine, has_some, method_fine}
-use Rattle.cb_core.proofs.LawPool.{class_fits, text_fits}
+use Rattle.cb_core.proofs.LawPool.{class_fits}
 
 -- each method takes room
 methods_room_some : (methods : List rows.Method) → length methods ≤ methods_room methods
