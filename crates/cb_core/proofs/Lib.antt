@@ -5,3 +5,13 @@ pub mod SoundTypes
 pub mod SoundBodies
 pub mod SoundClasses
 pub mod SoundRows
+pub mod LawLists
+pub mod LawItems
+pub mod LawPool
+pub mod LawInsns
+pub mod LawCode
+pub mod LawFrames
+pub mod LawBodies
+pub mod LawMembers
+pub mod LawClasses
+pub mod LawRecords
