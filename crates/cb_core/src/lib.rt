@@ -6,6 +6,7 @@
 #![tactic(auto)]
 
 mod classes;
+mod constants;
 mod record;
 mod row;
 
