@@ -83,7 +83,7 @@ name_and_type_kept {before} {after} index texts keeps is =
     let named = and_then_some (texts_at before) (option_and_then name_and_type_of (constant_at before index)) texts is in
     ap (option_and_then (texts_at after)) (kept_by name_and_type_of index named.0 keeps named.1) ∙ texts_kept named.0 texts keeps named.2
 
-made : MemberKind → List ℕ → List ℕ × List ℕ → MemberNames
+unfoldable pub made : MemberKind → List ℕ → List ℕ × List ℕ → MemberNames
 made kind class names = record { kind = kind; class = class; name = names.0; descriptor = names.1 }
 
 pub from_kept : {before after : List Constant} (named : MemberKind × ℕ × ℕ) (member : MemberNames) → Keeps before after → member_from before named ≡ Some member → member_from after named ≡ Some member

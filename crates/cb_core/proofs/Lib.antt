@@ -1,2 +1,3 @@
 pub mod Growing
 pub mod Entering
+pub mod Named
