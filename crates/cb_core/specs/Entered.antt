@@ -1,5 +1,6 @@
 -- What the builder's functions say of what they enter into a pool.
 use Rattle.std.specs.Prelude.{◌≡◌, ◌≢◌, ◌⊎◌, ℕ, ◌+◌, ◌≤◌, List, [], ◌∷◌, length, Option, Some, None, codes}
+use Rattle.std.specs.List.{AllZip}
 use Rattle.cb_text.specs.declared.constant.Constant.{Constant}
 use Rattle.cb_text.specs.declared.constant.Constant.TheVariants.{NameAndType}
 use Rattle.cb_text.specs.declared.naming.MemberKind.TheVariants as kinds
@@ -7,11 +8,17 @@ use Rattle.cb_text.specs.Naming.{text_at, class_at, string_at}
 use Rattle.cb_text.specs.Pool.{AreLaidOut, Fits, HasIndices, constant_at, with_gap}
 use Rattle.cb_names.specs.Names.{IsMethodName, IsUnqualifiedName}
 use Rattle.cb_names.specs.Descriptors.{IsFieldDescriptor}
-use Rattle.cb_classfile.specs.Library.{NamesMember}
+use Rattle.cb_insn.specs.declared.insn.Insn.{Insn}
+use Rattle.cb_insn.specs.Places.{places}
+use Rattle.cb_library.specs.Rows as rows
+use Rattle.cb_library.specs.Rows.{Instruction, Kind, Runs}
+use Rattle.cb_classfile.specs.declared.body.Body.{Body}
+use Rattle.cb_classfile.specs.declared.method.Method.{Method}
+use Rattle.cb_classfile.specs.Library.{NamesMember, SaysBody, SaysInsn, SaysKind, SaysMethod}
 use Rattle.cb_classfile.specs.Pool.{GivesNothing, IsAnyMethodDescriptor}
 use Rattle.cb_classfile.specs.Profile.{descriptor_item}
-use Rattle.cb_core.specs.Built.{Grows, IsFine}
-use Rattle.cb_core.specs.Sound.{IsShort, IsSoundMethodDescriptor, IsSoundMethodName}
+use Rattle.cb_core.specs.Built.{AreFine, Grows, IsFine, IsLaidOut, places_from}
+use Rattle.cb_core.specs.Sound.{IsShort, IsSoundBody, IsSoundMethodDescriptor, IsSoundMethodName}
 
 -- the pool has room for so many more constants
 abbrev pub HasRoom : ℕ → List Constant → Type 0
@@ -71,3 +78,33 @@ pub record IsCallable (name descriptor : List ℕ) : Type 0 where
   pub named : IsSoundMethodName name
   pub described : IsSoundMethodDescriptor descriptor
   pub constructor : name ≡ codes "<init>" → GivesNothing descriptor
+
+-- code that says what rows of instructions say, each at its place
+pub record HasCode (rows : List Instruction) (pool : List Constant) (code : List (ℕ × Insn)) : Type 0 where
+  pub placed : places code ≡ places_from 0 rows
+  pub says : AllZip (λ row placed. SaysInsn pool (places_from 0 rows) row placed.1) rows code
+
+-- a body that says what its row says, with its instructions one behind the other, and what is said of a kind
+pub record HasBody (row : rows.Body) (pool : List Constant) (body : Body) : Type 0 where
+  pub says : SaysBody pool row body
+  pub placed : places body.code ≡ places_from 0 row.code
+
+pub record HasKind (row : Kind) (pool : List Constant) (body : Option Body) : Type 0 where
+  pub says : SaysKind pool row body
+  pub placed : IsLaidOut row body
+
+pub record HasMethod (row : rows.Method) (pool : List Constant) (method : Method) : Type 0 where
+  pub says : SaysMethod pool row method
+  pub placed : IsLaidOut row.kind method.body
+
+-- a pool that has the names of the attributes alone
+pub record IsNewPool (pool : List Constant) : Type 0 where
+  pub few : length pool ≤ 2
+  pub fine : AreFine pool
+  pub code : text_at pool 1 ≡ Some (codes "Code")
+  pub stack_map_table : text_at pool 2 ≡ Some (codes "StackMapTable")
+
+-- the body of a kind is sound, where it has one
+abbrev pub IsRunnable : Kind → Type 0
+IsRunnable (Runs body) = IsSoundBody body
+IsRunnable other = Unit {0}

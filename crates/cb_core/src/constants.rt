@@ -1,5 +1,5 @@
 // Entering the constants of a record.
-ghost use Rattle.std.specs.Prelude.{◌≡◌, IfOk, Some};
+ghost use Rattle.std.specs.Prelude.{◌≡◌, ◌+◌, IfOk, Some, length};
 ghost use Rattle.cb_core.specs.Entered.{HasRoom, IsCallable, IsClassOf, IsFieldOf, IsMethodOf, IsNameAndType, IsStringOf, IsTextOf, MayEnter, MayName, Puts, Stands};
 ghost use Rattle.cb_core.specs.Sound.{IsShort, IsSoundClassName, IsSoundFieldDescriptor, IsSoundFieldName, IsSoundMethodDescriptor, IsSoundMethodName};
 
@@ -10,7 +10,8 @@ use std::alloc::Global;
 /// Adds a constant, and gives its index.
 fn enter(pool: &mut Pool, constant: Constant) -> Result<u16, OutOfMemory>
     requires { MayEnter pool.old constant }
-    ensures { IfOk result (Puts 1 (Stands constant) pool.old pool.new) }
+    ensures put { IfOk result (Puts 1 (Stands constant) pool.old pool.new) }
+    ensures next { IfOk result (λ index. index ≡ length pool.old + 1) }
 {
     let _ = pool.constants();
     pool.push(constant)
@@ -32,7 +33,8 @@ fn units_of(alloc: Global, text: &str) -> Result<Units, OutOfMemory>
 pub(crate) fn enter_text(alloc: Global, pool: &mut Pool, text: &str) -> Result<u16, OutOfMemory>
     requires room { HasRoom 1 pool.old }
     requires short { IsShort text.now }
-    ensures { IfOk result (Puts 1 (IsTextOf text.now) pool.old pool.new) }
+    ensures put { IfOk result (Puts 1 (IsTextOf text.now) pool.old pool.new) }
+    ensures next { IfOk result (λ index. index ≡ length pool.old + 1) }
 {
     let units = units_of(alloc, text)?;
     enter(pool, Constant::Utf8(units))

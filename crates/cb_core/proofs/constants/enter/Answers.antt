@@ -4,5 +4,5 @@ use Rattle.cb_core.proofs.constants.enter.Goals as goal
 pub push-requires : goal.push-requires
 push-requires c = is_pool c.args.pool.now c.args.constant c.constants.ensures.pool c.requires
 
-pub returns : goal.returns
-returns c = entered _ _ _ _ c.requires c.push.ensures.ok
+pub returns-clause-put : goal.returns-clause-put
+returns-clause-put c = entered _ _ _ _ c.requires c.push.ensures.ok

@@ -12,4 +12,4 @@ pub enter-requires : goal.enter-requires
 enter-requires c = may_field _ _ _ _ _ _ _ _ c.requires.room c.requires.name c.requires.descriptor c.in_ok-holder.ensures c.in_ok-member.ensures
 
 pub returns : goal.returns
-returns c = ok_then _ _ _ c.enter.ensures (λ index put. field_put _ _ _ _ _ _ _ _ _ index c.in_ok-holder.ensures c.in_ok-member.ensures put)
+returns c = ok_then _ _ _ c.enter.ensures.put (λ index put. field_put _ _ _ _ _ _ _ _ _ index c.in_ok-holder.ensures c.in_ok-member.ensures put)

@@ -12,4 +12,4 @@ pub enter-requires : goal.enter-requires
 enter-requires c = may_method _ _ _ _ _ _ _ _ c.requires.room c.requires.names c.in_ok-holder.ensures c.in_ok-member.ensures
 
 pub returns : goal.returns
-returns c = ok_then _ _ _ c.enter.ensures (λ index put. method_put _ _ _ _ _ _ _ _ _ index c.in_ok-holder.ensures c.in_ok-member.ensures put)
+returns c = ok_then _ _ _ c.enter.ensures.put (λ index put. method_put _ _ _ _ _ _ _ _ _ index c.in_ok-holder.ensures c.in_ok-member.ensures put)

@@ -6,7 +6,7 @@ pub enter_text-requires : goal.enter_text-requires
 enter_text-requires c = record { room = omega (arith, c.requires.room); short = c.requires.short }
 
 pub enter-requires : goal.enter-requires
-enter-requires c = may_string _ _ _ _ c.requires.room c.in_ok-text.ensures
+enter-requires c = may_string _ _ _ _ c.requires.room c.in_ok-text.ensures.put
 
 pub returns : goal.returns
-returns c = ok_then _ _ _ c.enter.ensures (λ index put. string_put _ _ _ _ _ index c.in_ok-text.ensures put)
+returns c = ok_then _ _ _ c.enter.ensures.put (λ index put. string_put _ _ _ _ _ index c.in_ok-text.ensures.put put)
