@@ -14,5 +14,7 @@ mod insn;
 mod members;
 mod record;
 mod row;
+#[cfg(test)]
+mod tests;
 
 pub use classes::core_classes;
