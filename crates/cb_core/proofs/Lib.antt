@@ -19,3 +19,5 @@ pub mod LawMembers
 pub mod LawClasses
 pub mod LawRecords
 pub mod Building
+pub mod Kept
+pub mod Placed
