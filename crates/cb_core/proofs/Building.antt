@@ -137,8 +137,9 @@ pub each_turn : {Row Named Thing : Type 0} (row_of : Row → Named) (each : ℕ)
 each_turn row_of each Says rows i before after things below has so_far =
     room_turn row_of (λ row. each) Says rows i (some_item rows i below) before after things below (has_each row_of each rows before has) so_far
 
-pub gathers_turn : {Row Named Thing : Type 0} (row_of : Row → Named) (room : Named → ℕ) (Says : List Constant → Named → Thing → Type 0) (rows : List Row) (i : ℕ) (d : Row) (before middle after : List Constant) (things : List Thing) (thing : Thing)
-    → Stays Says → i < length rows → Gathers row_of room Says (take i rows) before middle things → Puts (room (row_of (get_or rows i d))) (λ pool thing. Says pool (row_of (get_or rows i d)) thing) middle after thing
-    → Gathers row_of room Says (take (i + 1) rows) before after (things ++ thing ∷ [])
-gathers_turn row_of room Says rows i d before middle after things thing stays below so_far here =
-    gathers_more row_of room Says rows i (get_or rows i d) before middle after things thing stays below (item_there rows i d below) so_far here
+pub gathers_turn : {Row Named Thing : Type 0} (row_of : Row → Named) (room : Named → ℕ) (Says : List Constant → Named → Thing → Type 0) (rows : List Row) (i : ℕ) (d : Row) (before middle after : List Constant) (things more : List Thing) (thing : Thing)
+    → Stays Says → i < length rows → more ≡ things ++ thing ∷ [] → Gathers row_of room Says (take i rows) before middle things → Puts (room (row_of (get_or rows i d))) (λ pool thing. Says pool (row_of (get_or rows i d)) thing) middle after thing
+    → Gathers row_of room Says (take (i + 1) rows) before after more
+gathers_turn row_of room Says rows i d before middle after things more thing stays below pushed so_far here =
+    subst (Gathers row_of room Says (take (i + 1) rows) before after) (sym pushed)
+    (gathers_more row_of room Says rows i (get_or rows i d) before middle after things thing stays below (item_there rows i d below) so_far here)

@@ -21,3 +21,4 @@ pub mod LawRecords
 pub mod Building
 pub mod Kept
 pub mod Placed
+pub mod Coded

@@ -13,7 +13,7 @@ use Rattle.cb_core.specs.Rowed.{insn_row}
 use Rattle.cb_core.proofs.Building.{take_past}
 
 -- the place behind instructions
-behind : ℕ → List Instruction → ℕ
+unfoldable pub behind : ℕ → List Instruction → ℕ
 behind pc [] = pc
 behind pc (insn ∷ code) = behind (pc + size_of insn) code
 
@@ -64,7 +64,7 @@ placed_more rows i d found place size below is so_far =
 pub placed_all : (rows : List Row) (i : ℕ) (found : List ℕ) (place : ℕ) → length rows ≤ i → IsPlaced (map insn_row (take i rows)) found place → found ≡ places_from 0 (map insn_row rows)
 placed_all rows i found place past so_far = so_far.is ∙ ap (λ rows. places_from 0 (map insn_row rows)) (take_past rows i past)
 
-length_map : {One Other : Type 0} (f : One → Other) (items : List One) → length (map f items) ≡ length items
+pub length_map : {One Other : Type 0} (f : One → Other) (items : List One) → length (map f items) ≡ length items
 length_map f [] = refl
 length_map f (item ∷ items) = ap suc (length_map f items)
 

@@ -3,7 +3,7 @@ use Rattle.cb_core.proofs.Placed.{place_below, placed_all, placed_more, placed_n
 use Rattle.cb_core.proofs.code.places_of.Goals as goal
 
 pub overflow_add-place : goal.overflow_add-place
-overflow_add-place c = omega (arith, place_below _ _ _ _ _ c.requires (small_of _ _ c.size_of-place.ensures) c.loop-row.invariant)
+overflow_add-place c = ?
 
 pub loop-row-init : goal.loop-row-init
 loop-row-init c = ?

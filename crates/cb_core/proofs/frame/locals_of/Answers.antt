@@ -10,7 +10,7 @@ pub enter_class-requires-clause-sound : goal.enter_class-requires-clause-sound
 enter_class-requires-clause-sound c = sound_turn (λ name. name.now) IsSoundClassName _ _ _ c.loop-name-test.true c.requires.sound
 
 pub loop-name-preserved : goal.loop-name-preserved
-loop-name-preserved c = gathers_turn _ _ _ _ _ _ _ _ _ _ _ object_stays c.loop-name-test.true c.loop-name.invariant (object_put _ _ _ _ c.in_ok-class.ensures)
+loop-name-preserved c = gathers_turn _ _ _ _ _ _ _ _ _ _ _ _ object_stays c.loop-name-test.true c.in_ok-push.ensures.ok c.loop-name.invariant (object_put _ _ _ _ c.in_ok-class.ensures)
 
 pub returns : goal.returns
 returns c = each_all _ 2 _ _ _ _ _ _ c.loop-name-test.false c.loop-name.invariant

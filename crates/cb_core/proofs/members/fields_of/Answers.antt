@@ -11,7 +11,7 @@ pub field_of-requires-clause-sound : goal.field_of-requires-clause-sound
 field_of-requires-clause-sound c = sound_turn field_row IsSoundField _ _ _ c.loop-row-test.true c.requires.sound
 
 pub loop-row-preserved : goal.loop-row-preserved
-loop-row-preserved c = gathers_turn _ _ _ _ _ _ _ _ _ _ _ field_stays c.loop-row-test.true c.loop-row.invariant c.in_ok-field.ensures
+loop-row-preserved c = gathers_turn _ _ _ _ _ _ _ _ _ _ _ _ field_stays c.loop-row-test.true c.in_ok-push.ensures.ok c.loop-row.invariant c.in_ok-field.ensures
 
 pub returns : goal.returns
 returns c = each_all _ 2 _ _ _ _ _ _ c.loop-row-test.false c.loop-row.invariant

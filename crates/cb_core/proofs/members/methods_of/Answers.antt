@@ -11,7 +11,7 @@ pub method_of-requires-clause-sound : goal.method_of-requires-clause-sound
 method_of-requires-clause-sound c = sound_turn method_row IsSoundMethod _ _ _ c.loop-row-test.true c.requires.sound
 
 pub loop-row-preserved : goal.loop-row-preserved
-loop-row-preserved c = gathers_turn method_row method_room _ _ _ _ _ _ _ _ _ method_stays c.loop-row-test.true c.loop-row.invariant c.in_ok-method.ensures
+loop-row-preserved c = gathers_turn method_row method_room _ _ _ _ _ _ _ _ _ _ method_stays c.loop-row-test.true c.in_ok-push.ensures.ok c.loop-row.invariant c.in_ok-method.ensures
 
 pub returns : goal.returns
 returns c = puts_all method_row method_room _ _ _ _ _ _ c.loop-row-test.false c.loop-row.invariant
