@@ -1,5 +1,5 @@
 -- What is said of the parts of a record stays true while the pool grows.
-use Rattle.std.proofs.Common.{◌≡◌, ℕ, List, [], ◌∷◌, Option, Some, None}
+use Rattle.std.proofs.Common.{◌≡◌, ◌∙◌, ap, ℕ, List, [], ◌∷◌, Option, Some, None}
 use Rattle.std.specs.List.{AllZip}
 use Rattle.cb_text.specs.declared.constant.Constant.{Constant}
 use Rattle.cb_text.specs.Naming.{class_at}
@@ -102,3 +102,6 @@ superclass_kept (Some name) index keeps says = class_kept index name keeps says
 
 pub object_put : (before after : List Constant) (class : List ℕ) (index : ℕ) → Puts 2 (IsClassOf class) before after index → Puts 2 (λ pool local. IsObjectOf pool class local) before after (types.Object index)
 object_put before after class index put = record { grows = put.grows; says = put.says }
+
+pub index_put : (before after : List Constant) (class : List ℕ) (index same : ℕ) → same ≡ index → Puts 2 (IsClassOf class) before after index → Puts 2 (λ pool index. class_at pool index ≡ Some class) before after same
+index_put before after class index same is put = record { grows = put.grows; says = ap (class_at after) is ∙ put.says }

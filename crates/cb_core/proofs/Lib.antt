@@ -22,3 +22,4 @@ pub mod Building
 pub mod Kept
 pub mod Placed
 pub mod Coded
+pub mod Bodied

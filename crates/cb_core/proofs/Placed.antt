@@ -45,19 +45,19 @@ pub record IsPlaced (code : List Instruction) (found : List ℕ) (place : ℕ) :
   pub is : found ≡ places_from 0 code
   pub next : place ≡ behind 0 code
 
-pub placed_none : IsPlaced [] [] 0
+pub placed_start : (found : List ℕ) → found ≡ [] → IsPlaced [] found 0
 unfolding behind
-placed_none = record { is = refl; next = refl }
+placed_start found is = record { is = is; next = refl }
 
-pub placed_more : (rows : List Row) (i : ℕ) (d : Row) (found : List ℕ) (place size : ℕ) → i < length rows → size ≡ size_of (insn_row (get_or rows i d)) → IsPlaced (map insn_row (take i rows)) found place
-    → IsPlaced (map insn_row (take (i + 1) rows)) (found ++ place ∷ []) (place + size)
+pub placed_more : (rows : List Row) (i : ℕ) (d : Row) (found more : List ℕ) (place size : ℕ) → i < length rows → more ≡ found ++ place ∷ [] → size ≡ size_of (insn_row (get_or rows i d)) → IsPlaced (map insn_row (take i rows)) found place
+    → IsPlaced (map insn_row (take (i + 1) rows)) more (place + size)
 unfolding behind
-placed_more rows i d found place size below is so_far =
-    let row = get_or rows i d in
-    let front = map insn_row (take i rows) in
+placed_more rows i d found more place size below pushed is so_far =
+    let row : Row = get_or rows i d in
+    let front : List Instruction = map insn_row (take i rows) in
     let all : map insn_row (take (i + 1) rows) ≡ front ++ insn_row row ∷ [] = ap (map insn_row) (take_more rows i d below) ∙ map-append insn_row (take i rows) (row ∷ []) in
-    subst (λ code. IsPlaced code (found ++ place ∷ []) (place + size)) (sym all) (record {
-      is = ap (λ found. found ++ place ∷ []) so_far.is ∙ ap (λ place. places_from 0 front ++ place ∷ []) so_far.next ∙ sym (places_both 0 front (insn_row row ∷ []));
+    subst (λ code. IsPlaced code more (place + size)) (sym all) (record {
+      is = pushed ∙ ap (λ found. found ++ place ∷ []) so_far.is ∙ ap (λ place. places_from 0 front ++ place ∷ []) so_far.next ∙ sym (places_both 0 front (insn_row row ∷ []));
       next = ap (λ place. place + size) so_far.next ∙ ap (λ size. behind 0 front + size) is ∙ sym (behind_both 0 front (insn_row row));
     })
 
