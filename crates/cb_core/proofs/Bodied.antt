@@ -14,7 +14,7 @@ use Rattle.cb_classfile.specs.declared.field.Field.{Field}
 use Rattle.cb_classfile.specs.declared.handler.Handler.{Handler}
 use Rattle.cb_classfile.specs.declared.frame_map.MapFrame.{MapFrame}
 use Rattle.cb_classfile.specs.declared.method.Method.{Method}
-use Rattle.cb_classfile.specs.Library.{SaysField, SaysFrames, SaysInsn, SaysSuperclass}
+use Rattle.cb_classfile.specs.Library.{SaysField, SaysFrames, SaysInsn, SaysMethod, SaysSuperclass}
 use Rattle.cb_core.specs.Built.{IsBuilt, IsLaidOut, places_from}
 use Rattle.cb_core.specs.Entered.{HasBody, HasCode, HasMethod, HasRoom, IsClassOf, IsNewPool, Puts}
 use Rattle.cb_core.specs.Sound.{IsSound, IsSoundBody, IsSoundFrame, class_room, code_room, frames_room, kind_room, methods_room}
@@ -51,5 +51,32 @@ body_put row all before middle after code handlers frames is none first second =
     }
 
 -- a record of its parts
-zip_method : (pool : List Constant) (named : List rows.Method) (methods : List Method) → AllZip (λ row method. HasMethod row pool method) named methods → AllZip (λ row method. IsLaidOut row.kind method.body) named methods
-zip_method pool named methods all = zip_then (λ row method. HasMethod row pool method) (λ row method. IsLaidOut row.kind method.body) named methods (λ row method has. has.placed) all
+pub built : (row : rows.CoreClass) (a b c : ℕ) (first second third fourth fifth last : List Constant) (this super : ℕ) (interfaces : List ℕ) (fields : List Field) (methods : List Method)
+    → IsPool last → IsNewPool first → Puts 2 (IsClassOf row.name) first second this → Puts 2 (λ pool index. SaysSuperclass pool row.superclass index) second third super
+    → Puts a (λ pool indices. AllZip (λ name index. class_at pool index ≡ Some name) row.interfaces indices) third fourth interfaces
+    → Puts b (λ pool fields. AllZip (SaysField pool) row.fields fields) fourth fifth fields
+    → Puts c (λ pool methods. AllZip (λ row method. HasMethod row pool method) row.methods methods) fifth last methods
+    → IsBuilt row (record { minor = 0; major = 52; pool = last; flags = record { 0 = row.flags }; this_class = this; super_class = super; interfaces = interfaces; fields = fields; methods = methods })
+built row a b c first second third fourth fifth last this super interfaces fields methods pool new named extended listed held run =
+    let behind_fields = run.grows in
+    let behind_interfaces = grows_both held.grows behind_fields in
+    let behind_super = grows_both listed.grows behind_interfaces in
+    let behind_this = grows_both extended.grows behind_super in
+    let whole = grows_both named.grows behind_this in
+    record {
+      said = record {
+        version = refl;
+        flags = refl;
+        name = class_kept this row.name (keeps_of behind_this) named.says;
+        superclass = superclass_kept row.superclass super (keeps_of behind_super) extended.says;
+        interfaces = zip_then (λ name index. class_at fourth index ≡ Some name) (λ name index. class_at last index ≡ Some name) row.interfaces interfaces (λ name index is. class_kept index name (keeps_of behind_interfaces) is) listed.says;
+        fields = zip_then (SaysField fifth) (SaysField last) row.fields fields (λ row field says. field_kept row field (keeps_of behind_fields) says) held.says;
+        methods = zip_then (λ row method. HasMethod row last method) (SaysMethod last) row.methods methods (λ row method has. has.says) run.says;
+      };
+      minor = refl;
+      pool = pool;
+      fine = whole.fine new.fine;
+      code = text_kept 1 (codes "Code") (keeps_of whole) new.code;
+      stack_map_table = text_kept 2 (codes "StackMapTable") (keeps_of whole) new.stack_map_table;
+      laid_out = zip_then (λ row method. HasMethod row last method) (λ row method. IsLaidOut row.kind method.body) row.methods methods (λ row method has. has.placed) run.says;
+    }

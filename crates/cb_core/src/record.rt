@@ -29,7 +29,6 @@ pub(crate) fn record(alloc: Global, row: &CoreClass) -> Result<ClassFile, OutOfM
     let interfaces = interfaces_of(alloc, &mut pool, row.interfaces)?;
     let fields = fields_of(alloc, &mut pool, row.fields)?;
     let methods = methods_of(alloc, &mut pool, row.methods)?;
-    let _ = pool.constants();
     Ok(ClassFile {
         minor: 0,
         major: VERSION,
