@@ -1,3 +1,6 @@
+pub mod Growing
+pub mod Entering
+pub mod Named
 pub mod Zipped
 pub mod SoundTests
 pub mod SoundNames
@@ -15,3 +18,8 @@ pub mod LawBodies
 pub mod LawMembers
 pub mod LawClasses
 pub mod LawRecords
+pub mod Building
+pub mod Kept
+pub mod Placed
+pub mod Coded
+pub mod Bodied

@@ -5,7 +5,13 @@
 //! named for the table's), and the check compares the two. `record` makes a class record of a row.
 #![tactic(auto)]
 
+mod body;
 mod classes;
+mod code;
+mod constants;
+mod frame;
+mod insn;
+mod members;
 mod record;
 mod row;
 #[cfg(test)]
