@@ -6,7 +6,13 @@
 #![tactic(auto)]
 
 mod classes;
+mod flags;
+mod instructions;
+mod lang;
+mod names;
 mod record;
 mod row;
+mod rows;
+mod words;
 
 pub use classes::core_classes;
