@@ -5,6 +5,7 @@
 //! named for the table's), and the check compares the two. `record` makes a class record of a row.
 #![tactic(auto)]
 
+mod boxes;
 mod classes;
 mod flags;
 mod instructions;
@@ -13,6 +14,8 @@ mod names;
 mod record;
 mod row;
 mod rows;
+mod text;
+mod throwables;
 mod words;
 
 pub use classes::core_classes;
