@@ -84,7 +84,7 @@ const THROWABLE_TO_STRING: Kind = runs!(2, 1, [
 ]);
 
 
-pub(crate) const THROWABLE_CLASS: CoreClass = CoreClass {
+const THROWABLE_CLASS: CoreClass = CoreClass {
     flags: PUBLIC_CLASS,
     name: THROWABLE,
     superclass: Some(OBJECT),
@@ -219,8 +219,6 @@ macro_rules! below {
     };
 }
 
-pub(crate) const EXCEPTION_CLASS: CoreClass = below!(THROWABLE, EXCEPTION);
-
 const EXCEPTION_IN_INITIALIZER_ERROR_CLASS: CoreClass = with_constructors!(
     of_cause_without_message!(LINKAGE_ERROR),
     [],
@@ -235,12 +233,15 @@ const ASSERTION_ERROR_CLASS: CoreClass = with_constructors!(
     ASSERTION_ERROR
 );
 
-// The classes from 22 on.
-pub(crate) const THROWABLES: [CoreClass; 28] = [
+// The classes from 22 on, in parts.
+pub(crate) const TOP_THROWABLES: &[CoreClass] = &[
     THROWABLE_CLASS,
     below!(THROWABLE, EXCEPTION),
     below!(EXCEPTION, RUNTIME_EXCEPTION),
     below!(THROWABLE, ERROR),
+];
+
+pub(crate) const RUNTIME_EXCEPTIONS: &[CoreClass] = &[
     below!(RUNTIME_EXCEPTION, ARITHMETIC_EXCEPTION),
     below!(RUNTIME_EXCEPTION, ARRAY_STORE_EXCEPTION),
     below!(RUNTIME_EXCEPTION, CLASS_CAST_EXCEPTION),
@@ -253,9 +254,15 @@ pub(crate) const THROWABLES: [CoreClass; 28] = [
     below!(RUNTIME_EXCEPTION, NEGATIVE_ARRAY_SIZE_EXCEPTION),
     below!(RUNTIME_EXCEPTION, NULL_POINTER_EXCEPTION),
     below!(RUNTIME_EXCEPTION, UNSUPPORTED_OPERATION_EXCEPTION),
+];
+
+pub(crate) const OTHER_EXCEPTIONS: &[CoreClass] = &[
     below!(EXCEPTION, CLONE_NOT_SUPPORTED_EXCEPTION),
     below!(EXCEPTION, IO_EXCEPTION),
     below!(RUNTIME_EXCEPTION, NO_SUCH_ELEMENT_EXCEPTION),
+];
+
+pub(crate) const ERRORS: &[CoreClass] = &[
     below!(ERROR, LINKAGE_ERROR),
     EXCEPTION_IN_INITIALIZER_ERROR_CLASS,
     below!(LINKAGE_ERROR, NO_CLASS_DEF_FOUND_ERROR),
