@@ -1,5 +1,5 @@
 // The table, in parts.
-ghost use Rattle.std.specs.Prelude.{◌≡◌, [], ◌∷◌, drop, map, take};
+ghost use Rattle.std.specs.Prelude.{◌≡◌, ◌++◌, IfOk, OnOk, drop, flat_map, map, take};
 ghost use Rattle.cb_core.specs.Rowed.{class_row};
 ghost use Rattle.cb_library.specs.CoreClasses.{core_classes};
 
@@ -14,6 +14,8 @@ use crate::lang::{
 use crate::row::CoreClass;
 use crate::text::{INPUT_STREAM_CLASS, PRINT_STREAM_CLASS, STRING_BUILDER_CLASS, STRING_CLASS};
 use crate::throwables::{ERRORS, OTHER_EXCEPTIONS, RUNTIME_EXCEPTIONS, TOP_THROWABLES};
+use cb_plain::OutOfMemory;
+use std::alloc::Global;
 
 pub(crate) const OBJECT_AND_INTERFACES: &[CoreClass] = &[
     OBJECT_CLASS,
@@ -106,4 +108,42 @@ pub(crate) fn errors() -> &'static [CoreClass]
     ensures { map class_row result.now ≡ drop 41 core_classes }
 {
     ERRORS
+}
+
+/// Adds the rows of a part.
+fn add(rows: &mut Vec<CoreClass>, part: &[CoreClass]) -> Result<(), OutOfMemory>
+    ensures { OnOk result (rows.new.items ≡ rows.old.items ++ part.now) }
+{
+    for row in part {
+        rows.push(*row)?;
+    }
+    Ok(())
+}
+
+/// The rows of parts, in one list.
+fn joined(alloc: Global, parts: [&'static [CoreClass]; 9]) -> Result<Vec<CoreClass>, OutOfMemory>
+    ensures { IfOk result (λ rows. rows.items ≡ flat_map (λ part. part.now) parts.entry) }
+{
+    let mut rows = Vec::new(alloc);
+    for part in parts {
+        add(&mut rows, part)?;
+    }
+    Ok(rows)
+}
+
+/// The rows.
+pub(crate) fn core_rows(alloc: Global) -> Result<Vec<CoreClass>, OutOfMemory>
+    ensures { IfOk result (λ rows. map class_row rows.items ≡ core_classes) }
+{
+    joined(alloc, [
+        OBJECT_AND_INTERFACES,
+        STRINGS,
+        SYSTEM,
+        BOXES,
+        MATH_ENUM_AND_OBJECTS,
+        TOP_THROWABLES,
+        RUNTIME_EXCEPTIONS,
+        OTHER_EXCEPTIONS,
+        ERRORS,
+    ])
 }
