@@ -23,7 +23,7 @@ zip_then P Q [] (other ∷ others) next all = absurd all
 zip_then P Q (one ∷ ones) [] next all = absurd all
 zip_then P Q (one ∷ ones) (other ∷ others) next all = (next one other all.0, zip_then P Q ones others next all.1)
 
-zip_more : {One Other : Type 0} (P : One → Other → Type 0) (ones : List One) (others : List Other) (one : One) (other : Other) → AllZip P ones others → P one other → AllZip P (ones ++ one ∷ []) (others ++ other ∷ [])
+pub zip_more : {One Other : Type 0} (P : One → Other → Type 0) (ones : List One) (others : List Other) (one : One) (other : Other) → AllZip P ones others → P one other → AllZip P (ones ++ one ∷ []) (others ++ other ∷ [])
 zip_more P [] [] one other all here = (here, tt)
 zip_more P [] (next ∷ others) one other all here = absurd all
 zip_more P (first ∷ ones) [] one other all here = absurd all

@@ -1,7 +1,7 @@
 pub mod Growing
 pub mod Entering
 pub mod Named
-pub mod Zipped
+pub mod Parted
 pub mod SoundTests
 pub mod SoundNames
 pub mod SoundTypes

@@ -1,5 +1,7 @@
 -- The rows of the code's table, as those of the definition.
 use Rattle.std.specs.Prelude.{ℕ, List, [], ◌∷◌, map, Option, Some, None, option_map}
+use Rattle.std.specs.List.{flat_map}
+use denote.Ref.{Bor}
 use Rattle.cb_library.specs.Rows as rows
 use Rattle.cb_core.specs.declared.row.CoreClass.{CoreClass}
 use Rattle.cb_core.specs.declared.row.Field.{Field}
@@ -46,3 +48,7 @@ field_row field = record { flags = field.flags; name = field.name.now; descripto
 abbrev pub class_row : CoreClass → rows.CoreClass
 class_row class =
     record { flags = class.flags; name = class.name.now; superclass = option_map (λ name. name.now) class.superclass; interfaces = map (λ name. name.now) class.interfaces.now; fields = map field_row class.fields.now; methods = map method_row class.methods.now }
+
+-- the rows of parts of the table, one after the other
+abbrev pub part_rows : List (Bor (List CoreClass)) → List rows.CoreClass
+part_rows parts = flat_map (λ part. map class_row part.now) parts

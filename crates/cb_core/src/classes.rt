@@ -1,35 +1,64 @@
 // The records of the library's classes.
-ghost use Rattle.std.specs.Prelude.{IfOk, map};
+ghost use Rattle.std.specs.Prelude.{◌++◌, IfOk, List, OnOk, map};
 ghost use Rattle.std.specs.List.{AllByRecursion, AllZip};
 ghost use Rattle.cb_classfile.specs.Library.{AreLibrary, IsReadable};
 ghost use Rattle.cb_core.specs.Built.{IsBuilt};
-ghost use Rattle.cb_core.specs.Rowed.{class_row};
+ghost use Rattle.cb_core.specs.Rowed.{class_row, part_rows};
 ghost use Rattle.cb_core.specs.Sound.{IsSound};
+ghost use Rattle.cb_library.specs.Rows.{CoreClass as Row};
 
 use crate::record::record;
 use crate::row::CoreClass;
+use crate::rows::{BOXES, MATH_ENUM_AND_OBJECTS, OBJECT_AND_INTERFACES, STRINGS, SYSTEM};
+use crate::throwables::{ERRORS, OTHER_EXCEPTIONS, RUNTIME_EXCEPTIONS, TOP_THROWABLES};
 use cb_classfile::Classes;
 use cb_plain::OutOfMemory;
-use std::alloc::{AllocError, Global};
+use std::alloc::Global;
 
 /// The records of the library's classes in the order of their numbers, 0 to 49. Each has the members of its row and no
 /// others, in the row's order, and would be read from its own bytes, native methods apart: those have no code, and are
 /// left out of classes that are read. `OutOfMemory` where no memory was to be had. Takes time in the size of the table.
-pub fn core_classes(_: Global) -> Result<Classes, OutOfMemory>
+pub fn core_classes(alloc: Global) -> Result<Classes, OutOfMemory>
     ensures records { IfOk result AreLibrary }
     ensures readable { IfOk result (AllByRecursion IsReadable) }
 {
-    Err(AllocError)
+    records_of(alloc, [
+        OBJECT_AND_INTERFACES,
+        STRINGS,
+        SYSTEM,
+        BOXES,
+        MATH_ENUM_AND_OBJECTS,
+        TOP_THROWABLES,
+        RUNTIME_EXCEPTIONS,
+        OTHER_EXCEPTIONS,
+        ERRORS,
+    ])
 }
 
-/// The records of rows.
-pub(crate) fn records_of(alloc: Global, rows: &[CoreClass]) -> Result<Classes, OutOfMemory>
-    requires { AllByRecursion IsSound (map class_row rows.now) }
-    ensures { IfOk result (AllZip IsBuilt (map class_row rows.now)) }
+/// The records of the rows of parts.
+fn records_of(alloc: Global, parts: [&[CoreClass]; 9]) -> Result<Classes, OutOfMemory>
+    requires { AllByRecursion IsSound (part_rows parts.entry) }
+    ensures { IfOk result (AllZip IsBuilt (part_rows parts.entry)) }
 {
-    let mut classes = Classes::with_capacity(alloc, rows.len())?;
+    let mut classes = Classes::new(alloc);
+    for part in parts {
+        add_records(alloc, part, &mut classes)?;
+    }
+    Ok(classes)
+}
+
+/// Adds the records of rows behind those of others.
+fn add_records(
+    alloc: Global,
+    rows: &[CoreClass],
+    classes: &mut Classes,
+) -> Result<(), OutOfMemory>
+    requires { AllByRecursion IsSound (map class_row rows.now) }
+    ensures { OnOk result ((others : List Row) → AllZip IsBuilt others classes.old
+        → AllZip IsBuilt (others ++ map class_row rows.now) classes.new) }
+{
     for row in rows {
         classes.push(record(alloc, row)?)?;
     }
-    Ok(classes)
+    Ok(())
 }

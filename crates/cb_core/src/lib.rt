@@ -6,15 +6,24 @@
 #![tactic(auto)]
 
 mod body;
+mod boxes;
 mod classes;
 mod code;
 mod constants;
+mod flags;
 mod frame;
 mod insn;
+mod instructions;
+mod lang;
 mod members;
+mod names;
 mod record;
 mod row;
+mod rows;
 #[cfg(test)]
 mod tests;
+mod text;
+mod throwables;
+mod words;
 
 pub use classes::core_classes;

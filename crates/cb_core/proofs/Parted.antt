@@ -1,0 +1,71 @@
+-- The table in parts: the rows of parts that were gone through, and all of them.
+use Rattle.std.proofs.Common.{◌≡◌, ◌∙◌, ap, sym, refl, subst, arith, ℕ, zero, suc, ◌+◌, ◌<◌, ◌≤◌, List, [], ◌∷◌, ◌++◌, length, map, take, get_or, append-nil}
+use Rattle.std.specs.List.{AllByRecursion, AllZip, flat_map}
+use Rattle.std.proofs.lemmas.Grind.{flat_map-append}
+use Rattle.std.proofs.lemmas.List.{append_assoc, map-append, take_more}
+use denote.Ref.{Bor}
+use Rattle.cb_classfile.specs.declared.class.ClassFile.{ClassFile}
+use Rattle.cb_core.specs.declared.row.CoreClass.{CoreClass}
+use Rattle.cb_core.specs.declared.rows.TheConstants.{BOXES, MATH_ENUM_AND_OBJECTS, OBJECT_AND_INTERFACES, STRINGS, SYSTEM}
+use Rattle.cb_core.specs.declared.throwables.TheConstants.{ERRORS, OTHER_EXCEPTIONS, RUNTIME_EXCEPTIONS, TOP_THROWABLES}
+use Rattle.cb_core.specs.Built.{IsBuilt}
+use Rattle.cb_core.specs.Rowed.{class_row, part_rows}
+use Rattle.cb_core.specs.Sound.{IsSound}
+use Rattle.cb_classfile.specs.Library.{AreLibrary, IsReadable, IsRecordOf}
+use Rattle.cb_library.specs.CoreClasses.{core_classes}
+use Rattle.cb_library.specs.Rows.{CoreClass as Row}
+use Rattle.cb_core.proofs.Building.{take_past, zip_more, zip_then}
+use Rattle.cb_core.proofs.LawLists.{zip_each}
+use Rattle.cb_core.proofs.LawRecords.{readable}
+use Rattle.cb_core.proofs.SoundRows.{all_sound}
+
+-- the record of the next row, behind those of others and of the rows before it
+pub record_more : (others : List Row) (rows : List CoreClass) (i : ℕ) (d : CoreClass) (classes : List ClassFile) (class : ClassFile) → i < length rows → AllZip IsBuilt (others ++ map class_row (take i rows)) classes → IsBuilt (class_row (get_or rows i d)) class
+    → AllZip IsBuilt (others ++ map class_row (take (i + 1) rows)) (classes ++ class ∷ [])
+record_more others rows i d classes class below all here =
+    let more : map class_row (take (i + 1) rows) ≡ map class_row (take i rows) ++ class_row (get_or rows i d) ∷ [] = ap (map class_row) (take_more rows i d below) ∙ map-append class_row (take i rows) (get_or rows i d ∷ []) in
+    let behind : others ++ map class_row (take (i + 1) rows) ≡ (others ++ map class_row (take i rows)) ++ class_row (get_or rows i d) ∷ [] =
+    ap (λ rest. others ++ rest) more ∙ sym (append_assoc others (map class_row (take i rows)) (class_row (get_or rows i d) ∷ [])) in
+    subst (λ front. AllZip IsBuilt front (classes ++ class ∷ [])) (sym behind) (zip_more IsBuilt (others ++ map class_row (take i rows)) classes (class_row (get_or rows i d)) class all here)
+
+pub records_all : (others : List Row) (rows : List CoreClass) (i : ℕ) (classes : List ClassFile) → length rows ≤ i → AllZip IsBuilt (others ++ map class_row (take i rows)) classes → AllZip IsBuilt (others ++ map class_row rows) classes
+records_all others rows i classes past all = subst (λ front. AllZip IsBuilt (others ++ map class_row front) classes) (take_past rows i past) all
+
+-- a part's rows are sound where those of all are, and stand behind those of the parts before it
+all_back : (front back : List Row) → AllByRecursion IsSound (front ++ back) → AllByRecursion IsSound back
+all_back [] back all = all
+all_back (row ∷ front) back all = all_back front back all.1
+
+all_front : (front back : List Row) → AllByRecursion IsSound (front ++ back) → AllByRecursion IsSound front
+all_front [] back all = tt
+all_front (row ∷ front) back all = (all.0, all_front front back all.1)
+
+pub part_sound : (parts : List (Bor (List CoreClass))) (i : ℕ) (d : Bor (List CoreClass)) → i < length parts → AllByRecursion IsSound (part_rows parts) → AllByRecursion IsSound (map class_row (get_or parts i d).now)
+part_sound [] i d below all = absurd (omega arith)
+part_sound (part ∷ parts) zero d below all = all_front (map class_row part.now) (part_rows parts) all
+part_sound (part ∷ parts) (suc i) d below all = part_sound parts i d (omega arith) (all_back (map class_row part.now) (part_rows parts) all)
+
+pub parts_more : (parts : List (Bor (List CoreClass))) (i : ℕ) (d : Bor (List CoreClass)) → i < length parts → part_rows (take (i + 1) parts) ≡ part_rows (take i parts) ++ map class_row (get_or parts i d).now
+parts_more parts i d below =
+    ap part_rows (take_more parts i d below) ∙ flat_map-append (λ part. map class_row part.now) (take i parts) (get_or parts i d ∷ []) ∙ ap (λ rest. part_rows (take i parts) ++ rest) (append-nil (map class_row (get_or parts i d).now))
+
+pub parts_all : (parts : List (Bor (List CoreClass))) (i : ℕ) (classes : List ClassFile) → length parts ≤ i → AllZip IsBuilt (part_rows (take i parts)) classes → AllZip IsBuilt (part_rows parts) classes
+parts_all parts i classes past all = subst (λ front. AllZip IsBuilt (part_rows front) classes) (take_past parts i past) all
+
+-- the parts are the table
+abbrev pub parts : List (Bor (List CoreClass))
+parts =
+    OBJECT_AND_INTERFACES ∷ STRINGS ∷ SYSTEM ∷ BOXES ∷ MATH_ENUM_AND_OBJECTS ∷ TOP_THROWABLES ∷ RUNTIME_EXCEPTIONS ∷ OTHER_EXCEPTIONS ∷ ERRORS ∷ []
+
+pub same_rows : part_rows parts ≡ core_classes
+same_rows = refl
+
+pub rows_sound : AllByRecursion IsSound (part_rows parts)
+rows_sound = subst (AllByRecursion IsSound) (sym same_rows) all_sound
+
+-- what is built of the table are the library's records, which would be read
+pub are_library : (classes : List ClassFile) → AllZip IsBuilt (part_rows parts) classes → AreLibrary classes
+are_library classes built = zip_then IsBuilt IsRecordOf core_classes classes (λ row class is. is.said) (subst (λ rows. AllZip IsBuilt rows classes) same_rows built)
+
+pub all_readable : (classes : List ClassFile) → AllZip IsBuilt (part_rows parts) classes → AllByRecursion IsReadable classes
+all_readable classes built = zip_each IsBuilt IsSound IsReadable (λ row class sound is. readable row class sound is) (part_rows parts) classes rows_sound built
