@@ -1,26 +1,25 @@
 -- Bodies and records of their parts.
-use Rattle.std.proofs.Common.{◌≡◌, ◌∙◌, ap, sym, refl, subst, arith, ℕ, ◌+◌, ◌*◌, ◌<◌, ◌≤◌, ◌^◌, List, [], ◌∷◌, ◌++◌, length, Option, Some, None}
+use Rattle.std.proofs.Common.{◌≡◌, ◌∙◌, ap, sym, refl, subst, ℕ, ◌<◌, ◌^◌, List, [], length, Some, None}
 use Rattle.std.specs.Prelude.{codes}
 use Rattle.std.specs.List.{AllByRecursion, AllZip}
 use Rattle.cb_text.specs.declared.constant.Constant.{Constant}
-use Rattle.cb_text.specs.Naming.{class_at, text_at}
+use Rattle.cb_text.specs.Naming.{class_at}
 use Rattle.cb_text.specs.Pool.{IsPool}
 use Rattle.cb_insn.specs.declared.insn.Insn.{Insn}
 use Rattle.cb_insn.specs.Places.{places}
 use Rattle.cb_library.specs.Rows as rows
 use Rattle.cb_classfile.specs.declared.body.Body.{Body}
-use Rattle.cb_classfile.specs.declared.class.ClassFile.{ClassFile}
 use Rattle.cb_classfile.specs.declared.field.Field.{Field}
 use Rattle.cb_classfile.specs.declared.handler.Handler.{Handler}
 use Rattle.cb_classfile.specs.declared.frame_map.MapFrame.{MapFrame}
 use Rattle.cb_classfile.specs.declared.method.Method.{Method}
 use Rattle.cb_classfile.specs.Library.{SaysField, SaysFrames, SaysInsn, SaysMethod, SaysSuperclass}
 use Rattle.cb_core.specs.Built.{IsBuilt, IsLaidOut, places_from}
-use Rattle.cb_core.specs.Entered.{HasBody, HasCode, HasMethod, HasRoom, IsClassOf, IsNewPool, Puts}
-use Rattle.cb_core.specs.Sound.{IsSound, IsSoundBody, IsSoundFrame, class_room, code_room, frames_room, kind_room, methods_room}
+use Rattle.cb_core.specs.Entered.{HasBody, HasCode, HasMethod, IsClassOf, IsNewPool, Puts}
+use Rattle.cb_core.specs.Sound.{IsSoundBody, IsSoundFrame, code_room, frames_room, kind_room}
 use Rattle.cb_core.proofs.Building.{zip_then}
 use Rattle.cb_core.proofs.Growing.{class_kept, grows_both, keeps_of, text_kept}
-use Rattle.cb_core.proofs.Kept.{code_kept, field_kept, method_kept, superclass_kept}
+use Rattle.cb_core.proofs.Kept.{code_kept, field_kept, superclass_kept}
 use Rattle.cb_core.proofs.Placed.{places_count, places_short}
 
 -- what is asked where the places of a body are known

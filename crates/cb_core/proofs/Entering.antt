@@ -1,16 +1,15 @@
 -- Entering constants into a pool.
-use Rattle.std.proofs.Common.{◌≡◌, ◌∙◌, ap, sym, refl, inl, inr, arith, subst, ◌⊎◌, ◌<◌, ◌^◌, ℕ, zero, suc, ◌+◌, ◌≤◌, List, [], ◌∷◌, ◌++◌, length, Option, Some, None, Result, Ok, Err, length-append, add-one}
+use Rattle.std.proofs.Common.{◌≡◌, ◌∙◌, ap, sym, refl, arith, subst, ℕ, ◌+◌, List, [], ◌∷◌, ◌++◌, length, Option, Some, None, Result, Ok, Err, length-append}
 use Rattle.std.proofs.lemmas.Bool.{false≢true}
-use Rattle.std.specs.Prelude.{IfOk, IsSome, is_some, IsSomeAnd, slice_get, option_and_then, option_map, codes}
+use Rattle.std.specs.Prelude.{IfOk, IsSome, is_some}
 use Rattle.std.specs.List.{AllByRecursion}
 use Rattle.std.specs.declared.alloc.AllocError.{AllocError}
 use Rattle.cb_text.specs.declared.constant.Constant.{Constant}
 use Rattle.cb_text.specs.declared.constant.Constant.TheVariants as constants
-use Rattle.cb_text.specs.Text.{AreUnits, text_bytes, unit_bytes}
 use Rattle.cb_text.specs.Pool.{AreLaidOut, Fits, HasIndices, IsPool, IsText, IsClass, IsMember, Names, constant_at, with_gap}
 use Rattle.cb_text.proofs.Laws.{added_at, kept_at}
-use Rattle.cb_core.specs.Built.{AreFine, Grows, IsFine}
-use Rattle.cb_core.specs.Entered.{HasRoom, MayEnter, Puts, Stands}
+use Rattle.cb_core.specs.Built.{Grows, IsFine}
+use Rattle.cb_core.specs.Entered.{MayEnter, Puts, Stands}
 use Rattle.cb_core.proofs.Growing.{Keeps, and_some, fine_kept, some_and}
 
 -- what holds of each item of two lists holds of each of both, and what follows from it

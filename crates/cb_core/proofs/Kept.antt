@@ -11,7 +11,7 @@ use Rattle.cb_classfile.specs.declared.frame_map.MapFrame.{MapFrame}
 use Rattle.cb_classfile.specs.declared.map_type.MapType.{MapType}
 use Rattle.cb_classfile.specs.declared.map_type.MapType.TheVariants as types
 use Rattle.cb_classfile.specs.declared.method.Method.{Method}
-use Rattle.cb_classfile.specs.Library.{IsObjectOf, SaysBody, SaysField, SaysFrame, SaysFrames, SaysInsn, SaysKind, SaysMethod, SaysSuperclass, place_behind}
+use Rattle.cb_classfile.specs.Library.{IsObjectOf, SaysBody, SaysField, SaysFrame, SaysFrames, SaysInsn, SaysKind, SaysSuperclass, place_behind}
 use Rattle.cb_core.specs.Entered.{HasMethod, IsClassOf, Puts}
 use Rattle.cb_core.proofs.Building.{Stays, zip_then}
 use Rattle.cb_core.proofs.Growing.{Keeps, class_kept, member_kept, string_kept, text_kept}

@@ -1,11 +1,7 @@
 -- The places of instructions, one after the other.
-use Rattle.std.proofs.Common.{◌≡◌, ◌∙◌, ap, sym, refl, subst, arith, ℕ, zero, suc, ◌+◌, ◌*◌, ◌<◌, ◌≤◌, ◌^◌, List, [], ◌∷◌, ◌++◌, length, map, take, drop, get_or, Some, add-one}
-use Rattle.std.specs.Prelude.{slice_get}
-use Rattle.std.specs.List.{AllByRecursion, AllZip}
-use Rattle.std.proofs.lemmas.List.{map-append, take_more, length-take}
-use Rattle.cb_text.specs.declared.constant.Constant.{Constant}
-use Rattle.cb_insn.specs.declared.insn.Insn.{Insn}
-use Rattle.cb_insn.specs.Places.{places}
+use Rattle.std.proofs.Common.{◌≡◌, ◌∙◌, ap, sym, refl, subst, arith, ℕ, zero, suc, ◌+◌, ◌*◌, ◌<◌, ◌≤◌, ◌^◌, List, [], ◌∷◌, ◌++◌, length, map, take, get_or}
+use Rattle.std.specs.List.{AllByRecursion}
+use Rattle.std.proofs.lemmas.List.{map-append, take_more}
 use Rattle.cb_library.specs.Rows.{Instruction, Plain, Branch, LoadText, OfClass, OfField, OfMethod}
 use Rattle.cb_core.specs.declared.row.Instruction.{Instruction as Row}
 use Rattle.cb_core.specs.Built.{places_from, size_of}
