@@ -1,11 +1,12 @@
 -- Lists that are made of rows, one item after the other, while the pool grows.
-use Rattle.std.proofs.Common.{◌≡◌, ◌∙◌, ap, sym, refl, subst, arith, ℕ, zero, suc, ◌+◌, ◌*◌, ◌<◌, ◌≤◌, List, [], ◌∷◌, ◌++◌, length, map, take, drop, get_or}
+use Rattle.std.proofs.Common.{◌≡◌, ◌∙◌, ap, sym, subst, arith, ℕ, zero, suc, ◌+◌, ◌*◌, ◌<◌, ◌≤◌, List, [], ◌∷◌, ◌++◌, length, map, take, drop, get_or}
 use Rattle.std.specs.List.{AllByRecursion, AllZip, sum}
 use Rattle.std.proofs.lemmas.List.Sums.{sum_by-append, sum_by-cons}
 use Rattle.std.proofs.lemmas.List.{length-take-le, map-append, take-append-drop, take_more}
 use Rattle.cb_text.specs.declared.constant.Constant.{Constant}
 use Rattle.cb_core.specs.Built.{Grows}
 use Rattle.cb_core.specs.Entered.{HasRoom, Puts}
+use Rattle.cb_core.proofs.Zipped.{take_past, zip_all, zip_each, zip_more}
 use Rattle.cb_core.proofs.Growing.{Keeps, grows_both, grows_none, grows_within, keeps_of}
 
 -- what is said of items that were made of rows, each with room for so many constants
@@ -16,18 +17,6 @@ pub record Gathers {Row Named Thing : Type 0} (row_of : Row → Named) (room : N
 -- what is said stays true while the pool grows
 pub record Stays {Named Thing : Type 0} (Says : List Constant → Named → Thing → Type 0) : Type 0 where
   pub kept : (before after : List Constant) (named : Named) (thing : Thing) → Keeps before after → Says before named thing → Says after named thing
-
-pub zip_then : {One Other : Type 0} (P Q : One → Other → Type 0) (ones : List One) (others : List Other) → ((one : One) (other : Other) → P one other → Q one other) → AllZip P ones others → AllZip Q ones others
-zip_then P Q [] [] next all = tt
-zip_then P Q [] (other ∷ others) next all = absurd all
-zip_then P Q (one ∷ ones) [] next all = absurd all
-zip_then P Q (one ∷ ones) (other ∷ others) next all = (next one other all.0, zip_then P Q ones others next all.1)
-
-zip_more : {One Other : Type 0} (P : One → Other → Type 0) (ones : List One) (others : List Other) (one : One) (other : Other) → AllZip P ones others → P one other → AllZip P (ones ++ one ∷ []) (others ++ other ∷ [])
-zip_more P [] [] one other all here = (here, tt)
-zip_more P [] (next ∷ others) one other all here = absurd all
-zip_more P (first ∷ ones) [] one other all here = absurd all
-zip_more P (first ∷ ones) (next ∷ others) one other all here = (all.0, zip_more P ones others one other all.1 here)
 
 sum_both : (one other : List ℕ) → sum (one ++ other) ≡ sum one + sum other
 sum_both one other = sum_by-append (λ room. room) one other
@@ -44,13 +33,6 @@ rooms_more row_of room rows i d below =
     let more : sum (map room (map row_of (take (i + 1) rows))) ≡ sum (map room (map row_of (take i rows))) + sum (map room (map row_of (get_or rows i d ∷ []))) =
     ap (λ rows. sum (map room (map row_of rows))) (take_more rows i d below) ∙ rooms_both row_of room (take i rows) (get_or rows i d ∷ []) in
     omega (arith, more, sum_by-cons (λ room. room) (room (row_of (get_or rows i d))) [])
-
--- the items so far
-pub take_past : {Item : Type 0} (items : List Item) (i : ℕ) → length items ≤ i → take i items ≡ items
-take_past [] zero past = refl
-take_past [] (suc i) past = refl
-take_past (item ∷ items) zero past = absurd (omega (arith, past))
-take_past (item ∷ items) (suc i) past = ap (λ rest. item ∷ rest) (take_past items i (omega (arith, past)))
 
 -- what is asked of each row is had at its turn
 pub sound_turn : {Row Named : Type 0} (row_of : Row → Named) (P : Named → Type 0) (rows : List Row) (i : ℕ) (d : Row) → i < length rows → AllByRecursion P (map row_of rows) → P (row_of (get_or rows i d))
@@ -78,11 +60,8 @@ pub gathers_turn : {Row Named Thing : Type 0} (row_of : Row → Named) (room : N
     → Stays Says → i < length rows → more ≡ things ++ thing ∷ [] → Gathers row_of room Says (take i rows) before middle things → Puts (room (row_of (get_or rows i d))) (λ pool thing. Says pool (row_of (get_or rows i d)) thing) middle after thing
     → Gathers row_of room Says (take (i + 1) rows) before after more
 gathers_turn row_of room Says rows i d before middle after things more thing stays below pushed so_far here =
-    let named : map row_of (take (i + 1) rows) ≡ map row_of (take i rows) ++ row_of (get_or rows i d) ∷ [] =
-    ap (map row_of) (take_more rows i d below) ∙ map-append row_of (take i rows) (get_or rows i d ∷ []) in
-    let kept = zip_then (Says middle) (Says after) (map row_of (take i rows)) things (λ named one said. stays.kept middle after named one (keeps_of here.grows) said) so_far.says in
-    let says : AllZip (Says after) (map row_of (take (i + 1) rows)) (things ++ thing ∷ []) =
-    subst (λ named. AllZip (Says after) named (things ++ thing ∷ [])) (sym named) (zip_more (Says after) (map row_of (take i rows)) things (row_of (get_or rows i d)) thing kept here.says) in
+    let kept = zip_each (Says middle) (Says after) (λ named one said. stays.kept middle after named one (keeps_of here.grows) said) (map row_of (take i rows)) things so_far.says in
+    let says = zip_more row_of (Says after) rows things i d thing below kept here.says in
     record {
       grows = grows_within (grows_both so_far.grows here.grows) (omega (arith, rooms_more row_of room rows i d below));
       says = subst (AllZip (Says after) (map row_of (take (i + 1) rows))) (sym pushed) says;
@@ -91,8 +70,8 @@ gathers_turn row_of room Says rows i d before middle after things more thing sta
 pub gathers_all : {Row Named Thing : Type 0} (row_of : Row → Named) (room : Named → ℕ) (Says : List Constant → Named → Thing → Type 0) (rows : List Row) (i : ℕ) (before after : List Constant) (things : List Thing)
     → length rows ≤ i → Gathers row_of room Says (take i rows) before after things → Puts (sum (map room (map row_of rows))) (λ pool things. AllZip (Says pool) (map row_of rows) things) before after things
 gathers_all row_of room Says rows i before after things past so_far =
-    let all = subst (λ rows. Gathers row_of room Says rows before after things) (take_past rows i past) so_far in
-    record { grows = all.grows; says = all.says }
+    let grows = subst (λ rows. Grows (sum (map room (map row_of rows))) before after) (take_past rows i past) so_far.grows in
+    record { grows = grows; says = zip_all row_of (Says after) rows things i past so_far.says }
 
 -- the same where each row has the same room
 room_each : {Row Named : Type 0} (row_of : Row → Named) (each : ℕ) (rows : List Row) → sum (map (λ row. each) (map row_of rows)) ≡ each * length rows

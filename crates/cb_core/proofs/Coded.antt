@@ -12,7 +12,8 @@ use Rattle.cb_core.specs.Built.{places_from}
 use Rattle.cb_core.specs.Entered.{HasCode, HasRoom, Puts}
 use Rattle.cb_core.specs.Rowed.{insn_row}
 use Rattle.cb_core.specs.Sound.{IsSoundInsn, code_room, insn_room}
-use Rattle.cb_core.proofs.Building.{Gathers, gathers_all, gathers_none, gathers_turn, room_turn, sound_turn, take_past}
+use Rattle.cb_core.proofs.Building.{Gathers, gathers_all, gathers_none, gathers_turn, room_turn, sound_turn}
+use Rattle.cb_core.proofs.Zipped.{take_past}
 use Rattle.cb_core.proofs.Kept.{insn_stays}
 use Rattle.cb_core.proofs.Placed.{length_map, places_count}
 

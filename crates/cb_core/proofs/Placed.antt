@@ -6,7 +6,7 @@ use Rattle.cb_library.specs.Rows.{Instruction, Plain, Branch, LoadText, OfClass,
 use Rattle.cb_core.specs.declared.row.Instruction.{Instruction as Row}
 use Rattle.cb_core.specs.Built.{places_from, size_of}
 use Rattle.cb_core.specs.Rowed.{insn_row}
-use Rattle.cb_core.proofs.Building.{take_past}
+use Rattle.cb_core.proofs.Zipped.{take_past}
 
 -- the place behind instructions
 unfoldable pub behind : ℕ → List Instruction → ℕ
