@@ -217,11 +217,14 @@ may_method before middle pool class name descriptor holder member room may first
       laid_out = tt;
       fits = (omega (arith, class_within pool holder class held, room, first.grows.few, then.grows.few), omega (arith, index_within pool member _ then.says.stands, room, first.grows.few, then.grows.few));
       indexed = (names_class pool holder class held, names_member pool name descriptor member then.says);
-      fine = (has_member pool name descriptor member (NamesClassMethod pool) is (record {
-        method = (and_some _ _ name is.named may.named.is, and_some _ _ descriptor is.described (may.described.words, may.described.is));
-        no_initialiser = λ other. let same : Some name ≡ Some (codes "<clinit>") = sym is.named ∙ other in let text : name ≡ codes "<clinit>" = cc in may.named.no_initialiser text;
-        constructor = λ other. let same : Some name ≡ Some (codes "<init>") = sym is.named ∙ other in let text : name ≡ codes "<init>" = cc in and_some GivesNothing _ descriptor is.described (may.constructor text);
-      }), refl);
+      fine = (
+        has_member pool name descriptor member (NamesClassMethod pool) is (record {
+          method = (and_some _ _ name is.named may.named.is, and_some _ _ descriptor is.described (may.described.words, may.described.is));
+          no_initialiser = λ other. let same : Some name ≡ Some (codes "<clinit>") = sym is.named ∙ other in let text : name ≡ codes "<clinit>" = cc in may.named.no_initialiser text;
+          constructor = λ other. let same : Some name ≡ Some (codes "<init>") = sym is.named ∙ other in let text : name ≡ codes "<init>" = cc in and_some GivesNothing _ descriptor is.described (may.constructor text);
+        }),
+        refl,
+      );
     }
 
 pub field_put : (before middle pool after : List Constant) (class name descriptor : List ℕ) (holder member index : ℕ)
