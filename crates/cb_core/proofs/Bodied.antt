@@ -1,26 +1,25 @@
 -- Bodies and records of their parts.
-use Rattle.std.proofs.Common.{◌≡◌, ◌∙◌, ap, sym, refl, subst, arith, ℕ, ◌+◌, ◌*◌, ◌<◌, ◌≤◌, ◌^◌, List, [], ◌∷◌, ◌++◌, length, Option, Some, None}
+use Rattle.std.proofs.Common.{◌≡◌, ◌∙◌, ap, sym, refl, subst, ℕ, ◌<◌, ◌^◌, List, [], length, Some, None}
 use Rattle.std.specs.Prelude.{codes}
 use Rattle.std.specs.List.{AllByRecursion, AllZip}
 use Rattle.cb_text.specs.declared.constant.Constant.{Constant}
-use Rattle.cb_text.specs.Naming.{class_at, text_at}
+use Rattle.cb_text.specs.Naming.{class_at}
 use Rattle.cb_text.specs.Pool.{IsPool}
 use Rattle.cb_insn.specs.declared.insn.Insn.{Insn}
 use Rattle.cb_insn.specs.Places.{places}
 use Rattle.cb_library.specs.Rows as rows
 use Rattle.cb_classfile.specs.declared.body.Body.{Body}
-use Rattle.cb_classfile.specs.declared.class.ClassFile.{ClassFile}
 use Rattle.cb_classfile.specs.declared.field.Field.{Field}
 use Rattle.cb_classfile.specs.declared.handler.Handler.{Handler}
 use Rattle.cb_classfile.specs.declared.frame_map.MapFrame.{MapFrame}
 use Rattle.cb_classfile.specs.declared.method.Method.{Method}
 use Rattle.cb_classfile.specs.Library.{SaysField, SaysFrames, SaysInsn, SaysMethod, SaysSuperclass}
 use Rattle.cb_core.specs.Built.{IsBuilt, IsLaidOut, places_from}
-use Rattle.cb_core.specs.Entered.{HasBody, HasCode, HasMethod, HasRoom, IsClassOf, IsNewPool, Puts}
-use Rattle.cb_core.specs.Sound.{IsSound, IsSoundBody, IsSoundFrame, class_room, code_room, frames_room, kind_room, methods_room}
-use Rattle.cb_core.proofs.Building.{zip_then}
+use Rattle.cb_core.specs.Entered.{HasBody, HasCode, HasMethod, IsClassOf, IsNewPool, Puts}
+use Rattle.cb_core.specs.Sound.{IsSoundBody, IsSoundFrame, code_room, frames_room, kind_room}
+use Rattle.cb_core.proofs.Zipped.{zip_each}
 use Rattle.cb_core.proofs.Growing.{class_kept, grows_both, keeps_of, text_kept}
-use Rattle.cb_core.proofs.Kept.{code_kept, field_kept, method_kept, superclass_kept}
+use Rattle.cb_core.proofs.Kept.{code_kept, field_kept, superclass_kept}
 use Rattle.cb_core.proofs.Placed.{places_count, places_short}
 
 -- what is asked where the places of a body are known
@@ -69,14 +68,14 @@ built row a b c first second third fourth fifth last this super interfaces field
         flags = refl;
         name = class_kept this row.name (keeps_of behind_this) named.says;
         superclass = superclass_kept row.superclass super (keeps_of behind_super) extended.says;
-        interfaces = zip_then (λ name index. class_at fourth index ≡ Some name) (λ name index. class_at last index ≡ Some name) row.interfaces interfaces (λ name index is. class_kept index name (keeps_of behind_interfaces) is) listed.says;
-        fields = zip_then (SaysField fifth) (SaysField last) row.fields fields (λ row field says. field_kept row field (keeps_of behind_fields) says) held.says;
-        methods = zip_then (λ row method. HasMethod row last method) (SaysMethod last) row.methods methods (λ row method has. has.says) run.says;
+        interfaces = zip_each (λ name index. class_at fourth index ≡ Some name) (λ name index. class_at last index ≡ Some name) (λ name index is. class_kept index name (keeps_of behind_interfaces) is) row.interfaces interfaces listed.says;
+        fields = zip_each (SaysField fifth) (SaysField last) (λ row field says. field_kept row field (keeps_of behind_fields) says) row.fields fields held.says;
+        methods = zip_each (λ row method. HasMethod row last method) (SaysMethod last) (λ row method has. has.says) row.methods methods run.says;
       };
       minor = refl;
       pool = pool;
       fine = whole.fine new.fine;
       code = text_kept 1 (codes "Code") (keeps_of whole) new.code;
       stack_map_table = text_kept 2 (codes "StackMapTable") (keeps_of whole) new.stack_map_table;
-      laid_out = zip_then (λ row method. HasMethod row last method) (λ row method. IsLaidOut row.kind method.body) row.methods methods (λ row method has. has.placed) run.says;
+      laid_out = zip_each (λ row method. HasMethod row last method) (λ row method. IsLaidOut row.kind method.body) (λ row method has. has.placed) row.methods methods run.says;
     }

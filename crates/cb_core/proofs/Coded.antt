@@ -1,8 +1,8 @@
 -- The code of a body, instruction by instruction.
-use Rattle.std.proofs.Common.{◌≡◌, ◌∙◌, ap, sym, refl, subst, arith, ℕ, zero, suc, ◌+◌, ◌*◌, ◌<◌, ◌≤◌, ◌^◌, List, [], ◌∷◌, ◌++◌, length, map, take, drop, get_or, Some, add-one}
+use Rattle.std.proofs.Common.{◌≡◌, ◌∙◌, ap, sym, refl, subst, arith, ℕ, zero, suc, ◌+◌, ◌<◌, ◌≤◌, List, [], ◌∷◌, ◌++◌, length, map, take, get_or, Some, add-one}
 use Rattle.std.specs.Prelude.{slice_get}
 use Rattle.std.specs.List.{AllByRecursion, AllZip}
-use Rattle.std.proofs.lemmas.List.{map-append}
+use Rattle.std.proofs.lemmas.List.{length-map, map-append}
 use Rattle.cb_text.specs.declared.constant.Constant.{Constant}
 use Rattle.cb_insn.specs.declared.insn.Insn.{Insn}
 use Rattle.cb_insn.specs.Places.{places}
@@ -12,9 +12,10 @@ use Rattle.cb_core.specs.Built.{places_from}
 use Rattle.cb_core.specs.Entered.{HasCode, HasRoom, Puts}
 use Rattle.cb_core.specs.Rowed.{insn_row}
 use Rattle.cb_core.specs.Sound.{IsSoundInsn, code_room, insn_room}
-use Rattle.cb_core.proofs.Building.{Gathers, gathers_all, gathers_none, gathers_turn, room_turn, sound_turn, take_past}
+use Rattle.cb_core.proofs.Building.{Gathers, gathers_all, gathers_none, gathers_turn, room_turn, sound_turn}
+use Rattle.cb_core.proofs.Zipped.{take_past}
 use Rattle.cb_core.proofs.Kept.{insn_stays}
-use Rattle.cb_core.proofs.Placed.{length_map, places_count}
+use Rattle.cb_core.proofs.Placed.{places_count}
 
 -- what is said of the instructions so far, and where they stand
 pub record GathersCode (all : List ℕ) (rows : List Row) (i : ℕ) (before after : List Constant) (code : List (ℕ × Insn)) : Type 0 where
@@ -40,7 +41,7 @@ code_more all rows i d before middle after code more place insn below pushed her
 
 -- as many places as rows
 pub count : (all : List ℕ) (rows : List Row) → all ≡ places_from 0 (map insn_row rows) → length all ≡ length rows
-count all rows is = ap length is ∙ places_count 0 (map insn_row rows) ∙ length_map insn_row rows
+count all rows is = ap length is ∙ places_count 0 (map insn_row rows) ∙ length-map rows insn_row
 
 pub code_all : (all : List ℕ) (rows : List Row) (i : ℕ) (before after : List Constant) (code : List (ℕ × Insn)) → length rows ≤ i → all ≡ places_from 0 (map insn_row rows) → GathersCode all rows i before after code
     → Puts (code_room (map insn_row rows)) (HasCode (map insn_row rows)) before after code

@@ -1,24 +1,20 @@
 -- Entering constants into a pool.
-use Rattle.std.proofs.Common.{◌≡◌, ◌∙◌, ap, sym, refl, inl, inr, arith, subst, ◌⊎◌, ◌<◌, ◌^◌, ℕ, zero, suc, ◌+◌, ◌≤◌, List, [], ◌∷◌, ◌++◌, length, Option, Some, None, Result, Ok, Err, length-append, add-one}
+use Rattle.std.proofs.Common.{◌≡◌, ◌∙◌, ap, sym, refl, arith, subst, ℕ, ◌+◌, List, [], ◌∷◌, ◌++◌, length, Option, Some, None, Result, Ok, Err, length-append}
 use Rattle.std.proofs.lemmas.Bool.{false≢true}
-use Rattle.std.specs.Prelude.{IfOk, IsSome, is_some, IsSomeAnd, slice_get, option_and_then, option_map, codes}
+use Rattle.std.specs.Prelude.{IfOk, IsSome, is_some}
 use Rattle.std.specs.List.{AllByRecursion}
 use Rattle.std.specs.declared.alloc.AllocError.{AllocError}
 use Rattle.cb_text.specs.declared.constant.Constant.{Constant}
 use Rattle.cb_text.specs.declared.constant.Constant.TheVariants as constants
-use Rattle.cb_text.specs.Text.{AreUnits, text_bytes, unit_bytes}
 use Rattle.cb_text.specs.Pool.{AreLaidOut, Fits, HasIndices, IsPool, IsText, IsClass, IsMember, Names, constant_at, with_gap}
 use Rattle.cb_text.proofs.Laws.{added_at, kept_at}
-use Rattle.cb_core.specs.Built.{AreFine, Grows, IsFine}
-use Rattle.cb_core.specs.Entered.{HasRoom, MayEnter, Puts, Stands}
+use Rattle.cb_core.specs.Built.{Grows, IsFine}
+use Rattle.cb_core.specs.Entered.{MayEnter, Puts, Stands}
+use Rattle.cb_core.proofs.LawLists.{all_append}
 use Rattle.cb_core.proofs.Growing.{Keeps, and_some, fine_kept, some_and}
 
--- what holds of each item of two lists holds of each of both, and what follows from it
-pub all_both : {Item : Type 0} (P : Item → Type 0) (front back : List Item) → AllByRecursion P front → AllByRecursion P back → AllByRecursion P (front ++ back)
-all_both P [] back of_front of_back = of_back
-all_both P (first ∷ front) back of_front of_back = (of_front.0, all_both P front back of_front.1 of_back)
-
-pub all_then : {Item : Type 0} (P Q : Item → Type 0) (items : List Item) → ((item : Item) → P item → Q item) → AllByRecursion P items → AllByRecursion Q items
+-- what follows from what holds of each item holds of each
+all_then : {Item : Type 0} (P Q : Item → Type 0) (items : List Item) → ((item : Item) → P item → Q item) → AllByRecursion P items → AllByRecursion Q items
 all_then P Q [] then all = tt
 all_then P Q (first ∷ items) then all = (then first all.0, all_then P Q items then all.1)
 
@@ -63,9 +59,9 @@ pooled : (pool : List Constant) (constant : Constant) → IsPool pool → MayEnt
 pooled pool constant is may = record {
   spelled = refl;
   counted = omega (arith, may.room, length-append pool (constant ∷ []));
-  fit = all_both Fits pool (constant ∷ []) is.fit (may.fits, tt);
+  fit = all_append Fits pool (constant ∷ []) is.fit (may.fits, tt);
   laid_out = laid_both pool (constant ∷ []) is.laid_out may.laid_out;
-  indexed = all_both (HasIndices (pool ++ constant ∷ [])) pool (constant ∷ [])
+  indexed = all_append (HasIndices (pool ++ constant ∷ [])) pool (constant ∷ [])
       (all_then (HasIndices pool) (HasIndices (pool ++ constant ∷ [])) pool (indices_kept pool (constant ∷ [])) is.indexed)
       (indices_kept pool (constant ∷ []) constant may.indexed, tt);
 }
@@ -78,7 +74,7 @@ grown : (pool : List Constant) (constant : Constant) → MayEnter pool constant 
 grown pool constant may = record {
   kept = λ index other here. kept_at pool (constant ∷ []) index other here;
   few = omega (arith, length-append pool (constant ∷ []));
-  fine = λ are. all_both (IsFine (pool ++ constant ∷ [])) pool (constant ∷ [])
+  fine = λ are. all_append (IsFine (pool ++ constant ∷ [])) pool (constant ∷ [])
       (all_then (IsFine pool) (IsFine (pool ++ constant ∷ [])) pool (λ other fine. fine_kept other (keeps_more pool (constant ∷ [])) fine) are)
       (fine_kept constant (keeps_more pool (constant ∷ [])) may.fine, tt);
 }

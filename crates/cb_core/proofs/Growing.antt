@@ -1,15 +1,14 @@
 -- A pool that grows keeps what its indices name.
-use Rattle.std.proofs.Common.{◌≡◌, ◌∙◌, ap, sym, refl, inl, inr, arith, ◌⊎◌, ℕ, ◌+◌, ◌≤◌, List, [], ◌∷◌, ◌++◌, length, Option, Some, None}
-use Rattle.std.specs.Prelude.{IsSomeAnd, option_and_then, option_map, codes}
-use Rattle.std.specs.List.{AllByRecursion}
+use Rattle.std.proofs.Common.{◌≡◌, ◌∙◌, ap, sym, refl, inl, inr, arith, ℕ, ◌+◌, ◌≤◌, List, Option, Some, None}
+use Rattle.std.specs.Prelude.{IsSomeAnd, option_and_then, option_map}
 use Rattle.cb_text.specs.declared.constant.Constant.{Constant}
 use Rattle.cb_text.specs.declared.constant.Constant.TheVariants as constants
 use Rattle.cb_text.specs.declared.naming.MemberKind.{MemberKind}
 use Rattle.cb_text.specs.Naming.{MemberNames, units_of, text_at, name_of_class, class_at, text_of_string, string_at, name_and_type_of, texts_at, name_and_type_at, member_of, member_from, member_at}
 use Rattle.cb_text.specs.Pool.{constant_at}
 use Rattle.cb_classfile.specs.declared.feature.Feature.{Feature}
-use Rattle.cb_classfile.specs.Pool.{HasText, HasMember, MemberIs, NamesField, NamesMethod, NamesClassMethod, GivesNothing, IsNamed}
-use Rattle.cb_classfile.specs.Profile.{class_item, descriptor_item, descriptor_item_at, constant_item}
+use Rattle.cb_classfile.specs.Pool.{HasText, HasMember, MemberIs, NamesField, NamesMethod, NamesClassMethod, GivesNothing}
+use Rattle.cb_classfile.specs.Profile.{class_item, descriptor_item}
 use Rattle.cb_core.specs.Built.{Grows, IsFine}
 
 -- what stood at an index stands there still

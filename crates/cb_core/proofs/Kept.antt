@@ -11,9 +11,10 @@ use Rattle.cb_classfile.specs.declared.frame_map.MapFrame.{MapFrame}
 use Rattle.cb_classfile.specs.declared.map_type.MapType.{MapType}
 use Rattle.cb_classfile.specs.declared.map_type.MapType.TheVariants as types
 use Rattle.cb_classfile.specs.declared.method.Method.{Method}
-use Rattle.cb_classfile.specs.Library.{IsObjectOf, SaysBody, SaysField, SaysFrame, SaysFrames, SaysInsn, SaysKind, SaysMethod, SaysSuperclass, place_behind}
+use Rattle.cb_classfile.specs.Library.{IsObjectOf, SaysBody, SaysField, SaysFrame, SaysFrames, SaysInsn, SaysKind, SaysSuperclass, place_behind}
 use Rattle.cb_core.specs.Entered.{HasMethod, IsClassOf, Puts}
-use Rattle.cb_core.proofs.Building.{Stays, zip_then}
+use Rattle.cb_core.proofs.Building.{Stays}
+use Rattle.cb_core.proofs.Zipped.{zip_each}
 use Rattle.cb_core.proofs.Growing.{Keeps, class_kept, member_kept, string_kept, text_kept}
 
 pub class_stays : Stays (λ pool name index. class_at pool index ≡ Some name)
@@ -51,13 +52,13 @@ field_stays = record { kept = λ before after row field keeps says. field_kept r
 pub code_kept : {before after : List Constant} (places : List ℕ) (code : List rows.Instruction) (insns : List (ℕ × Insn)) → Keeps before after
     → AllZip (λ row placed. SaysInsn before places row placed.1) code insns → AllZip (λ row placed. SaysInsn after places row placed.1) code insns
 code_kept {before} {after} places code insns keeps says =
-    zip_then (λ row placed. SaysInsn before places row placed.1) (λ row placed. SaysInsn after places row placed.1) code insns (λ row placed said. insn_kept places row placed.1 keeps said) says
+    zip_each (λ row placed. SaysInsn before places row placed.1) (λ row placed. SaysInsn after places row placed.1) (λ row placed said. insn_kept places row placed.1 keeps said) code insns says
 
 frame_kept : {before after : List Constant} (places : List ℕ) (previous : Option ℕ) (row : rows.Frame) (frame : MapFrame) → Keeps before after → SaysFrame before places previous row frame → SaysFrame after places previous row frame
 frame_kept {before} {after} places previous row frame keeps says = record {
   full = says.full;
   place = says.place;
-  locals = zip_then (IsObjectOf before) (IsObjectOf after) row.locals frame.locals (λ class local is. object_kept class local keeps is) says.locals;
+  locals = zip_each (IsObjectOf before) (IsObjectOf after) (λ class local is. object_kept class local keeps is) row.locals frame.locals says.locals;
   stack = says.stack;
 }
 

@@ -18,7 +18,8 @@ use Rattle.cb_core.specs.Sound.{IsSoundBody, IsSoundInsn}
 use Rattle.cb_core.proofs.LawCode.{code_written, places_near}
 use Rattle.cb_core.proofs.LawFrames.{frames_fine}
 use Rattle.cb_core.proofs.LawInsns.{IsFineInsn, insn_fine}
-use Rattle.cb_core.proofs.LawLists.{all_append, all_map, zip_each}
+use Rattle.cb_core.proofs.LawLists.{all_append, all_map}
+use Rattle.cb_core.proofs.Zipped.{zip_of}
 
 -- the pool has the names of the two attributes
 pub record HasNames (pool : List Constant) : Type 0 where
@@ -36,7 +37,7 @@ body_fine pool row body names sound says laid =
     let count = length row.code in
     let near : (number place : ℕ) → slice_get (places body.code) number ≡ Some place → place < 2 ^ 15 = λ number place found. omega (arith, sound.few, places_near 0 row.code number place (subst (λ all. slice_get all number ≡ Some place) laid found)) in
     let written = code_written pool (places body.code) count 0 row.code body.code names.is near (omega (arith, sound.few)) sound.code says.code laid in
-    let fine : AllByRecursion (λ placed. IsFineInsn pool (places body.code) placed.1) body.code = zip_each (λ insn placed. SaysInsn pool (places body.code) insn placed.1) (IsSoundInsn count) (λ placed. IsFineInsn pool (places body.code) placed.1) (λ insn placed. insn_fine pool (places body.code) count insn placed.1) row.code body.code sound.code says.code in
+    let fine : AllByRecursion (λ placed. IsFineInsn pool (places body.code) placed.1) body.code = zip_of (IsSoundInsn count) (λ insn placed. SaysInsn pool (places body.code) insn placed.1) (λ placed. IsFineInsn pool (places body.code) placed.1) (λ insn placed. insn_fine pool (places body.code) count insn placed.1) row.code body.code sound.code says.code in
     let frames = frames_fine pool (places body.code) count row.frames body.frames names.is near sound.one_frame sound.frames says.frames in
     let size = length (code_bytes body.code) in
     record {

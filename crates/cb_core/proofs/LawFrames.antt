@@ -15,7 +15,8 @@ use Rattle.cb_classfile.specs.Tables.{table_bytes, u2}
 use Rattle.cb_classfile.proofs.Laws.{HasSpelling, IsTable, frames_size, table_has}
 use Rattle.cb_core.specs.Sound.{IsSoundClassName, IsSoundFrame}
 use Rattle.cb_core.proofs.LawItems.{none_first}
-use Rattle.cb_core.proofs.LawLists.{all_append, all_map, zip_each}
+use Rattle.cb_core.proofs.LawLists.{all_append, all_map}
+use Rattle.cb_core.proofs.Zipped.{zip_of}
 use Rattle.cb_core.proofs.LawPool.{class_fits}
 
 -- the object of a local
@@ -49,10 +50,10 @@ full_bytes frame is = ap (λ kind. kind ∷ delta_bytes (form_of_frame kind) fra
 frame_fine : (pool : List Constant) (places : List ℕ) (count : ℕ) (row : rows.Frame) (frame : MapFrame) → IsPool pool → ((number place : ℕ) → slice_get places number ≡ Some place → place < 2 ^ 15) → IsSoundFrame count row → SaysFrame pool places None row frame → IsFineFrame pool frame
 frame_fine pool places count row frame is near sound says =
     let long : length frame.locals ≡ length row.locals = AllZip-long (IsObjectOf pool) row.locals frame.locals says.locals in
-    let locals = table_has (SpellsType pool) frame.locals (record { few = omega (arith, long, sound.few); each = zip_each (IsObjectOf pool) IsSoundClassName (HasSpelling (SpellsType pool)) (type_spelled pool is) row.locals frame.locals sound.locals says.locals }) in
+    let locals = table_has (SpellsType pool) frame.locals (record { few = omega (arith, long, sound.few); each = zip_of IsSoundClassName (IsObjectOf pool) (HasSpelling (SpellsType pool)) (type_spelled pool is) row.locals frame.locals sound.locals says.locals }) in
     let stack = table_has (SpellsType pool) frame.stack (subst (IsTable (SpellsType pool)) (sym says.stack) (record { few = omega arith; each = tt })) in
     let delta : frame.delta < 2 ^ 15 = near row.at frame.delta says.place in
-    let locals_item : AllByRecursion (λ kind. type_item kind ≡ None) frame.locals = zip_each (IsObjectOf pool) IsSoundClassName (λ kind. type_item kind ≡ None) (type_kept pool) row.locals frame.locals sound.locals says.locals in
+    let locals_item : AllByRecursion (λ kind. type_item kind ≡ None) frame.locals = zip_of IsSoundClassName (IsObjectOf pool) (λ kind. type_item kind ≡ None) (type_kept pool) row.locals frame.locals sound.locals says.locals in
     let stack_item : AllByRecursion (λ kind. type_item kind ≡ None) frame.stack = subst (AllByRecursion (λ kind. type_item kind ≡ None)) (sym says.stack) tt in
     record {
       spelled = record {

@@ -20,13 +20,6 @@ pub all_filter : {X : Type 0} (P : X → Type 0) (keep : X → Bool) (items : Li
 all_filter P keep [] all = tt
 all_filter P keep (item ∷ items) all = kept_or_not P item (filter keep items) (keep item) all.0 (all_filter P keep items all.1)
 
--- what the items of one list say of those of another
-pub zip_each : {X Y : Type 0} (R : X → Y → Type 0) (P : X → Type 0) (Q : Y → Type 0) → ((one : X) (other : Y) → P one → R one other → Q other) → (ones : List X) (others : List Y) → AllByRecursion P ones → AllZip R ones others → AllByRecursion Q others
-zip_each R P Q each [] [] all zipped = tt
-zip_each R P Q each [] (other ∷ others) all zipped = absurd zipped
-zip_each R P Q each (one ∷ ones) [] all zipped = absurd zipped
-zip_each R P Q each (one ∷ ones) (other ∷ others) all zipped = (each one other all.0 zipped.0, zip_each R P Q each ones others all.1 zipped.1)
-
 pub zip_both : {X Y : Type 0} (R S T : X → Y → Type 0) → ((one : X) (other : Y) → R one other → S one other → T one other) → (ones : List X) (others : List Y) → AllZip R ones others → AllZip S ones others → AllZip T ones others
 zip_both R S T each [] [] zipped more = tt
 zip_both R S T each [] (other ∷ others) zipped more = absurd zipped

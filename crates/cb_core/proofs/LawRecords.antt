@@ -18,7 +18,8 @@ use Rattle.cb_core.specs.Sound.{IsSound, IsSoundClassName, IsSoundField, IsSound
 use Rattle.cb_core.proofs.LawBodies.{HasNames}
 use Rattle.cb_core.proofs.LawClasses.{class_rules, superclass_fits}
 use Rattle.cb_core.proofs.LawItems.{none_first}
-use Rattle.cb_core.proofs.LawLists.{all_append, all_filter, all_map, zip_both, zip_each}
+use Rattle.cb_core.proofs.LawLists.{all_append, all_filter, all_map, zip_both}
+use Rattle.cb_core.proofs.Zipped.{zip_of}
 use Rattle.cb_core.proofs.LawMembers.{IsFineField, IsFineMethod, field_fine, has_some, method_fine}
 use Rattle.cb_core.proofs.LawPool.{class_fits}
 
@@ -38,7 +39,7 @@ names_of row class built = record {
 -- the fields and the methods are formed
 fields_fine : (row : CoreClass) (class : ClassFile) → IsSound row → IsBuilt row class → AllByRecursion (IsFineField class.pool) class.fields
 fields_fine row class sound built =
-    zip_each (SaysField class.pool) IsSoundField (IsFineField class.pool) (field_fine class.pool built.pool) row.fields class.fields sound.fields built.said.fields
+    zip_of IsSoundField (SaysField class.pool) (IsFineField class.pool) (field_fine class.pool built.pool) row.fields class.fields sound.fields built.said.fields
 
 -- what a row says of a method and how its instructions stand
 record IsWritten (pool : List Constant) (row : rows.Method) (method : Method) : Type 0 where
@@ -48,7 +49,7 @@ record IsWritten (pool : List Constant) (row : rows.Method) (method : Method) : 
 methods_fine : (row : CoreClass) (class : ClassFile) → IsSound row → IsBuilt row class → AllByRecursion (IsFineMethod class.pool) class.methods
 methods_fine row class sound built =
     let written : AllZip (IsWritten class.pool) row.methods class.methods = zip_both (SaysMethod class.pool) (λ row method. IsLaidOut row.kind method.body) (IsWritten class.pool) (λ row method says laid. record { says = says; laid = laid }) row.methods class.methods built.said.methods built.laid_out in
-    zip_each (IsWritten class.pool) IsSoundMethod (IsFineMethod class.pool) (λ row method sound written. method_fine class.pool (names_of _ class built) row method sound written.says written.laid) row.methods class.methods sound.methods written
+    zip_of IsSoundMethod (IsWritten class.pool) (IsFineMethod class.pool) (λ row method sound written. method_fine class.pool (names_of _ class built) row method sound written.says written.laid) row.methods class.methods sound.methods written
 
 parts : (row : CoreClass) (class : ClassFile) → IsSound row → IsBuilt row class → HasParts class
 parts row class sound built =
@@ -67,7 +68,7 @@ parts row class sound built =
       this_class = class_fits pool class.this_class row.name built.pool said.name;
       super_class = superclass_fits pool row.superclass class.super_class built.pool said.superclass;
       interfaces_few = omega (arith, interfaces, sound.room);
-      interfaces = zip_each (λ name index. class_at pool index ≡ Some name) IsSoundClassName (IsInterface pool) (λ name index sound is. record { fits = class_fits pool index name built.pool is; named = has_some IsClassName (class_at pool index) name is sound.is }) row.interfaces class.interfaces sound.interfaces said.interfaces;
+      interfaces = zip_of IsSoundClassName (λ name index. class_at pool index ≡ Some name) (IsInterface pool) (λ name index sound is. record { fits = class_fits pool index name built.pool is; named = has_some IsClassName (class_at pool index) name is sound.is }) row.interfaces class.interfaces sound.interfaces said.interfaces;
       fields_few = omega (arith, fields, sound.room);
       fields = all_each (IsFineField pool) (IsField pool) (λ field fine. fine.is) class.fields (fields_fine row class sound built);
       methods_few = omega (arith, methods, sound.room, methods_room_some row.methods);

@@ -23,3 +23,4 @@ pub mod Kept
 pub mod Placed
 pub mod Coded
 pub mod Bodied
+pub mod Zipped

@@ -1,20 +1,19 @@
 -- What each function that enters constants needs, and what its index then names.
-use Rattle.std.proofs.Common.{◌≡◌, ◌≢◌, ◌∙◌, ap, sym, refl, inl, inr, arith, subst, ◌⊎◌, ◌<◌, ◌^◌, ℕ, zero, suc, ◌+◌, ◌≤◌, true, List, [], ◌∷◌, ◌++◌, length, Option, Some, None, Result, Ok, Err, nat_lt, nat_le}
-use Rattle.std.specs.Prelude.{IfOk, IsSomeAnd, slice_get, option_and_then, option_map, codes}
+use Rattle.std.proofs.Common.{◌≡◌, ◌∙◌, ap, sym, refl, inl, inr, arith, subst, ◌⊎◌, ◌<◌, ℕ, zero, suc, ◌≤◌, true, List, [], ◌∷◌, length, Some, Result, Ok, Err, nat_lt, nat_le}
+use Rattle.std.specs.Prelude.{IfOk, slice_get, option_and_then, option_map, codes}
 use Rattle.std.specs.List.{AllByRecursion}
 use Rattle.std.proofs.lemmas.Bool.Decides.{nat_tests}
 use Rattle.cb_text.specs.declared.constant.Constant.{Constant}
 use Rattle.cb_text.specs.declared.constant.Constant.TheVariants as constants
 use Rattle.cb_text.specs.declared.naming.MemberKind.{MemberKind}
 use Rattle.cb_text.specs.declared.naming.MemberKind.TheVariants as kinds
-use Rattle.cb_text.specs.Naming.{MemberNames, units_of, text_at, name_of_class, class_at, text_of_string, string_at, name_and_type_of, texts_at, name_and_type_at, member_of, member_from, member_at}
+use Rattle.cb_text.specs.Naming.{units_of, text_at, name_of_class, class_at, text_of_string, name_and_type_of, texts_at, name_and_type_at, member_of, member_from, member_at}
 use Rattle.cb_text.specs.Text.{AreUnits, text_bytes, unit_bytes}
-use Rattle.cb_text.specs.Pool.{Fits, IsText, IsClass, IsMember, Names, constant_at}
+use Rattle.cb_text.specs.Pool.{IsText, IsClass, IsMember, Names, constant_at}
 use Rattle.cb_names.specs.Names.{IsClassName, IsMethodName, IsUnqualifiedName}
 use Rattle.cb_names.specs.Descriptors.{IsArrayDescriptor, IsFieldDescriptor}
-use Rattle.cb_classfile.specs.Pool.{HasText, HasMember, MemberIs, NamesField, NamesMethod, NamesClassMethod, GivesNothing, IsAnyMethodDescriptor}
+use Rattle.cb_classfile.specs.Pool.{HasMember, MemberIs, NamesField, NamesMethod, NamesClassMethod, GivesNothing, IsAnyMethodDescriptor}
 use Rattle.cb_classfile.specs.Profile.{class_item, descriptor_item}
-use Rattle.cb_core.specs.Built.{Grows, IsFine}
 use Rattle.cb_core.specs.Entered.{HasRoom, IsCallable, IsClassOf, IsFieldOf, IsMethodOf, IsNameAndType, IsStringOf, IsTextOf, MayEnter, MayName, Puts, Stands}
 use Rattle.cb_core.specs.Sound.{IsShort, IsSoundClassName, IsSoundFieldName, IsSoundFieldDescriptor}
 use Rattle.cb_core.proofs.Growing.{Keeps, and_some, and_then_some, class_kept, grows_both, keeps_of, made, text_kept}
@@ -218,11 +217,14 @@ may_method before middle pool class name descriptor holder member room may first
       laid_out = tt;
       fits = (omega (arith, class_within pool holder class held, room, first.grows.few, then.grows.few), omega (arith, index_within pool member _ then.says.stands, room, first.grows.few, then.grows.few));
       indexed = (names_class pool holder class held, names_member pool name descriptor member then.says);
-      fine = (has_member pool name descriptor member (NamesClassMethod pool) is (record {
-        method = (and_some _ _ name is.named may.named.is, and_some _ _ descriptor is.described (may.described.words, may.described.is));
-        no_initialiser = λ other. let same : Some name ≡ Some (codes "<clinit>") = sym is.named ∙ other in let text : name ≡ codes "<clinit>" = cc in may.named.no_initialiser text;
-        constructor = λ other. let same : Some name ≡ Some (codes "<init>") = sym is.named ∙ other in let text : name ≡ codes "<init>" = cc in and_some GivesNothing _ descriptor is.described (may.constructor text);
-      }), refl);
+      fine = (
+        has_member pool name descriptor member (NamesClassMethod pool) is (record {
+          method = (and_some _ _ name is.named may.named.is, and_some _ _ descriptor is.described (may.described.words, may.described.is));
+          no_initialiser = λ other. let same : Some name ≡ Some (codes "<clinit>") = sym is.named ∙ other in let text : name ≡ codes "<clinit>" = cc in may.named.no_initialiser text;
+          constructor = λ other. let same : Some name ≡ Some (codes "<init>") = sym is.named ∙ other in let text : name ≡ codes "<init>" = cc in and_some GivesNothing _ descriptor is.described (may.constructor text);
+        }),
+        refl,
+      );
     }
 
 pub field_put : (before middle pool after : List Constant) (class name descriptor : List ℕ) (holder member index : ℕ)

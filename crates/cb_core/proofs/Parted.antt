@@ -6,16 +6,13 @@ use Rattle.std.proofs.lemmas.List.{append_assoc, map-append, take_more}
 use denote.Ref.{Bor}
 use Rattle.cb_classfile.specs.declared.class.ClassFile.{ClassFile}
 use Rattle.cb_core.specs.declared.row.CoreClass.{CoreClass}
-use Rattle.cb_core.specs.declared.rows.TheConstants.{BOXES, MATH_ENUM_AND_OBJECTS, OBJECT_AND_INTERFACES, STRINGS, SYSTEM}
-use Rattle.cb_core.specs.declared.throwables.TheConstants.{ERRORS, OTHER_EXCEPTIONS, RUNTIME_EXCEPTIONS, TOP_THROWABLES}
 use Rattle.cb_core.specs.Built.{IsBuilt}
 use Rattle.cb_core.specs.Rowed.{class_row, part_rows}
 use Rattle.cb_core.specs.Sound.{IsSound}
 use Rattle.cb_classfile.specs.Library.{AreLibrary, IsReadable, IsRecordOf}
 use Rattle.cb_library.specs.CoreClasses.{core_classes}
 use Rattle.cb_library.specs.Rows.{CoreClass as Row}
-use Rattle.cb_core.proofs.Building.{take_past, zip_more, zip_then}
-use Rattle.cb_core.proofs.LawLists.{zip_each}
+use Rattle.cb_core.proofs.Zipped.{take_past, zip_both, zip_each, zip_of}
 use Rattle.cb_core.proofs.LawRecords.{readable}
 use Rattle.cb_core.proofs.SoundRows.{all_sound}
 
@@ -26,7 +23,7 @@ record_more others rows i d classes class below all here =
     let more : map class_row (take (i + 1) rows) ≡ map class_row (take i rows) ++ class_row (get_or rows i d) ∷ [] = ap (map class_row) (take_more rows i d below) ∙ map-append class_row (take i rows) (get_or rows i d ∷ []) in
     let behind : others ++ map class_row (take (i + 1) rows) ≡ (others ++ map class_row (take i rows)) ++ class_row (get_or rows i d) ∷ [] =
     ap (λ rest. others ++ rest) more ∙ sym (append_assoc others (map class_row (take i rows)) (class_row (get_or rows i d) ∷ [])) in
-    subst (λ front. AllZip IsBuilt front (classes ++ class ∷ [])) (sym behind) (zip_more IsBuilt (others ++ map class_row (take i rows)) classes (class_row (get_or rows i d)) class all here)
+    subst (λ front. AllZip IsBuilt front (classes ++ class ∷ [])) (sym behind) (zip_both IsBuilt (others ++ map class_row (take i rows)) classes (class_row (get_or rows i d)) class all here)
 
 pub records_all : (others : List Row) (rows : List CoreClass) (i : ℕ) (classes : List ClassFile) → length rows ≤ i → AllZip IsBuilt (others ++ map class_row (take i rows)) classes → AllZip IsBuilt (others ++ map class_row rows) classes
 records_all others rows i classes past all = subst (λ front. AllZip IsBuilt (others ++ map class_row front) classes) (take_past rows i past) all
@@ -52,20 +49,12 @@ parts_more parts i d below =
 pub parts_all : (parts : List (Bor (List CoreClass))) (i : ℕ) (classes : List ClassFile) → length parts ≤ i → AllZip IsBuilt (part_rows (take i parts)) classes → AllZip IsBuilt (part_rows parts) classes
 parts_all parts i classes past all = subst (λ front. AllZip IsBuilt (part_rows front) classes) (take_past parts i past) all
 
--- the parts are the table
-abbrev pub parts : List (Bor (List CoreClass))
-parts =
-    OBJECT_AND_INTERFACES ∷ STRINGS ∷ SYSTEM ∷ BOXES ∷ MATH_ENUM_AND_OBJECTS ∷ TOP_THROWABLES ∷ RUNTIME_EXCEPTIONS ∷ OTHER_EXCEPTIONS ∷ ERRORS ∷ []
+-- rows that are the table's are sound, and what is built of them are the library's records, which would be read
+pub rows_sound : (rows : List Row) → rows ≡ core_classes → AllByRecursion IsSound rows
+rows_sound rows same = subst (AllByRecursion IsSound) (sym same) all_sound
 
-pub same_rows : part_rows parts ≡ core_classes
-same_rows = refl
+pub are_library : (rows : List Row) (classes : List ClassFile) → rows ≡ core_classes → AllZip IsBuilt rows classes → AreLibrary classes
+are_library rows classes same built = zip_each IsBuilt IsRecordOf (λ row class is. is.said) core_classes classes (subst (λ rows. AllZip IsBuilt rows classes) same built)
 
-pub rows_sound : AllByRecursion IsSound (part_rows parts)
-rows_sound = subst (AllByRecursion IsSound) (sym same_rows) all_sound
-
--- what is built of the table are the library's records, which would be read
-pub are_library : (classes : List ClassFile) → AllZip IsBuilt (part_rows parts) classes → AreLibrary classes
-are_library classes built = zip_then IsBuilt IsRecordOf core_classes classes (λ row class is. is.said) (subst (λ rows. AllZip IsBuilt rows classes) same_rows built)
-
-pub all_readable : (classes : List ClassFile) → AllZip IsBuilt (part_rows parts) classes → AllByRecursion IsReadable classes
-all_readable classes built = zip_each IsBuilt IsSound IsReadable (λ row class sound is. readable row class sound is) (part_rows parts) classes rows_sound built
+pub all_readable : (rows : List Row) (classes : List ClassFile) → rows ≡ core_classes → AllZip IsBuilt rows classes → AllByRecursion IsReadable classes
+all_readable rows classes same built = zip_of IsSound IsBuilt IsReadable (λ row class sound is. readable row class sound is) rows classes (rows_sound rows same) built

@@ -1,16 +1,12 @@
 -- The places of instructions, one after the other.
-use Rattle.std.proofs.Common.{◌≡◌, ◌∙◌, ap, sym, refl, subst, arith, ℕ, zero, suc, ◌+◌, ◌*◌, ◌<◌, ◌≤◌, ◌^◌, List, [], ◌∷◌, ◌++◌, length, map, take, drop, get_or, Some, add-one}
-use Rattle.std.specs.Prelude.{slice_get}
-use Rattle.std.specs.List.{AllByRecursion, AllZip}
-use Rattle.std.proofs.lemmas.List.{map-append, take_more, length-take}
-use Rattle.cb_text.specs.declared.constant.Constant.{Constant}
-use Rattle.cb_insn.specs.declared.insn.Insn.{Insn}
-use Rattle.cb_insn.specs.Places.{places}
+use Rattle.std.proofs.Common.{◌≡◌, ◌∙◌, ap, sym, refl, subst, arith, ℕ, suc, ◌+◌, ◌*◌, ◌<◌, ◌≤◌, ◌^◌, List, [], ◌∷◌, ◌++◌, length, map, take, get_or}
+use Rattle.std.specs.List.{AllByRecursion}
+use Rattle.std.proofs.lemmas.List.{length-map, length-take, map-append, take_more}
 use Rattle.cb_library.specs.Rows.{Instruction, Plain, Branch, LoadText, OfClass, OfField, OfMethod}
 use Rattle.cb_core.specs.declared.row.Instruction.{Instruction as Row}
 use Rattle.cb_core.specs.Built.{places_from, size_of}
 use Rattle.cb_core.specs.Rowed.{insn_row}
-use Rattle.cb_core.proofs.Building.{take_past}
+use Rattle.cb_core.proofs.Zipped.{take_past}
 
 -- the place behind instructions
 unfoldable pub behind : ℕ → List Instruction → ℕ
@@ -64,19 +60,10 @@ placed_more rows i d found more place size below pushed is so_far =
 pub placed_all : (rows : List Row) (i : ℕ) (found : List ℕ) (place : ℕ) → length rows ≤ i → IsPlaced (map insn_row (take i rows)) found place → found ≡ places_from 0 (map insn_row rows)
 placed_all rows i found place past so_far = so_far.is ∙ ap (λ rows. places_from 0 (map insn_row rows)) (take_past rows i past)
 
-pub length_map : {One Other : Type 0} (f : One → Other) (items : List One) → length (map f items) ≡ length items
-length_map f [] = refl
-length_map f (item ∷ items) = ap suc (length_map f items)
-
-length_front : {Item : Type 0} (items : List Item) (i : ℕ) → length (take i items) ≤ length items
-length_front items zero = omega arith
-length_front [] (suc i) = omega arith
-length_front (item ∷ items) (suc i) = omega (arith, length_front items i)
-
 -- few instructions have places below
 pub place_below : (rows : List Row) (i : ℕ) (found : List ℕ) (place size : ℕ) → length rows ≤ 1000 → size ≤ 3 → IsPlaced (map insn_row (take i rows)) found place → place + size < 2 ^ 16
 place_below rows i found place size few small so_far =
-    omega (arith, behind_small 0 (map insn_row (take i rows)), so_far.next, length_map insn_row (take i rows), length_front rows i, few, small)
+    omega (arith, behind_small 0 (map insn_row (take i rows)), so_far.next, length-map (take i rows) insn_row, length-take i rows, few, small)
 
 pub small_of : (row : Row) (size : ℕ) → size ≡ size_of (insn_row row) → size ≤ 3
 small_of row size is = omega (arith, is, size_small (insn_row row))

@@ -14,6 +14,7 @@ use std::alloc::Global;
 
 /// How many bytes an opcode takes, and one with an index or an offset of two bytes.
 const ALONE: u32 = 1;
+
 const WITH_TWO_BYTES: u32 = 3;
 
 /// How many bytes an instruction takes.

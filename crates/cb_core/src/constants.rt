@@ -13,6 +13,7 @@ fn enter(pool: &mut Pool, constant: Constant) -> Result<u16, OutOfMemory>
     ensures put { IfOk result (Puts 1 (Stands constant) pool.old pool.new) }
     ensures next { IfOk result (λ index. index ≡ length pool.old + 1) }
 {
+    // What stands there is a pool, so it is one with the constant behind it too.
     let _ = pool.constants();
     pool.push(constant)
 }

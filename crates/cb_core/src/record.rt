@@ -53,11 +53,7 @@ fn new_pool(alloc: Global) -> Result<Pool, OutOfMemory>
 }
 
 /// The index of the superclass, or 0 for none.
-fn superclass_of(
-    alloc: Global,
-    pool: &mut Pool,
-    name: &Option<&str>,
-) -> Result<u16, OutOfMemory>
+fn superclass_of(alloc: Global, pool: &mut Pool, name: &Option<&str>) -> Result<u16, OutOfMemory>
     requires room { HasRoom 2 pool.old }
     requires sound { IfSome (option_map (λ name. name.now) name.now) IsSoundClassName }
     ensures { IfOk result (Puts 2 (λ pool index. SaysSuperclass pool (option_map (λ name. name.now) name.now) index) pool.old pool.new) }
@@ -69,11 +65,7 @@ fn superclass_of(
 }
 
 /// The indices of interfaces.
-fn interfaces_of(
-    alloc: Global,
-    pool: &mut Pool,
-    names: &[&str],
-) -> Result<Numbers, OutOfMemory>
+fn interfaces_of(alloc: Global, pool: &mut Pool, names: &[&str]) -> Result<Numbers, OutOfMemory>
     requires room { HasRoom (2 * length names.now) pool.old }
     requires sound { AllByRecursion IsSoundClassName (map (λ name. name.now) names.now) }
     ensures { IfOk result (Puts (2 * length names.now)

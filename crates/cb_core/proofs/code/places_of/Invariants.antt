@@ -1,5 +1,4 @@
-use Rattle.std.proofs.Common.{◌≡◌, map, take}
-use Rattle.cb_core.specs.Built.{places_from}
+use Rattle.std.proofs.Common.{map, take}
 use Rattle.cb_core.specs.Rowed.{insn_row}
 use Rattle.cb_core.proofs.Placed.{IsPlaced}
 use Rattle.cb_core.proofs.code.places_of.Given as goal
