@@ -1,5 +1,5 @@
-// The table, in parts.
-ghost use Rattle.std.specs.Prelude.{◌≡◌, ◌++◌, IfOk, OnOk, drop, flat_map, map, take};
+// The table, in parts: one constant of all fifty classes is more than a check takes.
+ghost use Rattle.std.specs.Prelude.{◌≡◌, ◌++◌, IfOk, OnOk, flat_map, map};
 ghost use Rattle.cb_core.specs.Rowed.{class_row};
 ghost use Rattle.cb_library.specs.CoreClasses.{core_classes};
 
@@ -47,91 +47,7 @@ pub(crate) const BOXES: &[CoreClass] = &[
 
 pub(crate) const MATH_ENUM_AND_OBJECTS: &[CoreClass] = &[MATH_CLASS, ENUM_CLASS, OBJECTS_CLASS];
 
-/// The rows.
-pub(crate) fn object_and_interfaces() -> &'static [CoreClass]
-    ensures { map class_row result.now ≡ take 8 core_classes }
-{
-    OBJECT_AND_INTERFACES
-}
-
-/// The rows.
-pub(crate) fn strings() -> &'static [CoreClass]
-    ensures { map class_row result.now ≡ take 2 (drop 8 core_classes) }
-{
-    STRINGS
-}
-
-/// The rows.
-pub(crate) fn system() -> &'static [CoreClass]
-    ensures { map class_row result.now ≡ take 4 (drop 10 core_classes) }
-{
-    SYSTEM
-}
-
-/// The rows.
-pub(crate) fn box_rows() -> &'static [CoreClass]
-    ensures { map class_row result.now ≡ take 5 (drop 14 core_classes) }
-{
-    BOXES
-}
-
-/// The rows.
-pub(crate) fn math_enum_and_objects() -> &'static [CoreClass]
-    ensures { map class_row result.now ≡ take 3 (drop 19 core_classes) }
-{
-    MATH_ENUM_AND_OBJECTS
-}
-
-/// The rows.
-pub(crate) fn top_throwables() -> &'static [CoreClass]
-    ensures { map class_row result.now ≡ take 4 (drop 22 core_classes) }
-{
-    TOP_THROWABLES
-}
-
-/// The rows.
-pub(crate) fn runtime_exceptions() -> &'static [CoreClass]
-    ensures { map class_row result.now ≡ take 12 (drop 26 core_classes) }
-{
-    RUNTIME_EXCEPTIONS
-}
-
-/// The rows.
-pub(crate) fn other_exceptions() -> &'static [CoreClass]
-    ensures { map class_row result.now ≡ take 3 (drop 38 core_classes) }
-{
-    OTHER_EXCEPTIONS
-}
-
-/// The rows.
-pub(crate) fn errors() -> &'static [CoreClass]
-    ensures { map class_row result.now ≡ drop 41 core_classes }
-{
-    ERRORS
-}
-
-/// Adds the rows of a part.
-fn add(rows: &mut Vec<CoreClass>, part: &[CoreClass]) -> Result<(), OutOfMemory>
-    ensures { OnOk result (rows.new.items ≡ rows.old.items ++ part.now) }
-{
-    for row in part {
-        rows.push(*row)?;
-    }
-    Ok(())
-}
-
-/// The rows of parts, in one list.
-fn joined(alloc: Global, parts: [&'static [CoreClass]; 9]) -> Result<Vec<CoreClass>, OutOfMemory>
-    ensures { IfOk result (λ rows. rows.items ≡ flat_map (λ part. part.now) parts.entry) }
-{
-    let mut rows = Vec::new(alloc);
-    for part in parts {
-        add(&mut rows, part)?;
-    }
-    Ok(rows)
-}
-
-/// The rows.
+/// The rows of the library's classes, in the order of their numbers, 0 to 49.
 pub(crate) fn core_rows(alloc: Global) -> Result<Vec<CoreClass>, OutOfMemory>
     ensures { IfOk result (λ rows. map class_row rows.items ≡ core_classes) }
 {
@@ -146,4 +62,25 @@ pub(crate) fn core_rows(alloc: Global) -> Result<Vec<CoreClass>, OutOfMemory>
         OTHER_EXCEPTIONS,
         ERRORS,
     ])
+}
+
+/// Adds rows behind others.
+fn add(rows: &mut Vec<CoreClass>, more: &[CoreClass]) -> Result<(), OutOfMemory>
+    ensures { OnOk result (rows.new.items ≡ rows.old.items ++ more.now) }
+{
+    for row in more {
+        rows.push(*row)?;
+    }
+    Ok(())
+}
+
+/// The rows of parts, in one list.
+fn joined<const N: usize>(alloc: Global, parts: [&[CoreClass]; N]) -> Result<Vec<CoreClass>, OutOfMemory>
+    ensures { IfOk result (λ rows. rows.items ≡ flat_map (λ part. part.now) parts.entry) }
+{
+    let mut rows = Vec::new(alloc);
+    for part in parts {
+        add(&mut rows, part)?;
+    }
+    Ok(rows)
 }
