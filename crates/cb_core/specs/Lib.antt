@@ -1,4 +1,5 @@
 pub mod Built
+pub mod Entered
 pub mod Rowed
 pub mod Sound
 -- what the public clauses cite of the crates below

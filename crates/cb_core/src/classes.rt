@@ -1,8 +1,13 @@
 // The records of the library's classes.
-ghost use Rattle.std.specs.Prelude.{IfOk};
-ghost use Rattle.std.specs.List.{AllByRecursion};
+ghost use Rattle.std.specs.Prelude.{IfOk, map};
+ghost use Rattle.std.specs.List.{AllByRecursion, AllZip};
 ghost use Rattle.cb_classfile.specs.Library.{AreLibrary, IsReadable};
+ghost use Rattle.cb_core.specs.Built.{IsBuilt};
+ghost use Rattle.cb_core.specs.Rowed.{class_row};
+ghost use Rattle.cb_core.specs.Sound.{IsSound};
 
+use crate::record::record;
+use crate::row::CoreClass;
 use cb_classfile::Classes;
 use cb_plain::OutOfMemory;
 use std::alloc::{AllocError, Global};
@@ -15,4 +20,16 @@ pub fn core_classes(_: Global) -> Result<Classes, OutOfMemory>
     ensures readable { IfOk result (AllByRecursion IsReadable) }
 {
     Err(AllocError)
+}
+
+/// The records of rows.
+pub(crate) fn records_of(alloc: Global, rows: &[CoreClass]) -> Result<Classes, OutOfMemory>
+    requires { AllByRecursion IsSound (map class_row rows.now) }
+    ensures { IfOk result (AllZip IsBuilt (map class_row rows.now)) }
+{
+    let mut classes = Classes::with_capacity(alloc, rows.len())?;
+    for row in rows {
+        classes.push(record(alloc, row)?)?;
+    }
+    Ok(classes)
 }

@@ -5,15 +5,23 @@
 //! named for the table's), and the check compares the two. `record` makes a class record of a row.
 #![tactic(auto)]
 
+mod body;
 mod boxes;
 mod classes;
+mod code;
+mod constants;
 mod flags;
+mod frame;
+mod insn;
 mod instructions;
 mod lang;
+mod members;
 mod names;
 mod record;
 mod row;
 mod rows;
+#[cfg(test)]
+mod tests;
 mod text;
 mod throwables;
 mod words;

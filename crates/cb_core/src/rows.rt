@@ -3,9 +3,7 @@ ghost use Rattle.std.specs.Prelude.{◌≡◌, ◌++◌, IfOk, OnOk, flat_map, m
 ghost use Rattle.cb_core.specs.Rowed.{class_row};
 ghost use Rattle.cb_library.specs.CoreClasses.{core_classes};
 
-use crate::boxes::{
-    BOOLEAN_CLASS, CHARACTER_CLASS, INTEGER_CLASS, LONG_CLASS, NUMBER_CLASS,
-};
+use crate::boxes::{BOOLEAN_CLASS, CHARACTER_CLASS, INTEGER_CLASS, LONG_CLASS, NUMBER_CLASS};
 use crate::lang::{
     AUTO_CLOSEABLE_INTERFACE, CHAR_SEQUENCE_INTERFACE, CLASS_CLASS, CLONEABLE_INTERFACE,
     COMPARABLE_INTERFACE, ENUM_CLASS, ITERABLE_INTERFACE, ITERATOR_INTERFACE, MATH_CLASS,
@@ -51,17 +49,20 @@ pub(crate) const MATH_ENUM_AND_OBJECTS: &[CoreClass] = &[MATH_CLASS, ENUM_CLASS,
 pub(crate) fn core_rows(alloc: Global) -> Result<Vec<CoreClass>, OutOfMemory>
     ensures { IfOk result (λ rows. map class_row rows.items ≡ core_classes) }
 {
-    joined(alloc, [
-        OBJECT_AND_INTERFACES,
-        STRINGS,
-        SYSTEM,
-        BOXES,
-        MATH_ENUM_AND_OBJECTS,
-        TOP_THROWABLES,
-        RUNTIME_EXCEPTIONS,
-        OTHER_EXCEPTIONS,
-        ERRORS,
-    ])
+    joined(
+        alloc,
+        [
+            OBJECT_AND_INTERFACES,
+            STRINGS,
+            SYSTEM,
+            BOXES,
+            MATH_ENUM_AND_OBJECTS,
+            TOP_THROWABLES,
+            RUNTIME_EXCEPTIONS,
+            OTHER_EXCEPTIONS,
+            ERRORS,
+        ],
+    )
 }
 
 /// Adds rows behind others.
@@ -75,7 +76,7 @@ fn add(rows: &mut Vec<CoreClass>, more: &[CoreClass]) -> Result<(), OutOfMemory>
 }
 
 /// The rows of parts, in one list.
-fn joined<const N: usize>(alloc: Global, parts: [&[CoreClass]; N]) -> Result<Vec<CoreClass>, OutOfMemory>
+fn joined(alloc: Global, parts: [&'static [CoreClass]; 9]) -> Result<Vec<CoreClass>, OutOfMemory>
     ensures { IfOk result (λ rows. rows.items ≡ flat_map (λ part. part.now) parts.entry) }
 {
     let mut rows = Vec::new(alloc);

@@ -1,6 +1,7 @@
 // The top call over objects in memory.
 mod asm;
 mod faults;
+mod library;
 mod list;
 mod run;
 mod words;
