@@ -3,16 +3,27 @@ use crate::row::Instruction;
 use cb_insn::opcode;
 
 pub(crate) const ALOAD_0: Instruction = Instruction::Plain(opcode::ALOAD_0);
+
 pub(crate) const ALOAD_1: Instruction = Instruction::Plain(opcode::ALOAD_1);
+
 pub(crate) const ALOAD_2: Instruction = Instruction::Plain(opcode::ALOAD_2);
+
 pub(crate) const ILOAD_2: Instruction = Instruction::Plain(opcode::ILOAD_2);
+
 pub(crate) const ACONST_NULL: Instruction = Instruction::Plain(opcode::ACONST_NULL);
+
 pub(crate) const ICONST_0: Instruction = Instruction::Plain(opcode::ICONST_0);
+
 pub(crate) const DUP: Instruction = Instruction::Plain(opcode::DUP);
+
 pub(crate) const ARRAYLENGTH: Instruction = Instruction::Plain(opcode::ARRAYLENGTH);
+
 pub(crate) const ARETURN: Instruction = Instruction::Plain(opcode::ARETURN);
+
 pub(crate) const IRETURN: Instruction = Instruction::Plain(opcode::IRETURN);
+
 pub(crate) const RETURN: Instruction = Instruction::Plain(opcode::RETURN);
+
 pub(crate) const ATHROW: Instruction = Instruction::Plain(opcode::ATHROW);
 
 // Branches, by the number of the instruction that they go to.
@@ -94,21 +105,26 @@ macro_rules! invokestatic {
 // The body of `compareTo(Object)` of a class that is Comparable with itself: it casts and calls.
 macro_rules! compares {
     ($class:expr, $descriptor:expr) => {
-        $crate::words::runs!(
-            2,
-            2,
-            [
-                $crate::instructions::ALOAD_0,
-                $crate::instructions::ALOAD_1,
-                $crate::instructions::checkcast!($class),
-                $crate::instructions::invokevirtual!($class, "compareTo", $descriptor),
-                $crate::instructions::IRETURN,
-            ]
-        )
+        $crate::words::runs!(2, 2; [
+            $crate::instructions::ALOAD_0,
+            $crate::instructions::ALOAD_1,
+            $crate::instructions::checkcast!($class),
+            $crate::instructions::invokevirtual!($class, "compareTo", $descriptor),
+            $crate::instructions::IRETURN,
+        ])
     };
 }
 
-pub(crate) use {
-    checkcast, compares, getfield, ifeq, ifnonnull, ifnull, instanceof, invokespecial,
-    invokestatic, invokevirtual, ldc, new, putfield,
-};
+pub(crate) use checkcast;
+pub(crate) use compares;
+pub(crate) use getfield;
+pub(crate) use ifeq;
+pub(crate) use ifnonnull;
+pub(crate) use ifnull;
+pub(crate) use instanceof;
+pub(crate) use invokespecial;
+pub(crate) use invokestatic;
+pub(crate) use invokevirtual;
+pub(crate) use ldc;
+pub(crate) use new;
+pub(crate) use putfield;

@@ -1,7 +1,6 @@
-// The table: the rows of the library's classes in the order of their numbers, in parts.
-use crate::boxes::{
-    BOOLEAN_CLASS, CHARACTER_CLASS, INTEGER_CLASS, LONG_CLASS, NUMBER_CLASS,
-};
+// The table, in the order of the numbers, in parts: one constant of all fifty classes is more than a check takes. The
+// parts from 22 on stand in `throwables`.
+use crate::boxes::{BOOLEAN_CLASS, CHARACTER_CLASS, INTEGER_CLASS, LONG_CLASS, NUMBER_CLASS};
 use crate::lang::{
     AUTO_CLOSEABLE_INTERFACE, CHAR_SEQUENCE_INTERFACE, CLASS_CLASS, CLONEABLE_INTERFACE,
     COMPARABLE_INTERFACE, ENUM_CLASS, ITERABLE_INTERFACE, ITERATOR_INTERFACE, MATH_CLASS,
@@ -9,7 +8,6 @@ use crate::lang::{
 };
 use crate::row::CoreClass;
 use crate::text::{INPUT_STREAM_CLASS, PRINT_STREAM_CLASS, STRING_BUILDER_CLASS, STRING_CLASS};
-use crate::throwables::{ERRORS, OTHER_EXCEPTIONS, RUNTIME_EXCEPTIONS, TOP_THROWABLES};
 
 pub(crate) const OBJECT_AND_INTERFACES: &[CoreClass] = &[
     OBJECT_CLASS,
@@ -40,4 +38,3 @@ pub(crate) const BOXES: &[CoreClass] = &[
 ];
 
 pub(crate) const MATH_ENUM_AND_OBJECTS: &[CoreClass] = &[MATH_CLASS, ENUM_CLASS, OBJECTS_CLASS];
-

@@ -12,20 +12,20 @@ use crate::names::{
     ILLEGAL_STATE_EXCEPTION, INCOMPATIBLE_CLASS_CHANGE_ERROR, INDEX_OUT_OF_BOUNDS_EXCEPTION,
     IO_EXCEPTION, LINKAGE_ERROR, NEGATIVE_ARRAY_SIZE_EXCEPTION, NO_CLASS_DEF_FOUND_ERROR,
     NO_SUCH_ELEMENT_EXCEPTION, NO_SUCH_FIELD_ERROR, NULL_POINTER_EXCEPTION,
-    NUMBER_FORMAT_EXCEPTION, OBJECT, RUNTIME_EXCEPTION, SERIALIZABLE, STACK_OVERFLOW_ERROR,
-    STRING, STRING_INDEX_OUT_OF_BOUNDS_EXCEPTION, THROWABLE, UNSUPPORTED_OPERATION_EXCEPTION,
+    NUMBER_FORMAT_EXCEPTION, OBJECT, RUNTIME_EXCEPTION, SERIALIZABLE, STACK_OVERFLOW_ERROR, STRING,
+    STRING_INDEX_OUT_OF_BOUNDS_EXCEPTION, THROWABLE, UNSUPPORTED_OPERATION_EXCEPTION,
     VIRTUAL_MACHINE_ERROR,
 };
 use crate::row::{CoreClass, Kind};
 use crate::words::{branches, field, method, native, runs};
 
-const THROWABLE_NEW: Kind = runs!(1, 1, [
+const THROWABLE_NEW: Kind = runs!(1, 1; [
     ALOAD_0,
     invokespecial!(OBJECT, "<init>", "()V"),
     RETURN,
 ]);
 
-const THROWABLE_OF_MESSAGE: Kind = runs!(2, 2, [
+const THROWABLE_OF_MESSAGE: Kind = runs!(2, 2; [
     ALOAD_0,
     invokespecial!(OBJECT, "<init>", "()V"),
     ALOAD_0,
@@ -34,7 +34,7 @@ const THROWABLE_OF_MESSAGE: Kind = runs!(2, 2, [
     RETURN,
 ]);
 
-const THROWABLE_OF_BOTH: Kind = runs!(2, 3, [
+const THROWABLE_OF_BOTH: Kind = runs!(2, 3; [
     ALOAD_0,
     invokespecial!(OBJECT, "<init>", "()V"),
     ALOAD_0,
@@ -47,7 +47,7 @@ const THROWABLE_OF_BOTH: Kind = runs!(2, 3, [
 ]);
 
 // The message is null for null, and else what the cause's `toString` gives.
-const THROWABLE_OF_CAUSE: Kind = branches!(2, 2, [
+const THROWABLE_OF_CAUSE: Kind = branches!(2, 2; [
     ALOAD_0,
     invokespecial!(OBJECT, "<init>", "()V"),
     ALOAD_0,
@@ -62,20 +62,20 @@ const THROWABLE_OF_CAUSE: Kind = branches!(2, 2, [
     RETURN,
 ], frame(11, [THROWABLE, THROWABLE]));
 
-const THROWABLE_MESSAGE: Kind = runs!(1, 1, [
+const THROWABLE_MESSAGE: Kind = runs!(1, 1; [
     ALOAD_0,
     getfield!(THROWABLE, "message", "Ljava/lang/String;"),
     ARETURN,
 ]);
 
-const THROWABLE_CAUSE: Kind = runs!(1, 1, [
+const THROWABLE_CAUSE: Kind = runs!(1, 1; [
     ALOAD_0,
     getfield!(THROWABLE, "cause", "Ljava/lang/Throwable;"),
     ARETURN,
 ]);
 
 // Says what `getMessage` gives behind the name of the class.
-const THROWABLE_TO_STRING: Kind = runs!(2, 1, [
+const THROWABLE_TO_STRING: Kind = runs!(2, 1; [
     ALOAD_0,
     ALOAD_0,
     invokevirtual!(THROWABLE, "getMessage", "()Ljava/lang/String;"),
@@ -83,40 +83,34 @@ const THROWABLE_TO_STRING: Kind = runs!(2, 1, [
     ARETURN,
 ]);
 
-
 const THROWABLE_CLASS: CoreClass = CoreClass {
     flags: PUBLIC_CLASS,
     name: THROWABLE,
     superclass: Some(OBJECT),
     interfaces: &[SERIALIZABLE],
     fields: &[
-        field!(PRIVATE, "message", "Ljava/lang/String;"),
-        field!(PRIVATE, "cause", "Ljava/lang/Throwable;"),
-        field!(PRIVATE, "suppressed", "[Ljava/lang/Throwable;"),
+        field!(PRIVATE; "message", "Ljava/lang/String;"),
+        field!(PRIVATE; "cause", "Ljava/lang/Throwable;"),
+        field!(PRIVATE; "suppressed", "[Ljava/lang/Throwable;"),
     ],
     methods: &[
-        method!(PUBLIC, "<init>", "()V", THROWABLE_NEW),
-        method!(PUBLIC, "<init>", "(Ljava/lang/String;)V", THROWABLE_OF_MESSAGE),
-        method!(PUBLIC, "<init>", "(Ljava/lang/String;Ljava/lang/Throwable;)V", THROWABLE_OF_BOTH),
-        method!(PUBLIC, "<init>", "(Ljava/lang/Throwable;)V", THROWABLE_OF_CAUSE),
-        method!(PUBLIC, "getMessage", "()Ljava/lang/String;", THROWABLE_MESSAGE),
-        method!(PUBLIC, "getCause", "()Ljava/lang/Throwable;", THROWABLE_CAUSE),
-        method!(PUBLIC, "toString", "()Ljava/lang/String;", THROWABLE_TO_STRING),
-        native!(
-            PRIVATE | STATIC,
-            "say",
-            "(Ljava/lang/Throwable;Ljava/lang/String;)Ljava/lang/String;",
-            ThrowableSay
-        ),
-        native!(PUBLIC | FINAL, "addSuppressed", "(Ljava/lang/Throwable;)V", ThrowableAddSuppressed),
-        native!(PUBLIC | FINAL, "getSuppressed", "()[Ljava/lang/Throwable;", ThrowableGetSuppressed),
+        method!(PUBLIC; "<init>", "()V", THROWABLE_NEW),
+        method!(PUBLIC; "<init>", "(Ljava/lang/String;)V", THROWABLE_OF_MESSAGE),
+        method!(PUBLIC; "<init>", "(Ljava/lang/String;Ljava/lang/Throwable;)V", THROWABLE_OF_BOTH),
+        method!(PUBLIC; "<init>", "(Ljava/lang/Throwable;)V", THROWABLE_OF_CAUSE),
+        method!(PUBLIC; "getMessage", "()Ljava/lang/String;", THROWABLE_MESSAGE),
+        method!(PUBLIC; "getCause", "()Ljava/lang/Throwable;", THROWABLE_CAUSE),
+        method!(PUBLIC; "toString", "()Ljava/lang/String;", THROWABLE_TO_STRING),
+        native!(PRIVATE | STATIC; "say", "(Ljava/lang/Throwable;Ljava/lang/String;)Ljava/lang/String;", ThrowableSay),
+        native!(PUBLIC | FINAL; "addSuppressed", "(Ljava/lang/Throwable;)V", ThrowableAddSuppressed),
+        native!(PUBLIC | FINAL; "getSuppressed", "()[Ljava/lang/Throwable;", ThrowableGetSuppressed),
     ],
 };
 
 // The bodies of the constructors below Throwable: each hands what it is given to the superclass's own of the same kind.
 macro_rules! of_nothing {
     ($superclass:expr) => {
-        runs!(1, 1, [
+        runs!(1, 1; [
             ALOAD_0,
             invokespecial!($superclass, "<init>", "()V"),
             RETURN,
@@ -126,7 +120,7 @@ macro_rules! of_nothing {
 
 macro_rules! of_message {
     ($superclass:expr) => {
-        runs!(2, 2, [
+        runs!(2, 2; [
             ALOAD_0,
             ALOAD_1,
             invokespecial!($superclass, "<init>", "(Ljava/lang/String;)V"),
@@ -137,7 +131,7 @@ macro_rules! of_message {
 
 macro_rules! of_both {
     ($superclass:expr) => {
-        runs!(3, 3, [
+        runs!(3, 3; [
             ALOAD_0,
             ALOAD_1,
             ALOAD_2,
@@ -149,7 +143,7 @@ macro_rules! of_both {
 
 macro_rules! of_cause {
     ($superclass:expr) => {
-        runs!(2, 2, [
+        runs!(2, 2; [
             ALOAD_0,
             ALOAD_1,
             invokespecial!($superclass, "<init>", "(Ljava/lang/Throwable;)V"),
@@ -161,7 +155,7 @@ macro_rules! of_cause {
 // An error of an initialiser has no message where it has a cause alone.
 macro_rules! of_cause_without_message {
     ($superclass:expr) => {
-        runs!(3, 2, [
+        runs!(3, 2; [
             ALOAD_0,
             ACONST_NULL,
             ALOAD_1,
@@ -173,7 +167,7 @@ macro_rules! of_cause_without_message {
 
 // The message of an assertion's error is what `String.valueOf` gives of an object, and the object is the cause where it
 // is a Throwable.
-const OF_OBJECT: Kind = branches!(2, 2, [
+const OF_OBJECT: Kind = branches!(2, 2; [
     ALOAD_0,
     ALOAD_1,
     invokestatic!(STRING, "valueOf", "(Ljava/lang/Object;)Ljava/lang/String;"),
@@ -198,15 +192,10 @@ macro_rules! with_constructors {
             interfaces: &[],
             fields: &[],
             methods: &[
-                method!(PUBLIC, "<init>", "()V", of_nothing!($superclass)),
-                method!(PUBLIC, "<init>", "(Ljava/lang/String;)V", of_message!($superclass)),
-                method!(
-                    PUBLIC,
-                    "<init>",
-                    "(Ljava/lang/String;Ljava/lang/Throwable;)V",
-                    of_both!($superclass)
-                ),
-                method!(PUBLIC, "<init>", "(Ljava/lang/Throwable;)V", $of_a_cause),
+                method!(PUBLIC; "<init>", "()V", of_nothing!($superclass)),
+                method!(PUBLIC; "<init>", "(Ljava/lang/String;)V", of_message!($superclass)),
+                method!(PUBLIC; "<init>", "(Ljava/lang/String;Ljava/lang/Throwable;)V", of_both!($superclass)),
+                method!(PUBLIC; "<init>", "(Ljava/lang/Throwable;)V", $of_a_cause),
                 $($more),*
             ],
         }
@@ -228,7 +217,7 @@ const EXCEPTION_IN_INITIALIZER_ERROR_CLASS: CoreClass = with_constructors!(
 
 const ASSERTION_ERROR_CLASS: CoreClass = with_constructors!(
     of_cause!(ERROR),
-    [method!(PUBLIC, "<init>", "(Ljava/lang/Object;)V", OF_OBJECT)],
+    [method!(PUBLIC; "<init>", "(Ljava/lang/Object;)V", OF_OBJECT)],
     ERROR,
     ASSERTION_ERROR
 );
@@ -249,8 +238,14 @@ pub(crate) const RUNTIME_EXCEPTIONS: &[CoreClass] = &[
     below!(ILLEGAL_ARGUMENT_EXCEPTION, NUMBER_FORMAT_EXCEPTION),
     below!(RUNTIME_EXCEPTION, ILLEGAL_STATE_EXCEPTION),
     below!(RUNTIME_EXCEPTION, INDEX_OUT_OF_BOUNDS_EXCEPTION),
-    below!(INDEX_OUT_OF_BOUNDS_EXCEPTION, ARRAY_INDEX_OUT_OF_BOUNDS_EXCEPTION),
-    below!(INDEX_OUT_OF_BOUNDS_EXCEPTION, STRING_INDEX_OUT_OF_BOUNDS_EXCEPTION),
+    below!(
+        INDEX_OUT_OF_BOUNDS_EXCEPTION,
+        ARRAY_INDEX_OUT_OF_BOUNDS_EXCEPTION
+    ),
+    below!(
+        INDEX_OUT_OF_BOUNDS_EXCEPTION,
+        STRING_INDEX_OUT_OF_BOUNDS_EXCEPTION
+    ),
     below!(RUNTIME_EXCEPTION, NEGATIVE_ARRAY_SIZE_EXCEPTION),
     below!(RUNTIME_EXCEPTION, NULL_POINTER_EXCEPTION),
     below!(RUNTIME_EXCEPTION, UNSUPPORTED_OPERATION_EXCEPTION),
