@@ -22,7 +22,7 @@ pub fn core_classes(alloc: Global) -> Result<Classes, OutOfMemory>
     ensures records { IfOk result AreLibrary }
     ensures readable { IfOk result (AllByRecursion IsReadable) }
 {
-    records_of(alloc, [
+    records_of(alloc, &[
         OBJECT_AND_INTERFACES,
         STRINGS,
         SYSTEM,
@@ -36,9 +36,9 @@ pub fn core_classes(alloc: Global) -> Result<Classes, OutOfMemory>
 }
 
 /// The records of the rows of parts.
-fn records_of(alloc: Global, parts: [&[CoreClass]; 9]) -> Result<Classes, OutOfMemory>
-    requires { AllByRecursion IsSound (part_rows parts.entry) }
-    ensures { IfOk result (AllZip IsBuilt (part_rows parts.entry)) }
+fn records_of(alloc: Global, parts: &[&[CoreClass]]) -> Result<Classes, OutOfMemory>
+    requires { AllByRecursion IsSound (part_rows parts.now) }
+    ensures { IfOk result (AllZip IsBuilt (part_rows parts.now)) }
 {
     let mut classes = Classes::new(alloc);
     for part in parts {
