@@ -22,17 +22,20 @@ pub fn core_classes(alloc: Global) -> Result<Classes, OutOfMemory>
     ensures records { IfOk result AreLibrary }
     ensures readable { IfOk result (AllByRecursion IsReadable) }
 {
-    records_of(alloc, &[
-        OBJECT_AND_INTERFACES,
-        STRINGS,
-        SYSTEM,
-        BOXES,
-        MATH_ENUM_AND_OBJECTS,
-        TOP_THROWABLES,
-        RUNTIME_EXCEPTIONS,
-        OTHER_EXCEPTIONS,
-        ERRORS,
-    ])
+    records_of(
+        alloc,
+        &[
+            OBJECT_AND_INTERFACES,
+            STRINGS,
+            SYSTEM,
+            BOXES,
+            MATH_ENUM_AND_OBJECTS,
+            TOP_THROWABLES,
+            RUNTIME_EXCEPTIONS,
+            OTHER_EXCEPTIONS,
+            ERRORS,
+        ],
+    )
 }
 
 /// The records of the rows of parts.
@@ -48,11 +51,7 @@ fn records_of(alloc: Global, parts: &[&[CoreClass]]) -> Result<Classes, OutOfMem
 }
 
 /// Adds the records of rows behind those of others.
-fn add_records(
-    alloc: Global,
-    rows: &[CoreClass],
-    classes: &mut Classes,
-) -> Result<(), OutOfMemory>
+fn add_records(alloc: Global, rows: &[CoreClass], classes: &mut Classes) -> Result<(), OutOfMemory>
     requires { AllByRecursion IsSound (map class_row rows.now) }
     ensures { OnOk result ((others : List Row) → AllZip IsBuilt others classes.old
         → AllZip IsBuilt (others ++ map class_row rows.now) classes.new) }

@@ -1,5 +1,5 @@
 use Rattle.std.proofs.Common.{refl}
-use Rattle.std.proofs.lemmas.Grind.{IfOk-weaker}
+use Rattle.std.proofs.lemmas.Result.{IfOk-weaker}
 use Rattle.cb_core.proofs.Parted.{all_readable, are_library, rows_sound}
 use Rattle.cb_core.proofs.classes.core_classes.Goals as goal
 
