@@ -12,6 +12,7 @@ use Rattle.cb_library.specs.Rows.{Instruction, Plain}
 use Rattle.cb_classfile.specs.Library.{SaysInsn}
 use Rattle.cb_core.specs.Built.{places_from, size_of}
 use Rattle.cb_core.specs.Sound.{IsSoundInsn}
+use Rattle.cb_core.proofs.Placed.{size_small}
 use Rattle.cb_core.proofs.LawInsns.{insn_spelled}
 
 -- an instruction takes one to three bytes
@@ -19,15 +20,11 @@ some_bytes : (insn : Instruction) → 1 ≤ size_of insn
 some_bytes (Plain opcode) = omega arith
 some_bytes other = omega arith
 
-few_bytes : (insn : Instruction) → size_of insn ≤ 3
-few_bytes (Plain opcode) = omega arith
-few_bytes other = omega arith
-
 -- a place is less than three bytes an instruction behind the first
 pub places_near : (pc : ℕ) (code : List Instruction) (number place : ℕ) → slice_get (places_from pc code) number ≡ Some place → place + 3 ≤ pc + 3 * length code
 places_near pc [] number place is = absurd cc
 places_near pc (insn ∷ code) zero place is = omega (arith, same_Some pc place is)
-places_near pc (insn ∷ code) (suc number) place is = omega (arith, places_near (pc + size_of insn) code number place is, few_bytes insn)
+places_near pc (insn ∷ code) (suc number) place is = omega (arith, places_near (pc + size_of insn) code number place is, size_small insn)
 
 -- code from a place on is spelled by its bytes, one to three an instruction
 pub record IsWritten (pc count : ℕ) (code : List (ℕ × Insn)) : Type 0 where
@@ -48,10 +45,10 @@ code_written pool targets count pc (row ∷ rows) [] is near short sound says la
 code_written pool targets count pc (row ∷ rows) ((at, insn) ∷ code) is near short sound says laid =
     let here : at ≡ pc = same_first at pc (places code) (places_from (pc + size_of row) rows) laid in
     let one = insn_spelled pool targets pc count row insn is (omega (arith, short)) near sound.0 says.0 in
-    let more = code_written pool targets count (pc + size_of row) rows code is near (omega (arith, short, few_bytes row)) sound.1 says.1 (same_rest at pc (places code) (places_from (pc + size_of row) rows) laid) in
+    let more = code_written pool targets count (pc + size_of row) rows code is near (omega (arith, short, size_small row)) sound.1 says.1 (same_rest at pc (places code) (places_from (pc + size_of row) rows) laid) in
     let same : insn_bytes at insn ≡ insn_bytes pc insn = ap (λ place. insn_bytes place insn) here in
     record {
       spelled = (insn_bytes pc insn, code_bytes code, here, one.spelled, ap (λ bytes. bytes ++ code_bytes code) same, subst (λ size. SpellsFrom (pc + size) code (code_bytes code)) (sym one.long) more.spelled);
       some = omega (arith, length-append (insn_bytes at insn) (code_bytes code), ap length same, one.long, more.some, some_bytes row);
-      few = omega (arith, length-append (insn_bytes at insn) (code_bytes code), ap length same, one.long, more.few, few_bytes row);
+      few = omega (arith, length-append (insn_bytes at insn) (code_bytes code), ap length same, one.long, more.few, size_small row);
     }

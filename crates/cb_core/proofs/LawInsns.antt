@@ -24,12 +24,8 @@ use Rattle.cb_classfile.specs.Needed.{HasConstant, StandsAt, kind_needed}
 use Rattle.cb_classfile.specs.Profile.{first_of, insn_item, opcode_item}
 use Rattle.cb_core.specs.Built.{size_of}
 use Rattle.cb_core.specs.Sound.{IsSoundInsn}
+use Rattle.cb_core.proofs.Growing.{some_and}
 use Rattle.cb_core.proofs.LawPool.{any_method_stands, class_fits, class_method_stands, class_stands, field_stands, member_fits, string_fits, string_stands}
-
--- what there is in an option of which something holds
-pub some_and : {X : Type 0} (P : X → Type 0) (option : Option X) → IsSomeAnd option P → (item : X) × (option ≡ Some item) × P item
-some_and P None is = absurd is
-some_and P (Some item) is = (item, refl, is)
 
 -- an instruction that its bytes spell, of this size
 pub record IsSpelledAt (pc : ℕ) (size : ℕ) (insn : Insn) : Type 0 where

@@ -2,7 +2,7 @@
 use Rattle.std.proofs.Common.{◌≡◌, ◌∙◌, ap, sym, refl, subst, arith, ℕ, suc, ◌+◌, ◌*◌, ◌<◌, ◌≤◌, ◌^◌, List, [], ◌∷◌, ◌++◌, length, map, take, get_or}
 use Rattle.std.specs.List.{AllByRecursion}
 use Rattle.std.proofs.lemmas.List.{length-map, length-take, map-append, take_more}
-use Rattle.cb_library.specs.Rows.{Instruction, Plain, Branch, LoadText, OfClass, OfField, OfMethod}
+use Rattle.cb_library.specs.Rows.{Instruction, Plain}
 use Rattle.cb_core.specs.declared.row.Instruction.{Instruction as Row}
 use Rattle.cb_core.specs.Built.{places_from, size_of}
 use Rattle.cb_core.specs.Rowed.{insn_row}
@@ -23,13 +23,9 @@ unfolding behind
 behind_both pc [] insn = refl
 behind_both pc (first ∷ front) insn = behind_both (pc + size_of first) front insn
 
-size_small : (insn : Instruction) → size_of insn ≤ 3
+pub size_small : (insn : Instruction) → size_of insn ≤ 3
 size_small (Plain opcode) = omega arith
-size_small (Branch opcode target) = omega arith
-size_small (LoadText text) = omega arith
-size_small (OfClass opcode class) = omega arith
-size_small (OfField opcode class name descriptor) = omega arith
-size_small (OfMethod opcode class name descriptor) = omega arith
+size_small other = omega arith
 
 behind_small : (pc : ℕ) (code : List Instruction) → behind pc code ≤ pc + 3 * length code
 unfolding behind

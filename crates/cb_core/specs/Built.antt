@@ -1,14 +1,13 @@
 -- What the builder knows of a record beyond what its row says: what the laws on records rest on.
-use Rattle.std.specs.Prelude.{◌≡◌, ℕ, ◌+◌, ◌≤◌, List, [], ◌∷◌, length, Option, Some, None, IfSome, map, codes}
+use Rattle.std.specs.Prelude.{◌≡◌, ℕ, ◌+◌, ◌≤◌, List, [], ◌∷◌, length, Option, Some, None, IfSome, codes}
 use Rattle.std.specs.List.{AllByRecursion, AllZip}
 use Rattle.cb_text.specs.declared.constant.Constant.{Constant}
 use Rattle.cb_text.specs.Pool.{IsPool, constant_at}
 use Rattle.cb_text.specs.Naming.{text_at}
 use Rattle.cb_insn.specs.Places.{places}
-use Rattle.cb_library.specs.Rows.{CoreClass, Method, Kind, Abstract, Performed, Runs, Instruction, Plain, Branch, LoadText, OfClass, OfField, OfMethod}
+use Rattle.cb_library.specs.Rows.{CoreClass, Kind, Runs, Instruction, Plain}
 use Rattle.cb_classfile.specs.declared.body.Body.{Body}
 use Rattle.cb_classfile.specs.declared.class.ClassFile.{ClassFile}
-use Rattle.cb_classfile.specs.declared.method.Method.{Method as ClassMethod}
 use Rattle.cb_classfile.specs.Library.{IsRecordOf}
 use Rattle.cb_classfile.specs.Pool.{IsNamed}
 use Rattle.cb_classfile.specs.Profile.{constant_item}

@@ -1,6 +1,6 @@
 -- What the records of rows rest on: the names and descriptors of a row follow their grammars, its flags fit what its
 -- methods are, and its numbers are small. All rows of the table are so.
-use Rattle.std.specs.Prelude.{◌≡◌, ◌≢◌, ◌⊎◌, ℕ, ◌+◌, ◌*◌, ◌^◌, ◌<◌, ◌≤◌, List, [], ◌∷◌, ◌++◌, length, map, Option, Some, None, IfSome, codes}
+use Rattle.std.specs.Prelude.{◌≡◌, ◌≢◌, ◌⊎◌, ℕ, ◌+◌, ◌*◌, ◌^◌, ◌<◌, ◌≤◌, List, [], length, map, Some, None, IfSome, codes}
 use Rattle.std.specs.List.{AllByRecursion, AllPairs, sum}
 use Rattle.cb_insn.specs.declared.form.Form.TheVariants as forms
 use Rattle.cb_insn.specs.Forms.{form_of}

@@ -1,4 +1,4 @@
-use Rattle.std.proofs.Common.{◌++◌, ◌+◌, List, [], append-nil, map, sym, subst, take, arith}
+use Rattle.std.proofs.Common.{◌++◌, ◌+◌, append-nil, map, sym, subst, take, arith}
 use Rattle.std.specs.List.{AllZip}
 use Rattle.cb_core.specs.Built.{IsBuilt}
 use Rattle.cb_core.specs.Rowed.{class_row}

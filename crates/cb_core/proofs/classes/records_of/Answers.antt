@@ -1,4 +1,4 @@
-use Rattle.std.proofs.Common.{◌+◌, [], sym, subst, take, arith}
+use Rattle.std.proofs.Common.{sym, subst, take, arith}
 use Rattle.std.specs.List.{AllZip}
 use Rattle.cb_core.specs.Built.{IsBuilt}
 use Rattle.cb_core.specs.Rowed.{part_rows}
