@@ -1,0 +1,12 @@
+//! Linking: the classes that a main class needs, found in a folder (JVMS §5.3).
+#![tactic(auto)]
+
+mod law;
+mod linking;
+mod program;
+mod refusal;
+
+pub use law::closures;
+pub use linking::link;
+pub use program::Program;
+pub use refusal::{Quantity, Refusal};
