@@ -3,10 +3,12 @@
 
 mod law;
 mod linking;
+mod path;
 mod program;
 mod refusal;
 
 pub use law::closures;
 pub use linking::link;
+pub use path::path_of;
 pub use program::Program;
 pub use refusal::{Quantity, Refusal};

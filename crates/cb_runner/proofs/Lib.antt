@@ -4,6 +4,7 @@ pub mod Reading
 pub mod FewItems
 pub mod Digits
 pub mod Endings
+pub mod Linking
 pub mod Listing
 pub mod Assembling
 pub mod Laws
