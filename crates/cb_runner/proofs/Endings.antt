@@ -129,6 +129,12 @@ list_unfound path files FolderFault is = λ left. inr (OfFolder, refl)
 list_unfound path files OutOfMemory is = λ left. inr (OfMemory, refl)
 list_unfound path files stop is = absurd is
 
+-- what is said by the class's name and the files is said of what they are
+pub run_from : (folder main name : List ℕ) (files told : Option Files) (ending : Ending) → main ≡ name → files ≡ told → ((classes : List ClassFile) → AreLoaded files folder main classes → (left : Option (List ℕ)) → EndsIn (RunIn folder main) files left ending) → (classes : List ClassFile) → AreLoaded told folder name classes → (left : Option (List ℕ)) → EndsIn (RunIn folder name) told left ending
+run_from folder main name files told ending named kept ends =
+    subst (λ name. (classes : List ClassFile) → AreLoaded told folder name classes → (left : Option (List ℕ)) → EndsIn (RunIn folder name) told left ending) named
+    (subst (λ told. (classes : List ClassFile) → AreLoaded told folder main classes → (left : Option (List ℕ)) → EndsIn (RunIn folder main) told left ending) kept ends)
+
 -- a file that isn't of the first form isn't run
 pub not_run : (main bytes : List ℕ) (known : Option (List ℕ)) (stop : Stop) → ((program : List Expression) → ¬ SpellsProgram bytes program) → IsRefusal (NotYet (utf8 main)) stop → (printed : List ℕ) × Appends known known printed × RunsBytes main bytes stop printed
 not_run main bytes known (Refused text) none refusal = ([], Appends-nothing known, (none, refusal, refl))
@@ -164,7 +170,7 @@ pub run_long : (main : List ℕ) (file : Option (List ℕ)) (stop : Stop) → Fi
 run_long main file stop long refusal = run_no_file main file stop (long_file file long) refusal
 
 -- a count says the same of what comes to the same
-pub same_count : {One Other : Type 0} (before now : ℕ) → (One ↔ Other) → CountsFaults before now One → CountsFaults before now Other
+same_count : {One Other : Type 0} (before now : ℕ) → (One ↔ Other) → CountsFaults before now One → CountsFaults before now Other
 same_count before now same counts = record {
   never_falls = counts.never_falls;
   exact = λ below. let exact = counts.exact below in (λ other. exact.0 (same.1 other), λ rose. same.0 (exact.1 rose));

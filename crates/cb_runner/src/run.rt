@@ -68,7 +68,8 @@ fn run_linked<F: Folder, O: Sink>(
 {
     match find_class(alloc, root, main, folder) {
         Ok(Found::Bytes(bytes)) => run_file(alloc, main, bytes.as_slice(), out),
-        Ok(Found::Absent | Found::TooLong) => not_yet(alloc, main),
+        Ok(Found::Absent) => not_yet(alloc, main),
+        Ok(Found::TooLong) => not_yet(alloc, main),
         Err(stop) => stop,
     }
 }
