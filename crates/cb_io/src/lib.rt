@@ -42,4 +42,4 @@ pub use stream_source::StreamSource;
 pub use sure_folder::SureFolder;
 pub use sure_sink::SureSink;
 pub use sure_source::SureSource;
-pub use utf8::utf8_of;
+pub use utf8::{text_of, utf8_of};

@@ -2,7 +2,7 @@
 use crate::whole_file::whole_within;
 use crate::{
     DirFolder, Failed, Folder, FolderError, Found, MemFolder, MemSink, MemSource, Sink, Source,
-    StreamSink, StreamSource, SureFolder, SureSink, SureSource, utf8_of, write_all,
+    StreamSink, StreamSource, SureFolder, SureSink, SureSource, text_of, utf8_of, write_all,
 };
 use cb_plain::{Numbers, OutOfMemory};
 use std::alloc::Global;
@@ -230,6 +230,7 @@ fn units_are_written_as_utf_8(rt: HostRuntime) -> Result<(), Fail> {
         let mut sink = MemSink::new(rt.alloc(), 3, Numbers::new(rt.alloc()));
         assert_eq!(rt; utf8_of(units, &mut sink), Ok(()));
         assert_eq!(rt; sink.bytes(), want, "at {units:?}");
+        assert_eq!(rt; text_of(rt.alloc(), units)?.as_bytes(), want);
     }
     let mut sink = MemSink::new(rt.alloc(), 1, call(rt.alloc(), 3)?);
     assert_eq!(rt; utf8_of(&[0x41, 0xA2, 0x42], &mut sink), Err(Failed));

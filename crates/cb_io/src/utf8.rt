@@ -1,5 +1,5 @@
 // UTF-16 units as UTF-8 (RFC 3629).
-ghost use Rattle.std.specs.Prelude.{◌≡◌, ◌+◌, ◌<◌, ◌≤◌, ◌++◌, ◌&&◌, [], true, length, take, IsErr, IfSome, MatchOption, OnOk, OnErr, unwrap_or};
+ghost use Rattle.std.specs.Prelude.{◌≡◌, ◌+◌, ◌<◌, ◌≤◌, ◌++◌, ◌&&◌, [], true, length, take, IsErr, IfOk, IfSome, MatchOption, OnOk, OnErr, string_bytes, unwrap_or};
 ghost use Rattle.std.specs.Char.{encode_utf8};
 ghost use Rattle.std.specs.Char.Utf16.{is_high_surrogate, is_low_surrogate, lone_unit_char, surrogate_pair_char};
 ghost use Rattle.std.specs.Io.KnownBytes.{Appends};
@@ -8,6 +8,8 @@ ghost use Rattle.cb_io.specs.Sink.{AppendsProperPrefix};
 ghost use Rattle.cb_io.specs.Utf8.{question_mark, utf8};
 
 use crate::{Failed, Sink, write_all};
+use cb_plain::OutOfMemory;
+use std::alloc::Global;
 
 /// How many bytes are written in one call at most.
 const PIECE: usize = 256;
@@ -30,6 +32,20 @@ pub fn utf8_of<S: Sink>(units: &[u16], sink: &mut S) -> Result<(), Failed>
         rest = behind;
     }
     Ok(())
+}
+
+/// UTF-16 units as text, with `?` for a surrogate without its partner. `OutOfMemory` where no memory was to be had. Takes
+/// time in the number of units.
+pub fn text_of(alloc: Global, units: &[u16]) -> Result<String, OutOfMemory>
+    ensures { IfOk result (λ text. string_bytes text ≡ utf8 units.now) }
+{
+    let mut text = String::new(alloc);
+    let mut rest = units;
+    while let Some((character, behind)) = character_at(rest) {
+        text.push(character)?;
+        rest = behind;
+    }
+    Ok(text)
 }
 
 /// Fills a piece with the characters at the front of the units, while there is room for any character. Gives how many

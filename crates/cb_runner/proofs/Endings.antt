@@ -7,8 +7,12 @@ use Rattle.std.specs.Io.KnownBytes.{Appends}
 use Rattle.std.proofs.lemmas.List.{append-nil, length-replicate}
 use Rattle.cb_io.specs.Faults.{CountsFaults}
 use Rattle.cb_io.specs.Folder.{Files, Finds, FindsAt, IsWithin}
+use Rattle.cb_io.specs.Utf8.{utf8}
 use Rattle.cb_io.specs.declared.folder.Found.{Found}
 use Rattle.cb_io.specs.declared.folder.Found.TheVariants.{Bytes, Absent, TooLong}
+use Rattle.cb_classfile.specs.declared.class.ClassFile.{ClassFile}
+use Rattle.cb_link.specs.Files.{path_of, MayStandAt as MayHaveFile}
+use Rattle.cb_link.specs.Loading.{AreLoaded}
 use Rattle.cb_machine.specs.Expression.{Expression}
 use Rattle.cb_machine.specs.Printing.{printed}
 use Rattle.cb_first_form.specs.FirstForm.{SpellsProgram}
@@ -17,11 +21,11 @@ use Rattle.cb_runner.specs.declared.stop.Stop.{Stop}
 use Rattle.cb_runner.specs.declared.stop.Stop.TheVariants.{Returned, Usage, Refused, FolderFault, InputFault, OutputFault, OutOfMemory}
 use Rattle.cb_runner.specs.Answer.{Answers, Ends, EndsIn, MayStandAt, StopsShort, OfMemory, OfFolder, OfOutput}
 use Rattle.cb_runner.specs.Ending.{Ending, out_of_memory, output_fault, refused, returned}
-use Rattle.cb_runner.specs.Inner.{IsCarriedOut, IsRefusal, IsUnfound, Makes, PrintsMade, RunsBytes, StopsBy, cause_of, ending_of}
+use Rattle.cb_runner.specs.Inner.{IsCarriedOut, IsRefusal, IsUnfound, Makes, PrintsMade, RunsBytes, StopsAtOnce, StopsBy, cause_of, ending_of}
 use Rattle.cb_runner.specs.List.{ListsFile}
-use Rattle.cb_runner.specs.Messages.{Reason, MissingClass, NotYet}
-use Rattle.cb_runner.specs.Run.{RunsFile, file_limit}
-use Rattle.cb_runner.specs.Words.{Command, RunIn, ListOf, Says, SaysNone, class_path, main_class}
+use Rattle.cb_runner.specs.Messages.{Reason, NotYet}
+use Rattle.cb_runner.specs.Run.{RunsClass, RunsFile, Linked, file_limit}
+use Rattle.cb_runner.specs.Words.{Command, RunIn, ListOf, Says, SaysNone}
 
 -- nothing more was taken
 pub Appends-nothing : (known : Option (List ℕ)) → Appends known known []
@@ -48,7 +52,7 @@ some_file files path Absent told within = told_file files path Absent told None 
 some_file files path TooLong told within = let (bytes, long) = longer file_limit in told_file files path TooLong told (Some bytes) long
 
 -- what is refused for a reason ends so
-refusal_is : (reason : Reason) (text : String Global) (out : List ℕ) (read : ℕ) → IsRefusal reason (Refused text) → out ≡ [] → refused reason read ≡ ending_of (Refused text) out read
+pub refusal_is : (reason : Reason) (text : String Global) (out : List ℕ) (read : ℕ) → IsRefusal reason (Refused text) → out ≡ [] → refused reason read ≡ ending_of (Refused text) out read
 refusal_is reason text out read is nothing = λ i. record { cause = causes.Refused; out = sym nothing i; err = sym is i; read = read }
 
 pub refused_so : (MayEnd : Ending → Type 0) (read : ℕ) (reason : Reason) (stop : Stop) → IsRefusal reason stop → MayEnd (refused reason read) → Makes MayEnd read (Err stop)
@@ -105,52 +109,65 @@ ends_by command files left MayEnd read OutOfMemory out answers memory nothing = 
 ends_by command files left MayEnd read stop out answers memory stops = absurd stops
 
 -- a command of a file, and how it ends where the file couldn't be looked for
-pub run_ends : (folder : List ℕ) (files : Option Files) (file : Option (List ℕ)) (stop : Stop) (out : List ℕ) → MayStandAt files (class_path folder) file → StopsBy (RunsFile file) 0 stop out → (left : Option (List ℕ)) → EndsIn (RunIn folder) files left (ending_of stop out 0)
-run_ends folder files file stop out may stops = λ left. ends_by (RunIn folder) files left (RunsFile file) 0 stop out (λ ending runs. (file, may, runs)) refl stops
+pub run_ends : (folder main : List ℕ) (files : Option Files) (file : Option (List ℕ)) (stop : Stop) (out : List ℕ) → MayHaveFile files (path_of folder main) file → StopsBy (RunsFile main file) 0 stop out → (classes : List ClassFile) → AreLoaded files folder main classes → (left : Option (List ℕ)) → EndsIn (RunIn folder main) files left (ending_of stop out 0)
+run_ends folder main files file stop out may stops = λ classes loaded left. ends_by (RunIn folder main) files left (RunsFile main file) 0 stop out (λ ending runs. Linked classes file loaded may runs) refl stops
 
 pub list_ends : (path : List ℕ) (files : Option Files) (file : Option (List ℕ)) (stop : Stop) (out : List ℕ) → MayStandAt files path file → StopsBy (ListsFile path file) 0 stop out → (left : Option (List ℕ)) → EndsIn (ListOf path) files left (ending_of stop out 0)
 list_ends path files file stop out may stops = λ left. ends_by (ListOf path) files left (ListsFile path file) 0 stop out (λ ending lists. (file, may, lists)) refl stops
 
-pub run_unfound : (folder : List ℕ) (files : Option Files) (stop : Stop) → IsUnfound stop → (left : Option (List ℕ)) → EndsIn (RunIn folder) files left (ending_of stop [] 0)
-run_unfound folder files FolderFault is = λ left. inr (OfFolder, refl)
-run_unfound folder files OutOfMemory is = λ left. inr (OfMemory, refl)
-run_unfound folder files stop is = absurd is
+pub run_unfound : (folder main : List ℕ) (files : Option Files) (stop : Stop) → IsUnfound stop → (left : Option (List ℕ)) → EndsIn (RunIn folder main) files left (ending_of stop [] 0)
+run_unfound folder main files FolderFault is = λ left. inr (OfFolder, refl)
+run_unfound folder main files OutOfMemory is = λ left. inr (OfMemory, refl)
+run_unfound folder main files stop is = absurd is
+
+pub run_at_once : (folder main : List ℕ) (files : Option Files) (stop : Stop) → StopsAtOnce (RunsClass files folder main) stop → (left : Option (List ℕ)) → EndsIn (RunIn folder main) files left (ending_of stop [] 0)
+run_at_once folder main files (Refused text) stops = λ left. inl stops
+run_at_once folder main files stop stops = run_unfound folder main files stop stops
 
 pub list_unfound : (path : List ℕ) (files : Option Files) (stop : Stop) → IsUnfound stop → (left : Option (List ℕ)) → EndsIn (ListOf path) files left (ending_of stop [] 0)
 list_unfound path files FolderFault is = λ left. inr (OfFolder, refl)
 list_unfound path files OutOfMemory is = λ left. inr (OfMemory, refl)
 list_unfound path files stop is = absurd is
 
+-- what is said by the class's name and the files is said of what they are
+pub run_from : (folder main name : List ℕ) (files told : Option Files) (ending : Ending) → main ≡ name → files ≡ told → ((classes : List ClassFile) → AreLoaded files folder main classes → (left : Option (List ℕ)) → EndsIn (RunIn folder main) files left ending) → (classes : List ClassFile) → AreLoaded told folder name classes → (left : Option (List ℕ)) → EndsIn (RunIn folder name) told left ending
+run_from folder main name files told ending named kept ends =
+    subst (λ name. (classes : List ClassFile) → AreLoaded told folder name classes → (left : Option (List ℕ)) → EndsIn (RunIn folder name) told left ending) named
+    (subst (λ told. (classes : List ClassFile) → AreLoaded told folder main classes → (left : Option (List ℕ)) → EndsIn (RunIn folder main) told left ending) kept ends)
+
 -- a file that isn't of the first form isn't run
-pub not_run : (bytes : List ℕ) (known : Option (List ℕ)) (stop : Stop) → ((program : List Expression) → ¬ SpellsProgram bytes program) → IsRefusal (NotYet main_class) stop → (printed : List ℕ) × Appends known known printed × RunsBytes bytes stop printed
-not_run bytes known (Refused text) none refusal = ([], Appends-nothing known, (none, refusal, refl))
-not_run bytes known OutOfMemory none refusal = ([], Appends-nothing known, refl)
-not_run bytes known stop none refusal = absurd refusal
+pub not_run : (main bytes : List ℕ) (known : Option (List ℕ)) (stop : Stop) → ((program : List Expression) → ¬ SpellsProgram bytes program) → IsRefusal (NotYet (utf8 main)) stop → (printed : List ℕ) × Appends known known printed × RunsBytes main bytes stop printed
+not_run main bytes known (Refused text) none refusal = ([], Appends-nothing known, (none, refusal, refl))
+not_run main bytes known OutOfMemory none refusal = ([], Appends-nothing known, refl)
+not_run main bytes known stop none refusal = absurd refusal
 
 -- a file is run
-run_bytes : (bytes : List ℕ) (stop : Stop) (out : List ℕ) → length bytes ≤ file_limit → RunsBytes bytes stop out → StopsBy (RunsFile (Some bytes)) 0 stop out
-run_bytes bytes Returned out short (program, spelled, is) = inl (program, record { short = short; spelled = spelled }, ap (λ o. returned o 0) is)
-run_bytes bytes OutputFault out short (program, spelled, prefix) = (returned (printed program) 0, inl (program, record { short = short; spelled = spelled }, refl), prefix, refl)
-run_bytes bytes (Refused text) out short (none, is, nothing) = inr (λ program file. none program file.spelled, sym (refusal_is (NotYet main_class) text out 0 is nothing))
-run_bytes bytes OutOfMemory out short nothing = nothing
-run_bytes bytes stop out short runs = absurd runs
+run_bytes : (main bytes : List ℕ) (stop : Stop) (out : List ℕ) → length bytes ≤ file_limit → RunsBytes main bytes stop out → StopsBy (RunsFile main (Some bytes)) 0 stop out
+run_bytes main bytes Returned out short (program, spelled, is) = inl (program, record { short = short; spelled = spelled }, ap (λ o. returned o 0) is)
+run_bytes main bytes OutputFault out short (program, spelled, prefix) = (returned (printed program) 0, inl (program, record { short = short; spelled = spelled }, refl), prefix, refl)
+run_bytes main bytes (Refused text) out short (none, is, nothing) = inr (λ program file. none program file.spelled, sym (refusal_is (NotYet (utf8 main)) text out 0 is nothing))
+run_bytes main bytes OutOfMemory out short nothing = nothing
+run_bytes main bytes stop out short runs = absurd runs
 
-pub run_found : (file : Option (List ℕ)) (found : Found) (bytes : Vec ℕ Global) (stop : Stop) (out : List ℕ) → found ≡ Bytes bytes → FindsAt file file_limit found → RunsBytes bytes.items stop out → StopsBy (RunsFile file) 0 stop out
-run_found file found bytes stop out is finds runs =
+pub run_found : (main : List ℕ) (file : Option (List ℕ)) (found : Found) (bytes : Vec ℕ Global) (stop : Stop) (out : List ℕ) → found ≡ Bytes bytes → FindsAt file file_limit found → RunsBytes main bytes.items stop out → StopsBy (RunsFile main file) 0 stop out
+run_found main file found bytes stop out is finds runs =
     let (there, short) : FindsAt file file_limit (Bytes bytes) = subst (λ found. FindsAt file file_limit found) is finds in
-    subst (λ file. StopsBy (RunsFile file) 0 stop out) (sym there) (run_bytes bytes.items stop out short runs)
+    subst (λ file. StopsBy (RunsFile main file) 0 stop out) (sym there) (run_bytes main bytes.items stop out short runs)
 
-pub run_absent : (file : Option (List ℕ)) (found : Found) (stop : Stop) → found ≡ Absent → FindsAt file file_limit found → IsRefusal (MissingClass main_class) stop → StopsBy (RunsFile file) 0 stop []
-run_absent file found stop is finds refusal =
-    let absent : FindsAt file file_limit Absent = subst (λ found. FindsAt file file_limit found) is finds in
-    subst (λ file. StopsBy (RunsFile file) 0 stop []) (sym absent) (unmade (RunsFile None) 0 stop (refused_so (RunsFile None) 0 (MissingClass main_class) stop refusal refl))
+-- one that isn't there, or is too long for any program's, isn't
+run_no_file : (main : List ℕ) (file : Option (List ℕ)) (stop : Stop) → IfSome file (λ bytes. file_limit < length bytes) → IsRefusal (NotYet (utf8 main)) stop → StopsBy (RunsFile main file) 0 stop []
+run_no_file main None stop long refusal = unmade (RunsFile main None) 0 stop (refused_so (RunsFile main None) 0 (NotYet (utf8 main)) stop refusal refl)
+run_no_file main (Some bytes) stop long refusal = unmade (RunsFile main (Some bytes)) 0 stop (refused_so (RunsFile main (Some bytes)) 0 (NotYet (utf8 main)) stop refusal (inr (λ program file. omega (arith, long, file.short), refl)))
 
-not_yet : (file : Option (List ℕ)) (stop : Stop) → IsSomeAnd file (λ bytes. file_limit < length bytes) → IsRefusal (NotYet main_class) stop → StopsBy (RunsFile file) 0 stop []
-not_yet None stop long refusal = absurd long
-not_yet (Some bytes) stop long refusal = unmade (RunsFile (Some bytes)) 0 stop (refused_so (RunsFile (Some bytes)) 0 (NotYet main_class) stop refusal (inr (λ program file. omega (arith, long, file.short), refl)))
+long_file : (file : Option (List ℕ)) → IsSomeAnd file (λ bytes. file_limit < length bytes) → IfSome file (λ bytes. file_limit < length bytes)
+long_file None long = tt
+long_file (Some bytes) long = long
 
-pub run_long : (file : Option (List ℕ)) (found : Found) (stop : Stop) → found ≡ TooLong → FindsAt file file_limit found → IsRefusal (NotYet main_class) stop → StopsBy (RunsFile file) 0 stop []
-run_long file found stop is finds refusal = not_yet file stop (subst (λ found. FindsAt file file_limit found) is finds) refusal
+pub run_absent : (main : List ℕ) (file : Option (List ℕ)) (stop : Stop) → FindsAt file file_limit Absent → IsRefusal (NotYet (utf8 main)) stop → StopsBy (RunsFile main file) 0 stop []
+run_absent main file stop absent refusal = run_no_file main file stop (subst (λ file. IfSome file (λ bytes. file_limit < length bytes)) (sym absent) tt) refusal
+
+pub run_long : (main : List ℕ) (file : Option (List ℕ)) (stop : Stop) → FindsAt file file_limit TooLong → IsRefusal (NotYet (utf8 main)) stop → StopsBy (RunsFile main file) 0 stop []
+run_long main file stop long refusal = run_no_file main file stop (long_file file long) refusal
 
 -- a count says the same of what comes to the same
 same_count : {One Other : Type 0} (before now : ℕ) → (One ↔ Other) → CountsFaults before now One → CountsFaults before now Other

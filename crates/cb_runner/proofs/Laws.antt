@@ -7,14 +7,18 @@ use Rattle.cb_runner.specs.Answer.{Answers, Ends, EndsIn, Fault, IsCutShort, IsT
 use Rattle.cb_runner.specs.Asm.{AssemblesText, TooLong, Assembled, Bad}
 use Rattle.cb_runner.specs.Ending.{Ending}
 use Rattle.cb_runner.specs.List.{ListsBytes, ListsFile, OfVersion, OfNoClass, OfItem, Listed}
-use Rattle.cb_runner.specs.Run.{RunsFile}
+use Rattle.cb_runner.specs.Run.{RunsClass, RunsFile, Stopped, Linked}
 use Rattle.cb_runner.specs.Words.{Command, RunIn, ListOf, Assemble, SaysNone}
 
 -- a command that nothing cuts short returns or is refused
-runs_whole : (file : Option (List ℕ)) (ending : Ending) → RunsFile file ending → IsWhole ending
-runs_whole None ending is = inr (ap (λ e. e.cause) is)
-runs_whole (Some bytes) ending (inl (program, file, is)) = inl (ap (λ e. e.cause) is)
-runs_whole (Some bytes) ending (inr (none, is)) = inr (ap (λ e. e.cause) is)
+runs_whole : (main : List ℕ) (file : Option (List ℕ)) (ending : Ending) → RunsFile main file ending → IsWhole ending
+runs_whole main None ending is = inr (ap (λ e. e.cause) is)
+runs_whole main (Some bytes) ending (inl (program, file, is)) = inl (ap (λ e. e.cause) is)
+runs_whole main (Some bytes) ending (inr (none, is)) = inr (ap (λ e. e.cause) is)
+
+runs_class_whole : (files : Option Files) (folder main : List ℕ) (ending : Ending) → RunsClass files folder main ending → IsWhole ending
+runs_class_whole files folder main ending (Stopped refusal reason stops says is) = inr (ap (λ e. e.cause) is)
+runs_class_whole files folder main ending (Linked classes file loaded may runs) = runs_whole main file ending runs
 
 lists_bytes_whole : (path bytes : List ℕ) (ending : Ending) → ListsBytes path bytes ending → IsWhole ending
 lists_bytes_whole path bytes ending (Listed class listed is) = inl (ap (λ e. e.cause) is)
@@ -33,7 +37,7 @@ assembles_whole text ending (Assembled short class text_of is) = inl (ap (λ e. 
 assembles_whole text ending (Bad short line stops is) = inr (ap (λ e. e.cause) is)
 
 pub answers_whole : (command : Command) (files : Option Files) (left : Option (List ℕ)) (ending : Ending) → Answers command files left ending → IsWhole ending
-answers_whole (RunIn folder) files left ending (file, may, runs) = runs_whole file ending runs
+answers_whole (RunIn folder main) files left ending runs = runs_class_whole files folder main ending runs
 answers_whole (ListOf path) files left ending (file, may, lists) = lists_whole path file ending lists
 answers_whole Assemble files left ending (text, may, assembles) = assembles_whole text ending assembles
 
@@ -46,13 +50,13 @@ fault_cause OfOutput = OutputFault
 
 pub cut_cause : (fault : Fault) (command : Command) (files : Option Files) (left : Option (List ℕ)) (ending : Ending) → IsCutShort fault command files left ending → ending.cause ≡ fault_cause fault
 unfolding fault_cause
-cut_cause OfMemory (RunIn folder) files left ending is = ap (λ e. e.cause) is
+cut_cause OfMemory (RunIn folder main) files left ending is = ap (λ e. e.cause) is
 cut_cause OfMemory (ListOf path) files left ending is = ap (λ e. e.cause) is
 cut_cause OfMemory Assemble files left ending (read, may, is) = ap (λ e. e.cause) is
-cut_cause OfFolder (RunIn folder) files left ending is = ap (λ e. e.cause) is
+cut_cause OfFolder (RunIn folder main) files left ending is = ap (λ e. e.cause) is
 cut_cause OfFolder (ListOf path) files left ending is = ap (λ e. e.cause) is
 cut_cause OfFolder Assemble files left ending is = absurd is
-cut_cause OfInput (RunIn folder) files left ending is = absurd is
+cut_cause OfInput (RunIn folder main) files left ending is = absurd is
 cut_cause OfInput (ListOf path) files left ending is = absurd is
 cut_cause OfInput Assemble files left ending (read, may, is) = ap (λ e. e.cause) is
 cut_cause OfOutput command files left ending (whole, answers, front, prefix, is) = ap (λ e. e.cause) is
@@ -106,7 +110,7 @@ pub asks_input : (command : Command) (files : Option Files) (left : Option (List
 unfolding fault_cause
 asks_input command files left ending (inl answers) is = absurd (whole_asks ending InputFault (answers_whole command files left ending answers) is (λ no. cc) (λ no. cc))
 asks_input Assemble files left ending (inr (fault, cut)) is = refl
-asks_input (RunIn folder) files left ending (inr (OfInput, cut)) is = absurd cut
+asks_input (RunIn folder main) files left ending (inr (OfInput, cut)) is = absurd cut
 asks_input (ListOf path) files left ending (inr (OfInput, cut)) is = absurd cut
 asks_input command files left ending (inr (OfMemory, cut)) is = let no : OutOfMemory ≡ InputFault = sym (cut_cause OfMemory command files left ending cut) ∙ is in absurd cc
 asks_input command files left ending (inr (OfFolder, cut)) is = let no : FolderFault ≡ InputFault = sym (cut_cause OfFolder command files left ending cut) ∙ is in absurd cc

@@ -4,6 +4,8 @@ pub mod Reading
 pub mod FewItems
 pub mod Digits
 pub mod Endings
+pub mod Unlinked
+pub mod RunOnce
 pub mod Listing
 pub mod Assembling
 pub mod Laws

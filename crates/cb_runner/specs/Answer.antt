@@ -11,8 +11,8 @@ use Rattle.cb_runner.specs.Asm.{AssemblesText, text_limit}
 use Rattle.cb_runner.specs.Ending.{Ending, folder_fault, input_fault, out_of_memory, output_fault, usage}
 use Rattle.cb_runner.specs.List.{ListsFile}
 use Rattle.cb_runner.specs.Outside.{Content, Failures}
-use Rattle.cb_runner.specs.Run.{RunsFile}
-use Rattle.cb_runner.specs.Words.{Command, RunIn, ListOf, Assemble, Says, SaysNone, class_path}
+use Rattle.cb_runner.specs.Run.{RunsClass}
+use Rattle.cb_runner.specs.Words.{Command, RunIn, ListOf, Assemble, Says, SaysNone}
 
 -- a command that nothing cuts short returns or is refused
 abbrev pub IsWhole : Ending → Type 0
@@ -22,9 +22,9 @@ IsWhole ending = (ending.cause ≡ Returned) ⊎ (ending.cause ≡ Refused)
 abbrev pub MayStandAt : Option Files → List ℕ → Option (List ℕ) → Type 0
 MayStandAt files path file = IfSome files (λ files. get files path ≡ file)
 
--- it comes to this end, by what its file may be, or by what may be left of the input
+-- it comes to this end, by what its files may be, or by what may be left of the input
 abbrev pub Answers : Command → Option Files → Option (List ℕ) → Ending → Type 0
-Answers (RunIn folder) files left ending = (file : Option (List ℕ)) × MayStandAt files (class_path folder) file × RunsFile file ending
+Answers (RunIn folder main) files left ending = RunsClass files folder main ending
 Answers (ListOf path) files left ending = (file : Option (List ℕ)) × MayStandAt files path file × ListsFile path file ending
 Answers Assemble files left ending = (text : List ℕ) × IfSome left (λ left. left ≡ text) × AssemblesText text ending
 

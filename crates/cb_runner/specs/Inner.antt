@@ -1,5 +1,5 @@
 -- What private contracts and proofs cite: no public clause names this file.
-use Rattle.std.specs.Prelude.{◌≡◌, ℕ, ◌+◌, ◌<◌, ◌≤◌, Bool, true, false, List, [], ◌++◌, length, drop, codes, string_bytes, Vec, Result, Ok, Err, Option, Some, IfSome}
+use Rattle.std.specs.Prelude.{◌≡◌, ℕ, ◌+◌, ◌<◌, ◌≤◌, Bool, true, false, List, [], ◌++◌, length, drop, codes, string_bytes, Vec, Result, Ok, Err, Option, Some, IfSome, IsSomeAnd}
 use Rattle.std.specs.Io.KnownBytes.{Appends, Consumes, IsAtEnd, Keeps}
 use Rattle.std.specs.declared.alloc.Global.{Global}
 use Rattle.cb_io.specs.Sink.{IsProperPrefix}
@@ -8,21 +8,26 @@ use Rattle.cb_machine.specs.Printing.{printed}
 use Rattle.cb_first_form.specs.FirstForm.{SpellsProgram}
 use Rattle.cb_classfile.specs.declared.fault.ClassFault.{ClassFault}
 use Rattle.cb_classfile.specs.declared.fault.ClassFault.TheVariants as faults
+use Rattle.cb_io.specs.Utf8.{utf8}
+use Rattle.cb_link.specs.declared.refusal.Refusal.{Refusal as LinkRefusal}
+use Rattle.cb_link.specs.declared.refusal.Refusal.TheVariants as link_refusals
 use Rattle.cb_runner.specs.declared.cause.Cause.{Cause}
 use Rattle.cb_runner.specs.declared.cause.Cause.TheVariants as causes
 use Rattle.cb_runner.specs.declared.input.Input.{Input}
 use Rattle.cb_runner.specs.declared.input.Input.TheVariants.{Whole, TooLong}
+use Rattle.cb_runner.specs.declared.refusal.Refusal.{Refusal}
 use Rattle.cb_runner.specs.declared.stop.Stop.{Stop}
 use Rattle.cb_runner.specs.declared.stop.Stop.TheVariants.{Returned, Usage, Refused, FolderFault, InputFault, OutputFault, OutOfMemory}
 use Rattle.cb_runner.specs.declared.words.Command.{Command as SaidCommand}
 use Rattle.cb_runner.specs.declared.words.Command.TheVariants as said_commands
 use Rattle.cb_runner.specs.Ending.{Ending, returned}
-use Rattle.cb_runner.specs.Messages.{Reason, BadVersion, Malformed, Unsupported, NotYet, line, refusal_text}
-use Rattle.cb_runner.specs.Words.{Command, RunIn, ListOf, Assemble, main_class}
+use Rattle.cb_runner.specs.Messages.{Reason, BadVersion, Malformed, Unsupported, NotYet, line, reason_of, refusal_text}
+use Rattle.cb_runner.specs.Run.{reason_of_linking}
+use Rattle.cb_runner.specs.Words.{Command, RunIn, ListOf, Assemble, internal_name}
 
 -- the command that a value of the program is
 abbrev pub said : SaidCommand → Command
-said (said_commands.Run folder) = RunIn folder.now
+said (said_commands.Run folder class) = RunIn folder.now (internal_name class.now)
 said (said_commands.List path) = ListOf path.now
 said said_commands.Assemble = Assemble
 
@@ -61,6 +66,24 @@ IsUnfound FolderFault = Unit {0}
 IsUnfound OutOfMemory = Unit {0}
 IsUnfound other = ⊥
 
+-- a command was refused before it printed anything, or a call of the folder failed or there was no memory
+abbrev pub StopsAtOnce : (Ending → Type 0) → Stop → Type 0
+StopsAtOnce MayEnd (Refused text) = MayEnd (ending_of (Refused text) [] 0)
+StopsAtOnce MayEnd stop = IsUnfound stop
+
+-- a class isn't linked for this refusal of linking
+abbrev pub IsUnlinked : LinkRefusal → Stop → Type 0
+IsUnlinked link_refusals.FolderFault stop = stop ≡ FolderFault
+IsUnlinked link_refusals.OutOfMemory stop = stop ≡ OutOfMemory
+IsUnlinked refusal stop = IsSomeAnd (reason_of_linking refusal) (λ reason. IsRefusal reason stop)
+
+-- a refusal of linking as one of the program's, if there was memory for the names
+abbrev pub IsConverted : LinkRefusal → Result Refusal Stop → Type 0
+IsConverted link_refusals.FolderFault made = made ≡ Err FolderFault
+IsConverted link_refusals.OutOfMemory made = made ≡ Err OutOfMemory
+IsConverted refusal (Ok told) = reason_of_linking refusal ≡ Some (reason_of told)
+IsConverted refusal (Err stop) = stop ≡ OutOfMemory
+
 -- a class file isn't listed for what a reader of it told
 abbrev pub IsUnlisted : List ℕ → ClassFault → Stop → Type 0
 IsUnlisted path (faults.BadVersion major) stop = IsRefusal (BadVersion path major) stop
@@ -94,13 +117,13 @@ StopsBy MayEnd read OutputFault out = (whole : Ending) × MayEnd whole × IsProp
 StopsBy MayEnd read OutOfMemory out = out ≡ []
 StopsBy MayEnd read other out = ⊥
 
--- a file of these bytes was run, stopped so and printed this
-abbrev pub RunsBytes : List ℕ → Stop → List ℕ → Type 0
-RunsBytes bytes Returned out = (program : List Expression) × SpellsProgram bytes program × (out ≡ printed program)
-RunsBytes bytes OutputFault out = (program : List Expression) × SpellsProgram bytes program × IsProperPrefix out (printed program)
-RunsBytes bytes (Refused text) out = ((program : List Expression) → ¬ SpellsProgram bytes program) × IsRefusal (NotYet main_class) (Refused text) × (out ≡ [])
-RunsBytes bytes OutOfMemory out = out ≡ []
-RunsBytes bytes other out = ⊥
+-- the file of a class, of these bytes, was run, stopped so and printed this
+abbrev pub RunsBytes : List ℕ → List ℕ → Stop → List ℕ → Type 0
+RunsBytes main bytes Returned out = (program : List Expression) × SpellsProgram bytes program × (out ≡ printed program)
+RunsBytes main bytes OutputFault out = (program : List Expression) × SpellsProgram bytes program × IsProperPrefix out (printed program)
+RunsBytes main bytes (Refused text) out = ((program : List Expression) → ¬ SpellsProgram bytes program) × IsRefusal (NotYet (utf8 main)) (Refused text) × (out ≡ [])
+RunsBytes main bytes OutOfMemory out = out ≡ []
+RunsBytes main bytes other out = ⊥
 
 -- so many bytes were read, at most, and then the input had these left
 abbrev pub HasRead : ℕ → Option (List ℕ) → Option (List ℕ) → ℕ → Type 0

@@ -4,7 +4,7 @@ use Rattle.std.specs.Fmt.{decimal}
 use Rattle.cb_classfile.specs.declared.feature.Feature.{Feature}
 use Rattle.cb_classfile.specs.Messages.{feature_text}
 use Rattle.cb_runner.specs.declared.refusal.Quantity.{Quantity}
-use Rattle.cb_runner.specs.declared.refusal.Quantity.TheVariants.{ClassFileBytes, AssemblyBytes}
+use Rattle.cb_runner.specs.declared.refusal.Quantity.TheVariants.{ClassFileBytes, Classes, AssemblyBytes}
 use Rattle.cb_runner.specs.declared.refusal.Refusal.{Refusal}
 use Rattle.cb_runner.specs.declared.refusal.Refusal.TheVariants as refusals
 
@@ -31,6 +31,7 @@ reason_of (refusals.BadLine line) = BadLine line
 -- what there is too much of
 abbrev pub quantity_text : Quantity → List ℕ
 quantity_text ClassFileBytes = codes "class file bytes"
+quantity_text Classes = codes "classes"
 quantity_text AssemblyBytes = codes "assembly bytes"
 
 -- the words of a refusal

@@ -1,11 +1,21 @@
--- What `run` comes to, by the file of its class.
+-- What `run` comes to, by what linking its class comes to and by the class's file.
 use Rattle.std.specs.Prelude.{◌≡◌, ◌⊎◌, ℕ, ◌≤◌, List, length, Option, Some, None}
+use Rattle.cb_io.specs.Folder.{Files}
+use Rattle.cb_io.specs.Utf8.{utf8}
 use Rattle.cb_machine.specs.Expression.{Expression}
 use Rattle.cb_machine.specs.Printing.{printed}
 use Rattle.cb_first_form.specs.FirstForm.{SpellsProgram}
+use Rattle.cb_classfile.specs.declared.class.ClassFile.{ClassFile}
+use Rattle.cb_link.specs.declared.refusal.Quantity.{Quantity as LinkQuantity}
+use Rattle.cb_link.specs.declared.refusal.Quantity.TheVariants as link_quantities
+use Rattle.cb_link.specs.declared.refusal.Refusal.{Refusal as LinkRefusal}
+use Rattle.cb_link.specs.declared.refusal.Refusal.TheVariants as link_refusals
+use Rattle.cb_link.specs.Files.{MayStandAt, path_of}
+use Rattle.cb_link.specs.Loading.{AreLoaded, StopsFor}
+use Rattle.cb_runner.specs.declared.refusal.Quantity.{Quantity}
+use Rattle.cb_runner.specs.declared.refusal.Quantity.TheVariants.{ClassFileBytes, Classes}
 use Rattle.cb_runner.specs.Ending.{Ending, refused, returned}
-use Rattle.cb_runner.specs.Messages.{MissingClass, NotYet}
-use Rattle.cb_runner.specs.Words.{main_class}
+use Rattle.cb_runner.specs.Messages.{Reason, MissingClass, Malformed, BadVersion, Unsupported, NotYet, TooLarge}
 
 -- the most bytes of a class file
 abbrev pub file_limit : ℕ
@@ -16,9 +26,32 @@ pub record IsProgramFile (bytes : List ℕ) (program : List Expression) : Type 0
   pub short : length bytes ≤ file_limit
   pub spelled : SpellsProgram bytes program
 
--- the file at the class's path is run to its end: it is missing, a program's, or another
-abbrev pub RunsFile : Option (List ℕ) → Ending → Type 0
-RunsFile None ending = ending ≡ refused (MissingClass main_class) 0
-RunsFile (Some bytes) ending =
+-- the file of a class that is linked is run to its end: there is none, as of a class of the library's; it is a program's;
+-- or another
+abbrev pub RunsFile : List ℕ → Option (List ℕ) → Ending → Type 0
+RunsFile main None ending = ending ≡ refused (NotYet (utf8 main)) 0
+RunsFile main (Some bytes) ending =
     ((program : List Expression) × IsProgramFile bytes program × (ending ≡ returned (printed program) 0))
-    ⊎ (((program : List Expression) → ¬ IsProgramFile bytes program) × (ending ≡ refused (NotYet main_class) 0))
+    ⊎ (((program : List Expression) → ¬ IsProgramFile bytes program) × (ending ≡ refused (NotYet (utf8 main)) 0))
+
+-- what there is too much of in linking
+abbrev pub quantity_of : LinkQuantity → Quantity
+quantity_of link_quantities.ClassFileBytes = ClassFileBytes
+quantity_of link_quantities.Classes = Classes
+
+-- the reason that a refusal of linking says, where it is one of classes
+abbrev pub reason_of_linking : LinkRefusal → Option Reason
+reason_of_linking (link_refusals.MissingClass name) = Some (MissingClass (utf8 name))
+reason_of_linking (link_refusals.TooLarge what count limit) = Some (TooLarge (quantity_of what) count limit)
+reason_of_linking (link_refusals.Malformed class) = Some (Malformed (utf8 class))
+reason_of_linking (link_refusals.BadVersion class major) = Some (BadVersion (utf8 class) major)
+reason_of_linking (link_refusals.Unsupported class item) = Some (Unsupported (utf8 class) item)
+reason_of_linking link_refusals.FolderFault = None
+reason_of_linking link_refusals.OutOfMemory = None
+
+-- linking the class stops for a reason, which is told; or its classes are loaded, and its file is run
+pub data RunsClass (files : Option Files) (folder main : List ℕ) (ending : Ending) : Type 0 where
+  Stopped : (refusal : LinkRefusal) (reason : Reason) → StopsFor files folder main refusal → reason_of_linking refusal ≡ Some reason
+      → ending ≡ refused reason 0 → RunsClass files folder main ending
+  Linked : (classes : List ClassFile) (file : Option (List ℕ)) → AreLoaded files folder main classes → MayStandAt files (path_of folder main) file
+      → RunsFile main file ending → RunsClass files folder main ending

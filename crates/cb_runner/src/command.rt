@@ -18,10 +18,11 @@ use std::alloc::Global;
 
 /// Does what the words of the command line say, which are those after the program's name.
 ///
-/// `run FOLDER First` reads the file `FOLDER/First.class` and, if it is of the first form, runs it: the values of
-/// its expressions go to `out`, a line each. `list PATH` prints the listing of a class file. `asm` reads an assembly text
-/// from `input` and writes the class file to `out`; no other command reads anything from it. How the call ended goes to
-/// `err` as its last line, but where the command came to its end.
+/// `run FOLDER MAIN` links the class MAIN: it reads `FOLDER/MAIN.class` and the files of the classes that are needed. If
+/// the file of MAIN is of the first form, it is run: the values of its expressions go to `out`, a line each. `list PATH`
+/// prints the listing of a class file. `asm` reads an assembly text from `input` and writes the class file to `out`; no
+/// other command reads anything from it. How the call ended goes to `err` as its last line, but where the command came to
+/// its end.
 pub fn run_command<F: Folder, S: Source, O: Sink, E: Sink>(
     alloc: Global,
     words: &[String],
@@ -62,7 +63,10 @@ fn carry_out<F: Folder, S: Source, O: Sink>(
     ensures output_fault { CountsFaults (O.faults out.old) (O.faults out.new) (result ≡ stops.OutputFault) }
 {
     match command_of(words) {
-        Some(Command::Run { folder: name }) => run_class(alloc, name, folder, out),
+        Some(Command::Run {
+            folder: root,
+            class,
+        }) => run_class(alloc, root, class, folder, out),
         Some(Command::List { path }) => list_file(alloc, path, folder, out),
         Some(Command::Assemble) => assemble_input(alloc, input, out),
         None => Stop::Usage,

@@ -2,8 +2,6 @@
 ghost use Rattle.std.specs.Prelude.{◌≡◌, ◌⊎◌, ◌↔◌, ℕ, ◌+◌, ◌<◌, ◌≤◌, List, [], length, Option, None, Some};
 ghost use Rattle.std.specs.FinMap.{get};
 ghost use Rattle.cb_io.specs.Folder.{Files};
-ghost use Rattle.cb_machine.specs.Expression.{Expression};
-ghost use Rattle.cb_machine.specs.Printing.{printed};
 ghost use Rattle.cb_asm.specs.Answers.{StopsAt};
 ghost use Rattle.cb_asm_list.specs.Listing.{listing};
 ghost use Rattle.cb_asm_record.specs.Grammar.{Assembles};
@@ -15,14 +13,13 @@ ghost use Rattle.cb_runner.specs.Answer.{Answers, Ends, EndsIn, IsWhole};
 ghost use Rattle.cb_runner.specs.Asm.{text_limit};
 ghost use Rattle.cb_runner.specs.Ending.{Ending, refused, returned, usage};
 ghost use Rattle.cb_runner.specs.List.{IsListed, LeavesOut};
-ghost use Rattle.cb_runner.specs.Messages.{MissingClass, Malformed, BadVersion, Unsupported, NotYet, TooLarge, BadLine};
-ghost use Rattle.cb_runner.specs.Run.{IsProgramFile, file_limit};
-ghost use Rattle.cb_runner.specs.Words.{Assemble, Command, ListOf, RunIn, SaysNone, class_path, main_class};
+ghost use Rattle.cb_runner.specs.Messages.{MissingClass, Malformed, BadVersion, Unsupported, TooLarge, BadLine};
+ghost use Rattle.cb_runner.specs.Run.{file_limit};
+ghost use Rattle.cb_runner.specs.Words.{Assemble, Command, ListOf, SaysNone};
 ghost use Rattle.cb_runner.specs.declared.cause.Cause.TheVariants as causes;
 ghost use Rattle.cb_runner.specs.declared.refusal.Quantity.TheVariants.{ClassFileBytes, AssemblyBytes};
 
 use cb_classfile::one_class;
-use cb_first_form::one_program;
 
 /// A call ends as one whose words are no command exactly where its words say none.
 pub fn usage_exactly()
@@ -42,24 +39,6 @@ pub fn refused_silently()
     ensures { (command : Command) (files : Option Files) (left : Option (List ℕ)) (ending : Ending)
         → EndsIn command files left ending → ending.cause ≡ causes.Refused → (ending.out ≡ []) × ((ending.read ≡ 0) ⊎ (command ≡ Assemble)) }
 {}
-
-/// A run that nothing cuts short is refused for want of its file exactly where there is none, and as one that isn't run
-/// yet exactly where the file is no program's; and that of a program's file returns, having printed what the program
-/// prints.
-pub fn run_exactly()
-    ensures missing { (folder : List ℕ) (files : Files) (left : Option (List ℕ)) (ending : Ending)
-        → Answers (RunIn folder) (Some files) left ending
-        → (ending ≡ refused (MissingClass main_class) 0) ↔ (get files (class_path folder) ≡ None) }
-    ensures not_yet { (folder bytes : List ℕ) (files : Files) (left : Option (List ℕ)) (ending : Ending)
-        → Answers (RunIn folder) (Some files) left ending → get files (class_path folder) ≡ Some bytes
-        → (ending ≡ refused (NotYet main_class) 0) ↔ ((program : List Expression) → ¬ IsProgramFile bytes program) }
-    ensures returned { (folder bytes : List ℕ) (files : Files) (left : Option (List ℕ)) (ending : Ending)
-        (program : List Expression) → Answers (RunIn folder) (Some files) left ending
-        → get files (class_path folder) ≡ Some bytes → IsProgramFile bytes program
-        → ending ≡ returned (printed program) 0 }
-{
-    one_program();
-}
 
 /// A listing that nothing cuts short is refused for want of its file exactly where there is none, and as too large exactly
 /// where the file has too many bytes. Else the bytes of the file decide: it returns exactly where they are the file of a

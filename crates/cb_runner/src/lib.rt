@@ -1,17 +1,19 @@
 //! The top call of the machine: all that the program does, over the outside that it is handed.
 //!
-//! So far it runs one class, `First`, whose file is of the first form, lists class files and assembles texts. Every other
-//! file to be run is answered as not yet run.
+//! So far it links any class and runs one whose file is of the first form, lists class files and assembles texts. Every
+//! other class that is linked is answered as not yet run.
 #![tactic(auto)]
 
 mod asm;
 mod cause;
+mod class_name;
 mod command;
 mod ended;
 mod file;
 mod input;
 mod interpreter;
 mod law;
+mod linking;
 mod list;
 mod operand_stack;
 mod printing;
@@ -25,7 +27,5 @@ mod words;
 pub use cause::Cause;
 pub use command::run_command;
 pub use ended::{Ended, Tally};
-pub use law::{
-    asm_exactly, list_exactly, refused_silently, run_exactly, usage_exactly, whole_exactly,
-};
+pub use law::{asm_exactly, list_exactly, refused_silently, usage_exactly, whole_exactly};
 pub use refusal::{Quantity, Refusal};

@@ -9,11 +9,11 @@ use std::fmt;
 /// Why a command is refused. A class is named as it is printed: for `list` by the path of its file.
 #[derive(Debug, Drop, PartialEq, Eq)]
 pub enum Refusal {
-    /// The class has no file.
+    /// The class is needed and has no file.
     MissingClass {
         name: String,
     },
-    /// The file of the class is no class file.
+    /// The file of the class is no class file, or that of a class of another name.
     Malformed {
         class: String,
     },
@@ -27,7 +27,7 @@ pub enum Refusal {
         class: String,
         item: Feature,
     },
-    /// The class has a file that isn't of the first form, or is too long for any.
+    /// The class is linked, and has no file of the first form.
     NotYet {
         class: String,
     },
@@ -48,6 +48,8 @@ pub enum Refusal {
 pub enum Quantity {
     /// The bytes of a class file.
     ClassFileBytes,
+    /// The classes of a program.
+    Classes,
     /// The bytes of an assembly text.
     AssemblyBytes,
 }
@@ -58,6 +60,7 @@ impl fmt::Display for Quantity {
     fn fmt<W: fmt::Write>(&self, f: &mut fmt::Formatter<W>) -> fmt::Result {
         f.write_str(match self {
             Quantity::ClassFileBytes => "class file bytes",
+            Quantity::Classes => "classes",
             Quantity::AssemblyBytes => "assembly bytes",
         })
     }

@@ -7,6 +7,7 @@ ghost use Rattle.cb_runner.specs.Messages.{MissingClass, reason_of};
 
 use crate::{Cause, Refusal};
 use cb_io::{Failed, Sink, write_all};
+use cb_plain::OutOfMemory;
 use std::alloc::Global;
 
 /// How a command stopped.
@@ -26,6 +27,17 @@ pub(crate) enum Stop {
     OutputFault,
     /// No memory was to be had.
     OutOfMemory,
+}
+
+impl From<OutOfMemory> for Stop {
+    ghost use Rattle.std.specs.Prelude.{◌≡◌};
+    ghost use Rattle.cb_runner.specs.declared.stop.Stop.TheVariants.{OutOfMemory};
+
+    ghost from_gives = { λ _ stop. stop ≡ OutOfMemory };
+
+    fn from(_: OutOfMemory) -> Self {
+        Stop::OutOfMemory
+    }
 }
 
 impl Stop {

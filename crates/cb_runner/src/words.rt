@@ -1,13 +1,15 @@
 // The words of the command line.
 ghost use Rattle.std.specs.Prelude.{◌≡◌, ◌∷◌, [], ◌↔◌, List, ℕ, codes, map, string_bytes, IsTrue, MatchOption};
 ghost use Rattle.cb_runner.specs.Inner.{said};
-ghost use Rattle.cb_runner.specs.Words.{IsList, IsOption, IsRun, Says, SaysNone};
+ghost use Rattle.cb_runner.specs.Words.{IsList, IsMain, IsOption, IsRun, Says, SaysNone};
+
+use crate::class_name::names_class;
 
 /// A command.
 #[derive(Clone, Copy, Debug)]
 pub(crate) enum Command<'a> {
-    /// `run FOLDER First`
-    Run { folder: &'a str },
+    /// `run FOLDER MAIN`
+    Run { folder: &'a str, class: &'a str },
     /// `list PATH`
     List { path: &'a str },
     /// `asm`
@@ -19,8 +21,8 @@ pub(crate) fn command_of(words: &[String]) -> Option<Command<'_>>
     ensures { MatchOption result (SaysNone (map string_bytes words.now))
         (λ command. Says (map string_bytes words.now) (said command)) }
 {
-    if let Some(folder) = folder_of_run(words) {
-        return Some(Command::Run { folder });
+    if let Some(run) = run_of(words) {
+        return Some(run);
     }
     if let Some(path) = path_of_list(words) {
         return Some(Command::List { path });
@@ -32,16 +34,19 @@ pub(crate) fn command_of(words: &[String]) -> Option<Command<'_>>
     }
 }
 
-/// The folder of the command `run FOLDER First`, or `None` where the words are another or none.
-fn folder_of_run(words: &[String]) -> Option<&str>
-    ensures { MatchOption result ((folder : List ℕ) → IsRun folder (map string_bytes words.now) → ⊥)
-        (λ folder. IsRun folder.now (map string_bytes words.now)) }
+/// The command `run FOLDER MAIN`, or `None` where the words are another or none.
+fn run_of(words: &[String]) -> Option<Command<'_>>
+    ensures { MatchOption result ((folder main : List ℕ) → IsRun folder main (map string_bytes words.now) → ⊥)
+        (λ command. Says (map string_bytes words.now) (said command)) }
 {
-    let [command, folder, main] = words else {
+    let [command, folder, class] = words else {
         return None;
     };
-    if command.as_str() == "run" && main.as_str() == "First" && !is_option(folder.as_str()) {
-        Some(folder.as_str())
+    if command.as_str() == "run" && !is_option(folder.as_str()) && is_main(class.as_str()) {
+        Some(Command::Run {
+            folder: folder.as_str(),
+            class: class.as_str(),
+        })
     } else {
         None
     }
@@ -77,4 +82,11 @@ fn is_option(word: &str) -> bool
     ensures { IsTrue result ↔ IsOption word.now }
 {
     word.as_bytes().first() == Some(&b'-')
+}
+
+/// Whether a word may stand for MAIN.
+fn is_main(word: &str) -> bool
+    ensures { IsTrue result ↔ IsMain word.now }
+{
+    !is_option(word) && names_class(word)
 }

@@ -35,7 +35,7 @@ fn the_call_ends_at_the_first_fault(rt: HostRuntime) -> Result<(), Fail> {
         ),
         (
             "run F First",
-            [2, 1, 2, 99],
+            [3, 1, 2, 99],
             Cause::OutputFault,
             126,
             b"4",
@@ -44,7 +44,7 @@ fn the_call_ends_at_the_first_fault(rt: HostRuntime) -> Result<(), Fail> {
         ),
         (
             "run F First",
-            [2, 1, 2, 3],
+            [3, 1, 2, 3],
             Cause::ErrFault,
             127,
             b"4",
@@ -62,7 +62,7 @@ fn the_call_ends_at_the_first_fault(rt: HostRuntime) -> Result<(), Fail> {
         ),
         (
             "run F First",
-            [2, 1, 9, 1],
+            [3, 1, 9, 1],
             Cause::Returned,
             0,
             b"42\n",

@@ -43,7 +43,7 @@ fn other_files_are_refused(rt: HostRuntime) -> Result<(), Fail> {
     for (file, want) in [
         (
             Some(long),
-            b"cbvm: E4 unsupported not yet in class First\n".as_slice(),
+            b"cbvm: E8 too large class file bytes 1048577 over 1048576\n".as_slice(),
         ),
         (None, b"cbvm: E1 missing class First\n"),
     ] {

@@ -1,8 +1,8 @@
 // The words of the command line and of refusals, and the laws called.
 use super::Objects;
 use crate::{
-    Cause, Quantity, Refusal, asm_exactly, list_exactly, refused_silently, run_exactly,
-    usage_exactly, whole_exactly,
+    Cause, Quantity, Refusal, asm_exactly, list_exactly, refused_silently, usage_exactly,
+    whole_exactly,
 };
 use cb_classfile::Feature;
 use std::test::Fail;
@@ -13,7 +13,11 @@ fn other_words_are_no_command(rt: HostRuntime) -> Result<(), Fail> {
     for line in [
         "run F",
         "run -F First",
-        "run F Second",
+        "run F -First",
+        "run F a..B",
+        "run F a/",
+        "run F [B",
+        "run F B;",
         "run F First x",
         "list",
         "list -F",
@@ -43,7 +47,6 @@ fn refusals_have_their_words_and_laws_are_called(rt: HostRuntime) -> Result<(), 
     usage_exactly();
     whole_exactly();
     refused_silently();
-    run_exactly();
     list_exactly();
     asm_exactly();
     let class = String::from_str(alloc, "a/B")?;

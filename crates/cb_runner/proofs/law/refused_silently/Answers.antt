@@ -5,7 +5,7 @@ use Rattle.cb_runner.specs.Answer.{EndsIn}
 use Rattle.cb_runner.specs.Asm.{AssemblesText, TooLong, Assembled, Bad}
 use Rattle.cb_runner.specs.Ending.{Ending}
 use Rattle.cb_runner.specs.List.{ListsBytes, ListsFile, OfVersion, OfNoClass, OfItem, Listed}
-use Rattle.cb_runner.specs.Run.{RunsFile}
+use Rattle.cb_runner.specs.Run.{RunsClass, RunsFile, Stopped, Linked}
 use Rattle.cb_runner.specs.Words.{Command, RunIn, ListOf, Assemble}
 use Rattle.cb_runner.proofs.Laws.{cut_cause, cut_whole}
 use Rattle.cb_runner.proofs.law.refused_silently.Goals as goal
@@ -14,10 +14,14 @@ use Rattle.cb_runner.proofs.law.refused_silently.Goals as goal
 unrefused : (ending other : Ending) → ending ≡ other → other.cause ≡ Returned → ending.cause ≡ Refused → ⊥
 unrefused ending other is returned refused = let no : Returned ≡ Refused = sym returned ∙ sym (ap (λ e. e.cause) is) ∙ refused in cc
 
-silent_run : (file : Option (List ℕ)) (ending : Ending) → RunsFile file ending → ending.cause ≡ Refused → (ending.out ≡ []) × (ending.read ≡ 0)
-silent_run None ending is refused = (ap (λ e. e.out) is, ap (λ e. e.read) is)
-silent_run (Some bytes) ending (inl (program, file, is)) refused = absurd (unrefused ending _ is refl refused)
-silent_run (Some bytes) ending (inr (none, is)) refused = (ap (λ e. e.out) is, ap (λ e. e.read) is)
+silent_file : (main : List ℕ) (file : Option (List ℕ)) (ending : Ending) → RunsFile main file ending → ending.cause ≡ Refused → (ending.out ≡ []) × (ending.read ≡ 0)
+silent_file main None ending is refused = (ap (λ e. e.out) is, ap (λ e. e.read) is)
+silent_file main (Some bytes) ending (inl (program, file, is)) refused = absurd (unrefused ending _ is refl refused)
+silent_file main (Some bytes) ending (inr (none, is)) refused = (ap (λ e. e.out) is, ap (λ e. e.read) is)
+
+silent_run : (files : Option Files) (folder main : List ℕ) (ending : Ending) → RunsClass files folder main ending → ending.cause ≡ Refused → (ending.out ≡ []) × (ending.read ≡ 0)
+silent_run files folder main ending (Stopped refusal reason stops says is) refused = (ap (λ e. e.out) is, ap (λ e. e.read) is)
+silent_run files folder main ending (Linked classes file loaded may runs) refused = silent_file main file ending runs refused
 
 silent_bytes : (path bytes : List ℕ) (ending : Ending) → ListsBytes path bytes ending → ending.cause ≡ Refused → (ending.out ≡ []) × (ending.read ≡ 0)
 silent_bytes path bytes ending (Listed class listed is) refused = absurd (unrefused ending _ is refl refused)
@@ -36,7 +40,7 @@ silent_text text ending (Assembled short class text_of is) refused = absurd (unr
 silent_text text ending (Bad short line stops is) refused = ap (λ e. e.out) is
 
 silent : (command : Command) (files : Option Files) (left : Option (List ℕ)) (ending : Ending) → EndsIn command files left ending → ending.cause ≡ Refused → (ending.out ≡ []) × ((ending.read ≡ 0) ⊎ (command ≡ Assemble))
-silent (RunIn folder) files left ending (inl (file, may, runs)) refused = let (out, read) = silent_run file ending runs refused in (out, inl read)
+silent (RunIn folder main) files left ending (inl runs) refused = let (out, read) = silent_run files folder main ending runs refused in (out, inl read)
 silent (ListOf path) files left ending (inl (file, may, lists)) refused = let (out, read) = silent_list path file ending lists refused in (out, inl read)
 silent Assemble files left ending (inl (text, may, assembles)) refused = (silent_text text ending assembles refused, inr refl)
 silent command files left ending (inr (fault, cut)) refused = absurd (cut_whole fault ending (cut_cause fault command files left ending cut) (inr refused))

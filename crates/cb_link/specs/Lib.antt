@@ -1,0 +1,10 @@
+pub mod Closure
+pub mod Files
+pub mod Inner
+pub mod Loading
+pub mod Names
+pub mod Program
+-- what the public clauses cite of the crates below
+pub use Rattle.cb_classfile.specs.Library
+pub use Rattle.cb_io.specs.Faults
+pub use Rattle.cb_io.specs.Folder

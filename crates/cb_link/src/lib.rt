@@ -1,0 +1,14 @@
+//! Linking: the classes that a main class needs, found in a folder (JVMS §5.3).
+#![tactic(auto)]
+
+mod law;
+mod linking;
+mod path;
+mod program;
+mod refusal;
+
+pub use law::closures;
+pub use linking::link;
+pub use path::path_of;
+pub use program::Program;
+pub use refusal::{Quantity, Refusal};

@@ -1,0 +1,45 @@
+// Why a program can't be linked.
+use cb_classfile::Feature;
+use cb_text::Units;
+
+/// Why a program can't be linked. Classes are named by their internal names (JVMS §4.2.1).
+#[derive(Debug, Drop)]
+pub enum Refusal {
+    /// The class is needed and has no file.
+    MissingClass {
+        name: Units,
+    },
+    /// There is more of something than its limit. It is counted no further than to one more.
+    TooLarge {
+        what: Quantity,
+        count: u64,
+        limit: u64,
+    },
+    /// The file of the class is no class file, or that of a class of another name.
+    Malformed {
+        class: Units,
+    },
+    /// The file of the class has another major version than 50, 51 and 52.
+    BadVersion {
+        class: Units,
+        major: u16,
+    },
+    /// The class has an item that this machine leaves out.
+    Unsupported {
+        class: Units,
+        item: Feature,
+    },
+    /// The folder failed.
+    FolderFault,
+    /// No memory was to be had.
+    OutOfMemory,
+}
+
+/// What there may be too much of.
+#[derive(Clone, Copy, Debug, PartialEq, Eq)]
+pub enum Quantity {
+    /// The bytes of a class file.
+    ClassFileBytes,
+    /// The classes of a program.
+    Classes,
+}

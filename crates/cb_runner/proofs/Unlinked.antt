@@ -1,0 +1,32 @@
+-- How a run ends whose class isn't linked.
+use Rattle.std.proofs.Common.{◌≡◌, ℕ, List, [], Option, Some, refl, sym, subst}
+use Rattle.cb_io.specs.Folder.{Files}
+use Rattle.cb_io.specs.Utf8.{utf8}
+use Rattle.cb_link.specs.declared.refusal.Refusal.{Refusal}
+use Rattle.cb_link.specs.declared.refusal.Refusal.TheVariants as links
+use Rattle.cb_link.specs.Loading.{Stops, StopsFor}
+use Rattle.cb_runner.specs.declared.stop.Stop.{Stop}
+use Rattle.cb_runner.specs.declared.stop.Stop.TheVariants.{Refused, OutOfMemory}
+use Rattle.cb_runner.specs.Ending.{Ending, refused}
+use Rattle.cb_runner.specs.Inner.{IsRefusal, IsUnlinked, StopsAtOnce}
+use Rattle.cb_runner.specs.Messages.{Reason, MissingClass, Malformed, BadVersion, Unsupported, TooLarge}
+use Rattle.cb_runner.specs.Run.{RunsClass, Stopped, quantity_of, reason_of_linking}
+use Rattle.cb_runner.proofs.Endings.{refusal_is}
+
+-- a refusal for a reason stops at once
+refused_at_once : (MayEnd : Ending → Type 0) (reason : Reason) (stop : Stop) → IsRefusal reason stop → MayEnd (refused reason 0) → StopsAtOnce MayEnd stop
+refused_at_once MayEnd reason (Refused text) is may = subst MayEnd (refusal_is reason text [] 0 is refl) may
+refused_at_once MayEnd reason OutOfMemory is may = tt
+refused_at_once MayEnd reason stop is may = absurd is
+
+unlinked_for : (files : Option Files) (root main : List ℕ) (refusal : Refusal) (reason : Reason) (stop : Stop) → StopsFor files root main refusal → reason_of_linking refusal ≡ Some reason → IsRefusal reason stop → StopsAtOnce (RunsClass files root main) stop
+unlinked_for files root main refusal reason stop stops says is = refused_at_once (RunsClass files root main) reason stop is (Stopped refusal reason stops says refl)
+
+pub unlinked_so : (files : Option Files) (root main : List ℕ) (refusal : Refusal) (stop : Stop) → Stops files root main refusal → IsUnlinked refusal stop → StopsAtOnce (RunsClass files root main) stop
+unlinked_so files root main links.FolderFault stop stops is = subst (StopsAtOnce (RunsClass files root main)) (sym is) tt
+unlinked_so files root main links.OutOfMemory stop stops is = subst (StopsAtOnce (RunsClass files root main)) (sym is) tt
+unlinked_so files root main (links.MissingClass name) stop stops is = unlinked_for files root main (links.MissingClass name) (MissingClass (utf8 name)) stop stops refl is
+unlinked_so files root main (links.TooLarge what count limit) stop stops is = unlinked_for files root main (links.TooLarge what count limit) (TooLarge (quantity_of what) count limit) stop stops refl is
+unlinked_so files root main (links.Malformed class) stop stops is = unlinked_for files root main (links.Malformed class) (Malformed (utf8 class)) stop stops refl is
+unlinked_so files root main (links.BadVersion class major) stop stops is = unlinked_for files root main (links.BadVersion class major) (BadVersion (utf8 class) major) stop stops refl is
+unlinked_so files root main (links.Unsupported class item) stop stops is = unlinked_for files root main (links.Unsupported class item) (Unsupported (utf8 class) item) stop stops refl is

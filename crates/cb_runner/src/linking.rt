@@ -1,0 +1,92 @@
+// Linking the class that is run.
+ghost use Rattle.std.specs.Prelude.{◌≡◌, List, Option, IfErr, IfOk, IsErrOf};
+ghost use Rattle.cb_classfile.specs.declared.class.ClassFile.{ClassFile};
+ghost use Rattle.cb_io.specs.Faults.{CountsFaults};
+ghost use Rattle.cb_link.specs.Loading.{AreLoaded};
+ghost use Rattle.cb_runner.specs.Inner.{IsConverted, IsUnlinked, StopsAtOnce};
+ghost use Rattle.cb_runner.specs.Run.{RunsClass, quantity_of};
+ghost use Rattle.cb_runner.specs.Words.{internal_name};
+ghost use Rattle.cb_runner.specs.declared.stop.Stop.TheVariants as stops;
+
+use crate::class_name::internal_name;
+use crate::stop::Stop;
+use crate::{Quantity, Refusal};
+use cb_core::core_classes;
+use cb_io::{Folder, text_of};
+use cb_link::{Quantity as LinkQuantity, Refusal as LinkRefusal, link};
+use std::alloc::Global;
+
+/// Links the class that a word names, with the library's classes and those of a folder.
+pub(crate) fn link_class<F: Folder>(
+    alloc: Global,
+    root: &str,
+    class: &str,
+    folder: &mut F,
+) -> Result<(), Stop>
+    ensures kept { F.files folder.new ≡ F.files folder.old }
+    ensures loaded { IfOk result (λ _. (classes : List ClassFile)
+        × AreLoaded (F.files folder.old) root.now (internal_name class.now) classes) }
+    ensures stopped { IfErr result (StopsAtOnce (RunsClass (F.files folder.old) root.now (internal_name class.now))) }
+    ensures fault { CountsFaults (F.faults folder.old) (F.faults folder.new) (IsErrOf result stops.FolderFault) }
+{
+    let Ok(library) = core_classes(alloc) else {
+        return Err(Stop::OutOfMemory);
+    };
+    let Ok(main) = internal_name(alloc, class) else {
+        return Err(Stop::OutOfMemory);
+    };
+    match link(alloc, library, folder, root, main) {
+        Ok(_) => Ok(()),
+        Err(refusal) => Err(unlinked(alloc, refusal)),
+    }
+}
+
+/// Stops for a refusal of linking.
+fn unlinked(alloc: Global, refusal: LinkRefusal) -> Stop
+    ensures { IsUnlinked refusal result }
+{
+    match converted(alloc, refusal) {
+        Ok(refusal) => Stop::refused(alloc, refusal),
+        Err(stop) => stop,
+    }
+}
+
+/// The same refusal, in which classes are named as they are printed.
+fn converted(alloc: Global, refusal: LinkRefusal) -> Result<Refusal, Stop>
+    ensures { IsConverted refusal result }
+{
+    match refusal {
+        LinkRefusal::MissingClass { name } => {
+            let name = text_of(alloc, name.as_slice())?;
+            Ok(Refusal::MissingClass { name })
+        }
+        LinkRefusal::TooLarge { what, count, limit } => {
+            let what = counted(what);
+            Ok(Refusal::TooLarge { what, count, limit })
+        }
+        LinkRefusal::Malformed { class } => {
+            let class = text_of(alloc, class.as_slice())?;
+            Ok(Refusal::Malformed { class })
+        }
+        LinkRefusal::BadVersion { class, major } => {
+            let class = text_of(alloc, class.as_slice())?;
+            Ok(Refusal::BadVersion { class, major })
+        }
+        LinkRefusal::Unsupported { class, item } => {
+            let class = text_of(alloc, class.as_slice())?;
+            Ok(Refusal::Unsupported { class, item })
+        }
+        LinkRefusal::FolderFault => Err(Stop::FolderFault),
+        LinkRefusal::OutOfMemory => Err(Stop::OutOfMemory),
+    }
+}
+
+/// The same quantity.
+fn counted(what: LinkQuantity) -> Quantity
+    ensures { result ≡ quantity_of what }
+{
+    match what {
+        LinkQuantity::ClassFileBytes => Quantity::ClassFileBytes,
+        LinkQuantity::Classes => Quantity::Classes,
+    }
+}
