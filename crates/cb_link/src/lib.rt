@@ -1,6 +1,7 @@
 //! Linking: the classes that a main class needs, found in a folder (JVMS §5.3).
 #![tactic(auto)]
 
+mod entries;
 mod law;
 mod linking;
 mod program;

@@ -1,0 +1,2 @@
+pub mod EnteredKeys
+pub mod EnteredLaws

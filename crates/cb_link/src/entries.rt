@@ -1,0 +1,130 @@
+// The names that are looked for, in the order in which they were entered.
+ghost use Rattle.std.specs.Prelude.{◌≡◌, ◌<◌, [], length, option_map, slice_get, IfOk, OnOk, Some};
+ghost use Rattle.std.specs.List.{list_any};
+ghost use Rattle.cb_link.specs.Closure.{covers};
+ghost use Rattle.cb_link.specs.Entering.{is_same};
+ghost use Rattle.cb_link.specs.Inner.{entered};
+
+use cb_plain::OutOfMemory;
+use indexmap::{Equivalent, IndexSet};
+use std::alloc::Global;
+use std::marker::Model;
+
+/// A name that was entered, and whether a class of that name has to be there.
+#[derive(PartialEq, Eq, Hash, Drop)]
+pub(crate) struct Key {
+    name: Vec<u16>,
+    needed: bool,
+}
+
+/// What a key is looked up by.
+#[derive(Clone, Copy, PartialEq, Eq, Hash)]
+struct Query<'a> {
+    name: &'a [u16],
+    needed: bool,
+}
+
+impl<'a> Equivalent<Key> for Query<'a> {
+    ghost use Rattle.std.specs.Prelude.{nat_eq, ◌&&◌, ◌++◌};
+    ghost use Rattle.std.specs.Bool.{beq};
+    ghost use Rattle.std.specs.Cmp.{booleans_Decides, first_so, second_so};
+    ghost use Rattle.std.specs.Cmp.Lexicographic.{bytes_decides, pointwise};
+    ghost use Rattle.std.specs.Hash as fed;
+
+    ghost equivalent = { λ query key. pointwise nat_eq query.name.now key.name.items && beq query.needed key.needed };
+
+    ghost respects_hash = { λ query key same.
+        let names = (bytes_decides query.name.now key.name.items).0 (first_so _ (beq query.needed key.needed) same) in
+        let flags = (booleans_Decides query.needed key.needed).0 (second_so (pointwise nat_eq query.name.now key.name.items) _ same) in
+        λ i. fed.slice fed.u16 (names i) ++ fed.bool (flags i) };
+
+    ghost respects_eq = { λ query key other same.
+        let names = (bytes_decides query.name.now key.name.items).0 (first_so _ (beq query.needed key.needed) same) in
+        let flags = (booleans_Decides query.needed key.needed).0 (second_so (pointwise nat_eq query.name.now key.name.items) _ same) in
+        λ i. pointwise nat_eq (names i) other.name.items && beq (flags i) other.needed };
+
+    fn equivalent(&self, key: &Key) -> bool {
+        self.name == key.name.as_slice() && self.needed == key.needed
+    }
+}
+
+/// The names that are looked for, each once, and once more as needed where it wasn't at first. Contracts see it as the
+/// list of these entries.
+#[derive(Drop)]
+pub(crate) struct Entries {
+    alloc: Global,
+    keys: IndexSet<Key>,
+}
+
+impl Model for Entries {
+    ghost use Rattle.std.specs.Prelude.{List, map};
+    ghost use Rattle.cb_link.specs.Names.{Entry};
+    ghost use Rattle.cb_link.specs.Entering.{key_entry};
+
+    ghost Value = { List Entry };
+
+    ghost view = { λ entries. map key_entry entries.keys.keys };
+}
+
+impl Entries {
+    /// No names. It takes memory from `alloc` as names are entered.
+    pub(crate) fn new(alloc: Global) -> Self
+        ensures { result ≡ [] }
+    {
+        Entries {
+            alloc,
+            keys: IndexSet::new(alloc),
+        }
+    }
+
+    /// How many entries there are.
+    pub(crate) fn len(&self) -> usize
+        ensures { result ≡ length self.now }
+    {
+        self.keys.len()
+    }
+
+    /// The name of the entry at a place.
+    pub(crate) fn name(&self, place: usize) -> &[u16]
+        requires { place < length self.now }
+        ensures { option_map (λ entry. entry.name) (slice_get self.now place) ≡ Some result.now }
+    {
+        self.keys.as_slice()[place].name.as_slice()
+    }
+
+    /// Whether the entry at a place is needed.
+    pub(crate) fn is_needed(&self, place: usize) -> bool
+        requires { place < length self.now }
+        ensures { option_map (λ entry. entry.needed) (slice_get self.now place) ≡ Some result }
+    {
+        self.keys.as_slice()[place].needed
+    }
+
+    /// Enters a name, if no entry makes it superfluous. `OutOfMemory` where no memory was to be had. Takes expected time in
+    /// the length of the name.
+    pub(crate) fn enter(&mut self, name: &[u16], needed: bool) -> Result<(), OutOfMemory>
+        ensures { OnOk result (self.new ≡ entered self.old (record { name = name.now; needed = needed })) }
+    {
+        if self.covers(name, needed) {
+            return Ok(());
+        }
+        let mut copy = Vec::with_capacity(self.alloc, name.len())?;
+        copy.extend_from_slice(name)?;
+        self.keys.insert(Key { name: copy, needed })?;
+        Ok(())
+    }
+
+    /// Whether an entry makes this one superfluous.
+    fn covers(&self, name: &[u16], needed: bool) -> bool
+        ensures { result ≡ list_any (λ before. covers before (record { name = name.now; needed = needed })) self.now }
+    {
+        self.has(name, true) || !needed && self.has(name, false)
+    }
+
+    /// Whether there is just this entry.
+    fn has(&self, name: &[u16], needed: bool) -> bool
+        ensures { result ≡ list_any (is_same (record { name = name.now; needed = needed })) self.now }
+    {
+        self.keys.contains(Query { name, needed })
+    }
+}
