@@ -1,8 +1,8 @@
 // The names that are looked for, in the order in which they were entered.
-ghost use Rattle.std.specs.Prelude.{◌≡◌, ◌<◌, [], length, option_map, slice_get, IfOk, OnOk, Some};
+ghost use Rattle.std.specs.Prelude.{◌≡◌, ◌<◌, [], false, length, option_map, slice_get, IfOk, OnOk, Some};
 ghost use Rattle.std.specs.List.{list_any};
 ghost use Rattle.cb_link.specs.Closure.{covers};
-ghost use Rattle.cb_link.specs.Entering.{is_same};
+ghost use Rattle.cb_link.specs.Entering.{is_same, key_entry};
 ghost use Rattle.cb_link.specs.Inner.{entered};
 
 use cb_plain::OutOfMemory;
@@ -108,9 +108,16 @@ impl Entries {
         if self.covers(name, needed) {
             return Ok(());
         }
-        let mut copy = Vec::with_capacity(self.alloc, name.len())?;
-        copy.extend_from_slice(name)?;
-        self.keys.insert(Key { name: copy, needed })?;
+        let name = copy_of(self.alloc, name)?;
+        self.add(Key { name, needed })
+    }
+
+    /// Enters a name that no entry makes superfluous.
+    fn add(&mut self, key: Key) -> Result<(), OutOfMemory>
+        requires { list_any (λ before. covers before (key_entry key)) self.old ≡ false }
+        ensures { OnOk result (self.new ≡ entered self.old (key_entry key)) }
+    {
+        self.keys.insert(key)?;
         Ok(())
     }
 
@@ -127,4 +134,13 @@ impl Entries {
     {
         self.keys.contains(Query { name, needed })
     }
+}
+
+/// The same units.
+fn copy_of(alloc: Global, units: &[u16]) -> Result<Vec<u16>, OutOfMemory>
+    ensures { IfOk result (λ copy. copy.items ≡ units.now) }
+{
+    let mut copy = Vec::with_capacity(alloc, units.len())?;
+    copy.extend_from_slice(units)?;
+    Ok(copy)
 }
