@@ -1,2 +1,3 @@
 pub mod EnteredKeys
 pub mod EnteredLaws
+pub mod NamingTexts

@@ -4,8 +4,10 @@
 mod entries;
 mod law;
 mod linking;
+mod names;
 mod program;
 mod refusal;
+mod text_names;
 
 pub use law::closures;
 pub use linking::link;
