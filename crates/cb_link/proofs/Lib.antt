@@ -1,3 +1,4 @@
 pub mod EnteredKeys
 pub mod EnteredLaws
+pub mod NamingParts
 pub mod NamingTexts

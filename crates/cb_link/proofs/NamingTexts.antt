@@ -1,11 +1,11 @@
 -- Where the names in a descriptor stand.
-use Rattle.std.proofs.Common.{◌≡◌, ◌∙◌, ap, refl, sym, arith, true≢false, append_assoc, ℕ, zero, suc, ◌+◌, ◌-◌, ◌<◌, ◌≤◌, ◌==◌, Bool, true, false, cond, ◌||◌, not, List, [], ◌∷◌, ◌++◌, length, take, drop}
+use Rattle.std.proofs.Common.{◌≡◌, ◌∙◌, ap, refl, sym, arith, true≢false, append_assoc, ℕ, zero, suc, ◌+◌, ◌-◌, ◌<◌, ◌≤◌, ◌==◌, Bool, true, false, cond, ◌||◌, not, List, [], ◌∷◌, ◌++◌, length, take, drop, Option, Some, None, MatchOption, Bor}
 use Rattle.std.specs.List.{list_any, prefix_len}
 use Rattle.std.proofs.lemmas.Bool.{eqb-true}
 use Rattle.std.proofs.lemmas.List.{take_rest}
 use Rattle.cb_link.specs.Names.{letter_class, name_behind, names_in, semicolon}
 
-none_before : (unit : ℕ) (text : List ℕ) → length text ≤ prefix_len (λ other. not (other == unit)) text → list_any (λ other. other == unit) text ≡ false
+pub none_before : (unit : ℕ) (text : List ℕ) → length text ≤ prefix_len (λ other. not (other == unit)) text → list_any (λ other. other == unit) text ≡ false
 none_before unit [] long = refl
 none_before unit (other ∷ text) long = go (other == unit) long (none_before unit text)
   where
@@ -19,7 +19,7 @@ pub record IsSplit (unit : ℕ) (text : List ℕ) (place : ℕ) : Type 0 where
   pub before : list_any (λ other. other == unit) (take place text) ≡ false
   pub whole : text ≡ take place text ++ unit ∷ drop (place + 1) text
 
-split : (unit : ℕ) (text : List ℕ) (place : ℕ) → place ≡ prefix_len (λ other. not (other == unit)) text → place < length text → IsSplit unit text place
+pub split : (unit : ℕ) (text : List ℕ) (place : ℕ) → place ≡ prefix_len (λ other. not (other == unit)) text → place < length text → IsSplit unit text place
 split unit [] place is short = absurd (omega arith)
 split unit (other ∷ text) zero is short = go (other == unit) refl is
   where
@@ -40,7 +40,7 @@ split unit (other ∷ text) (suc place) is short = go (other == unit) refl is (s
         }
 
 -- without an L there are no names
-no_names : (text : List ℕ) → list_any (λ other. other == letter_class) text ≡ false → names_in text ≡ []
+pub no_names : (text : List ℕ) → list_any (λ other. other == letter_class) text ≡ false → names_in text ≡ []
 no_names [] no-letter = refl
 no_names (unit ∷ text) no-letter = go (unit == letter_class) no-letter (no_names text)
   where
@@ -85,3 +85,14 @@ to_end name (unit ∷ front) text no-end = go (unit == semicolon) no-end (to_end
         → cond test (name ∷ names_in (front ++ semicolon ∷ text)) (name_behind (name ++ unit ∷ []) (front ++ semicolon ∷ text)) ≡ (name ++ unit ∷ front) ∷ names_in text
     go true is next = absurd (true≢false is)
     go false is next = next is ∙ ap (λ name. name ∷ names_in text) (append_assoc name (unit ∷ []) front)
+
+-- behind an L, what stands before the next semicolon is the first name
+pub next_name : (text front behind : List ℕ) (result : Option (Bor (List ℕ) × Bor (List ℕ)))
+    → list_any (λ other. other == letter_class) front ≡ false → text ≡ front ++ letter_class ∷ behind
+    → MatchOption result (list_any (λ other. other == semicolon) behind ≡ false)
+        (λ found. (list_any (λ other. other == semicolon) found.0.now ≡ false) × (behind ≡ found.0.now ++ semicolon ∷ found.1.now))
+    → MatchOption result (names_in text ≡ []) (λ found. names_in text ≡ found.0.now ∷ names_in found.1.now)
+next_name text front behind None free is none =
+    ap names_in is ∙ first_letter front behind free ∙ no_end [] behind none
+next_name text front behind (Some found) free is parts =
+    ap names_in is ∙ first_letter front behind free ∙ ap (name_behind []) parts.1 ∙ to_end [] found.0.now found.1.now parts.0

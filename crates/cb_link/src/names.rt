@@ -22,7 +22,8 @@ pub(crate) fn enter_names_of(class: &ClassFile, entries: &mut Entries) -> Result
     enter_class(pool, class.super_class, true, entries)?;
     enter_each(pool, class.interfaces.as_slice(), entries)?;
     enter_each(pool, class.fields.as_slice(), entries)?;
-    enter_each(pool, class.methods.as_slice(), entries)
+    enter_each(pool, class.methods.as_slice(), entries)?;
+    Ok(())
 }
 
 /// What has names of classes.
@@ -79,10 +80,10 @@ impl Naming for Method {
 
     fn enter(&self, pool: &Pool, entries: &mut Entries) -> Result<(), OutOfMemory> {
         enter_text(pool, self.descriptor, entries)?;
-        match &self.body {
-            Some(body) => enter_body(pool, body, entries),
-            None => Ok(()),
+        if let Some(body) = &self.body {
+            enter_body(pool, body, entries)?;
         }
+        Ok(())
     }
 }
 
@@ -119,7 +120,8 @@ impl Naming for MapFrame {
 
     fn enter(&self, pool: &Pool, entries: &mut Entries) -> Result<(), OutOfMemory> {
         enter_each(pool, self.locals.as_slice(), entries)?;
-        enter_each(pool, self.stack.as_slice(), entries)
+        enter_each(pool, self.stack.as_slice(), entries)?;
+        Ok(())
     }
 }
 
@@ -143,7 +145,8 @@ fn enter_body(pool: &Pool, body: &Body, entries: &mut Entries) -> Result<(), Out
 {
     enter_each(pool, body.code.as_slice(), entries)?;
     enter_each(pool, body.handlers.as_slice(), entries)?;
-    enter_each(pool, body.frames.as_slice(), entries)
+    enter_each(pool, body.frames.as_slice(), entries)?;
+    Ok(())
 }
 
 /// Enters the names of a constant: a class, or the class of a member and the names in its descriptor.
@@ -153,7 +156,8 @@ fn enter_constant(pool: &Pool, index: u16, entries: &mut Entries) -> Result<(), 
     match pool.member(index) {
         Some(member) => {
             enter_class_name(member.class, true, entries)?;
-            enter_descriptor(member.descriptor, false, entries)
+            enter_descriptor(member.descriptor, false, entries)?;
+            Ok(())
         }
         None => enter_class(pool, index, true, entries),
     }
