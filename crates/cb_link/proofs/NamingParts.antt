@@ -1,5 +1,5 @@
 -- What is entered part by part is entered as a whole.
-use Rattle.std.proofs.Common.{◌≡◌, ◌∙◌, ap, refl, sym, ℕ, Bool, true, false, List, [], ◌∷◌, ◌++◌, map, Option, Some, None, get_or, take, length, ◌+◌, ◌<◌}
+use Rattle.std.proofs.Common.{◌≡◌, ◌∙◌, ap, refl, sym, ℕ, Bool, true, false, List, [], ◌∷◌, ◌++◌, Some, get_or, take, length, ◌+◌, ◌<◌}
 use Rattle.std.specs.List.{flat_map}
 use Rattle.std.proofs.lemmas.Grind.{flat_map-append}
 use Rattle.std.proofs.lemmas.List.{map-append, take_more}
@@ -36,9 +36,9 @@ pub frame_entered : (pool : List Constant) (frame : MapFrame) (locals stack : Li
     → new ≡ entered_all old (mentioned (frame_names pool frame))
 frame_entered pool frame locals stack old middle new one other first then =
     let whole : flat_map (λ kind. mentioned (type_names pool kind)) locals ++ flat_map (λ kind. mentioned (type_names pool kind)) stack ≡ mentioned (frame_names pool frame) =
-          (λ i. flat_map (λ kind. mentioned (type_names pool kind)) (one i) ++ flat_map (λ kind. mentioned (type_names pool kind)) (other i))
-          ∙ sym (flat_map-append (λ kind. mentioned (type_names pool kind)) frame.locals frame.stack)
-          ∙ marked_flat false (type_names pool) (frame.locals ++ frame.stack) in
+    (λ i. flat_map (λ kind. mentioned (type_names pool kind)) (one i) ++ flat_map (λ kind. mentioned (type_names pool kind)) (other i))
+    ∙ sym (flat_map-append (λ kind. mentioned (type_names pool kind)) frame.locals frame.stack)
+    ∙ marked_flat false (type_names pool) (frame.locals ++ frame.stack) in
     more old middle new (flat_map (λ kind. mentioned (type_names pool kind)) locals) (flat_map (λ kind. mentioned (type_names pool kind)) stack) first then
     ∙ ap (entered_all old) whole
 
@@ -67,8 +67,8 @@ body_entered pool body code handlers frames old middle later new one other last 
     let caught : List Handler → List Entry = λ handlers. flat_map (λ handler. needed (handler_names pool handler)) handlers in
     let framed : List MapFrame → List Entry = λ frames. flat_map (λ frame. mentioned (frame_names pool frame)) frames in
     let whole : (named code ++ caught handlers) ++ framed frames ≡ body_names pool (Some body) =
-          (λ i. (named (one i) ++ caught (other i)) ++ framed (last i))
-          ∙ (λ i. (named body.code ++ marked_flat true (handler_names pool) body.handlers i) ++ marked_flat false (frame_names pool) body.frames i) in
+    (λ i. (named (one i) ++ caught (other i)) ++ framed (last i))
+    ∙ (λ i. (named body.code ++ marked_flat true (handler_names pool) body.handlers i) ++ marked_flat false (frame_names pool) body.frames i) in
     more old later new (named code ++ caught handlers) (framed frames) (more old middle later (named code) (caught handlers) first then) end
     ∙ ap (entered_all old) whole
 
@@ -85,12 +85,12 @@ class_entered class interfaces fields methods old above below later new one othe
     let typed : List Field → List Entry = λ fields. flat_map (λ field. mentioned (names_at class.pool field.descriptor)) fields in
     let coded : List Method → List Entry = λ methods. flat_map (method_names class.pool) methods in
     let whole : ((super ++ faces interfaces) ++ typed fields) ++ coded methods ≡ names_of class =
-          (λ i. ((super ++ faces (one i)) ++ typed (other i)) ++ coded (last i))
-          ∙ (λ i. ((super ++ marked_flat true (class_names_at class.pool) class.interfaces i)
-              ++ marked_flat {X = Field} false (λ field. names_at class.pool field.descriptor) class.fields i) ++ coded class.methods) in
+    (λ i. ((super ++ faces (one i)) ++ typed (other i)) ++ coded (last i))
+    ∙ (λ i. ((super ++ marked_flat true (class_names_at class.pool) class.interfaces i)
+    ++ marked_flat {X = Field} false (λ field. names_at class.pool field.descriptor) class.fields i) ++ coded class.methods) in
     more old later new ((super ++ faces interfaces) ++ typed fields) (coded methods)
-      (more old below later (super ++ faces interfaces) (typed fields) (more old above below super (faces interfaces) first second) third)
-      fourth
+    (more old below later (super ++ faces interfaces) (typed fields) (more old above below super (faces interfaces) first second) third)
+    fourth
     ∙ ap (entered_all old) whole
 
 -- one more item of a list
@@ -99,10 +99,10 @@ pub item_entered : {X : Type 0} (names : X → List Entry) (items : List X) (pla
     → new ≡ entered_all old (flat_map names (take (place + 1) items))
 item_entered {X} names items place item old middle new short is first then =
     let whole : flat_map names (take place items) ++ names item ≡ flat_map names (take (place + 1) items) =
-          ap (λ rest. flat_map names (take place items) ++ rest) (sym (append_none (names item)))
-          ∙ sym (flat_map-append names (take place items) (item ∷ []))
-          ∙ ap (λ item. flat_map names (take place items ++ item ∷ [])) is
-          ∙ ap (flat_map names) (sym (take_more items place item short)) in
+    ap (λ rest. flat_map names (take place items) ++ rest) (sym (append_none (names item)))
+    ∙ sym (flat_map-append names (take place items) (item ∷ []))
+    ∙ ap (λ item. flat_map names (take place items ++ item ∷ [])) is
+    ∙ ap (flat_map names) (sym (take_more items place item short)) in
     more old middle new (flat_map names (take place items)) (names item) first then ∙ ap (entered_all old) whole
   where
     append_none : (entries : List Entry) → entries ++ [] ≡ entries

@@ -1,8 +1,7 @@
 -- Where the names in a descriptor stand.
-use Rattle.std.proofs.Common.{◌≡◌, ◌∙◌, ap, refl, sym, arith, true≢false, append_assoc, ℕ, zero, suc, ◌+◌, ◌-◌, ◌<◌, ◌≤◌, ◌==◌, Bool, true, false, cond, ◌||◌, not, List, [], ◌∷◌, ◌++◌, length, take, drop, Option, Some, None, MatchOption, Bor}
+use Rattle.std.proofs.Common.{◌≡◌, ◌∙◌, ap, refl, sym, arith, true≢false, append_assoc, ℕ, zero, suc, ◌+◌, ◌<◌, ◌≤◌, ◌==◌, Bool, true, false, cond, ◌||◌, not, List, [], ◌∷◌, ◌++◌, length, take, drop, Option, Some, None, MatchOption, Bor}
 use Rattle.std.specs.List.{list_any, prefix_len}
 use Rattle.std.proofs.lemmas.Bool.{eqb-true}
-use Rattle.std.proofs.lemmas.List.{take_rest}
 use Rattle.cb_link.specs.Names.{letter_class, name_behind, names_in, semicolon}
 
 pub none_before : (unit : ℕ) (text : List ℕ) → length text ≤ prefix_len (λ other. not (other == unit)) text → list_any (λ other. other == unit) text ≡ false
@@ -90,7 +89,7 @@ to_end name (unit ∷ front) text no-end = go (unit == semicolon) no-end (to_end
 pub next_name : (text front behind : List ℕ) (result : Option (Bor (List ℕ) × Bor (List ℕ)))
     → list_any (λ other. other == letter_class) front ≡ false → text ≡ front ++ letter_class ∷ behind
     → MatchOption result (list_any (λ other. other == semicolon) behind ≡ false)
-        (λ found. (list_any (λ other. other == semicolon) found.0.now ≡ false) × (behind ≡ found.0.now ++ semicolon ∷ found.1.now))
+    (λ found. (list_any (λ other. other == semicolon) found.0.now ≡ false) × (behind ≡ found.0.now ++ semicolon ∷ found.1.now))
     → MatchOption result (names_in text ≡ []) (λ found. names_in text ≡ found.0.now ∷ names_in found.1.now)
 next_name text front behind None free is none =
     ap names_in is ∙ first_letter front behind free ∙ no_end [] behind none

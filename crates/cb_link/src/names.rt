@@ -164,7 +164,12 @@ fn enter_constant(pool: &Pool, index: u16, entries: &mut Entries) -> Result<(), 
 }
 
 /// Enters what the class at an index names, if there is one.
-fn enter_class(pool: &Pool, index: u16, needed: bool, entries: &mut Entries) -> Result<(), OutOfMemory>
+fn enter_class(
+    pool: &Pool,
+    index: u16,
+    needed: bool,
+    entries: &mut Entries,
+) -> Result<(), OutOfMemory>
     ensures { OnOk result (entries.new ≡ entered_all entries.old (marked needed (class_names_at pool.now index))) }
 {
     match pool.class(index) {

@@ -1,4 +1,4 @@
-use Rattle.std.proofs.Common.{◌≡◌, ◌∙◌, ap, refl, sym, arith, MatchOption, false, ◌==◌}
+use Rattle.std.proofs.Common.{◌≡◌, false, ◌==◌}
 use Rattle.std.specs.List.{list_any}
 use Rattle.cb_link.specs.Names.{letter_class}
 use Rattle.cb_link.proofs.NamingTexts.{next_name, no_names}

@@ -1,4 +1,4 @@
-use Rattle.std.proofs.Common.{◌≡◌, ◌∙◌, ap, refl, sym, arith, ◌+◌, ◌-◌, ◌++◌, ◌∷◌, length, take}
+use Rattle.std.proofs.Common.{◌∙◌, ap, sym, arith, ◌+◌, ◌++◌, ◌∷◌, take}
 use Rattle.std.proofs.lemmas.List.{take_rest}
 use Rattle.cb_link.proofs.NamingTexts.{IsSplit, none_before, split}
 use Rattle.cb_link.proofs.text_names.split_at.Goals as goal

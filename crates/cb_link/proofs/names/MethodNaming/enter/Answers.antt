@@ -4,4 +4,4 @@ use Rattle.cb_link.proofs.names.MethodNaming.enter.Goals as goal
 pub returns-in_ok-enter_body : goal.returns-in_ok-enter_body
 returns-in_ok-enter_body c =
     method_entered c.args.pool.now c.args.self.now c.in-Some.body c.args.entries.now c.enter_text.new.entries c.enter_body.new.entries
-      c.in-Some.is c.in_ok-enter_text.ensures c.in_ok-enter_body.ensures
+    c.in-Some.is c.in_ok-enter_text.ensures c.in_ok-enter_body.ensures
