@@ -1,4 +1,5 @@
 pub mod Closure
+pub mod Examples
 pub mod Files
 pub mod Inner
 pub mod Loading

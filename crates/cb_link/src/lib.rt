@@ -6,7 +6,7 @@ mod linking;
 mod program;
 mod refusal;
 
-pub use law::closures;
+pub use law::small_closures;
 pub use linking::link;
 pub use program::Program;
 pub use refusal::{Quantity, Refusal};
