@@ -1,5 +1,6 @@
 pub mod Closure
 pub mod Entering
+pub mod Examples
 pub mod Files
 pub mod Inner
 pub mod Loading

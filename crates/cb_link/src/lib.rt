@@ -9,7 +9,7 @@ mod program;
 mod refusal;
 mod text_names;
 
-pub use law::closures;
+pub use law::small_closures;
 pub use linking::link;
 pub use program::Program;
 pub use refusal::{Quantity, Refusal};
