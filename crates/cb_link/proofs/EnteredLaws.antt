@@ -3,6 +3,7 @@ use Rattle.std.proofs.Common.{◌≡◌, ◌∙◌, ap, refl, sym, true≢false,
 use Rattle.std.specs.List.{list_any}
 use Rattle.std.specs.Cmp.{first_so, second_so}
 use Rattle.std.specs.Cmp.Lexicographic.{bytes_decides}
+use Rattle.std.proofs.lemmas.List.{append-nil}
 use Rattle.std.proofs.lemmas.List.Folds.{list_any-append}
 use Rattle.cb_link.specs.Names.{Entry}
 use Rattle.cb_link.specs.Closure.{covers, firsts, same_name}
@@ -82,10 +83,6 @@ kept_new entries entry more = filter_both _ _ _ told more
     told : (later : Entry) → (not (covers entry later) && not (hidden entries later)) ≡ not (hidden (entries ++ entry ∷ []) later)
     told later = neither (covers entry later) (hidden entries later) ∙ ap not (sym (list_any-append (λ before. covers before later) entries (entry ∷ [])))
 
-none : (entries : List Entry) → entries ++ [] ≡ entries
-none [] = refl
-none (entry ∷ entries) = ap (λ rest. entry ∷ rest) (none entries)
-
 all : (entries : List Entry) → filter (λ entry. true) entries ≡ entries
 all [] = refl
 all (entry ∷ entries) = ap (λ rest. entry ∷ rest) (all entries)
@@ -96,7 +93,7 @@ fewer entry more = filter (λ later. not (covers entry later)) (firsts more)
 
 -- entering adds the first entries, without those that are superfluous
 entered_kept : (entries more : List Entry) → entered_all entries more ≡ entries ++ kept entries (firsts more)
-entered_kept entries [] = sym (none entries)
+entered_kept entries [] = sym (append-nil entries)
 entered_kept entries (entry ∷ more) = go (hidden entries entry) refl (entered_kept entries more) (entered_kept (entries ++ entry ∷ []) more)
   where
     go : (test : Bool) → hidden entries entry ≡ test → entered_all entries more ≡ entries ++ kept entries (firsts more)

@@ -2,9 +2,9 @@
 use Rattle.std.proofs.Common.{◌≡◌, ◌∙◌, ap, refl, sym, ℕ, Bool, true, false, List, [], ◌∷◌, ◌++◌, Some, get_or, take, length, ◌+◌, ◌<◌}
 use Rattle.std.specs.List.{flat_map}
 use Rattle.std.proofs.lemmas.Grind.{flat_map-append}
-use Rattle.std.proofs.lemmas.List.{map-append, take_more}
+use Rattle.std.proofs.lemmas.List.{append-nil, map-append, take_more}
 use Rattle.cb_text.specs.declared.constant.Constant.{Constant}
-use Rattle.cb_text.specs.Naming.{MemberNames, member_at}
+use Rattle.cb_text.specs.Naming.{text_at}
 use Rattle.cb_insn.specs.declared.insn.Insn.{Insn}
 use Rattle.cb_classfile.specs.declared.body.Body.{Body}
 use Rattle.cb_classfile.specs.declared.class.ClassFile.{ClassFile}
@@ -13,9 +13,10 @@ use Rattle.cb_classfile.specs.declared.frame_map.MapFrame.{MapFrame}
 use Rattle.cb_classfile.specs.declared.handler.Handler.{Handler}
 use Rattle.cb_classfile.specs.declared.map_type.MapType.{MapType}
 use Rattle.cb_classfile.specs.declared.method.Method.{Method}
-use Rattle.cb_link.specs.Names.{Entry, body_names, class_names, class_names_at, constant_names, frame_names, handler_names, insn_names, mentioned, method_names, names_at, names_in, names_of, needed, type_names}
+use Rattle.cb_link.specs.Names.{Entry, all_of, body_names, class_names, class_names_at, constant_names, frame_names, handler_names, insn_names, mentioned, method_names, names_at, names_in, names_of, needed, type_names}
 use Rattle.cb_link.specs.Entering.{marked}
 use Rattle.cb_link.specs.Inner.{entered_all}
+use Rattle.cb_link.specs.Using.{AreTextsOf}
 use Rattle.cb_link.proofs.EnteredLaws.{entered_append}
 
 -- two parts that are entered in turn
@@ -42,12 +43,14 @@ frame_entered pool frame locals stack old middle new one other first then =
     more old middle new (flat_map (λ kind. mentioned (type_names pool kind)) locals) (flat_map (λ kind. mentioned (type_names pool kind)) stack) first then
     ∙ ap (entered_all old) whole
 
-pub member_entered : (pool : List Constant) (index : ℕ) (member : MemberNames) (old middle new : List Entry) → Some member ≡ member_at pool index
-    → middle ≡ entered_all old (marked true (class_names member.class)) → new ≡ entered_all middle (marked false (names_in member.descriptor))
+pub member_entered : (pool : List Constant) (index class descriptor : ℕ) (old middle new : List Entry) → AreTextsOf pool index class descriptor
+    → middle ≡ entered_all old (marked true (all_of class_names (text_at pool class))) → new ≡ entered_all middle (mentioned (names_at pool descriptor))
     → new ≡ entered_all old (constant_names pool index)
-member_entered pool index member old middle new is first then =
-    let whole : needed (class_names member.class) ++ mentioned (names_in member.descriptor) ≡ constant_names pool index = rw (← is) refl in
-    more old middle new (needed (class_names member.class)) (mentioned (names_in member.descriptor)) first then ∙ ap (entered_all old) whole
+member_entered pool index class descriptor old middle new texts first then =
+    let named : needed (class_names texts.member.class) ++ mentioned (names_in texts.member.descriptor) ≡ constant_names pool index = rw texts.there refl in
+    let whole : marked true (all_of class_names (text_at pool class)) ++ mentioned (names_at pool descriptor) ≡ constant_names pool index =
+          (λ i. marked true (all_of class_names (texts.class_text i)) ++ mentioned (all_of names_in (texts.type_text i))) ∙ named in
+    more old middle new (marked true (all_of class_names (text_at pool class))) (mentioned (names_at pool descriptor)) first then ∙ ap (entered_all old) whole
 
 pub method_entered : (pool : List Constant) (method : Method) (body : Body) (old middle new : List Entry) → method.body ≡ Some body
     → middle ≡ entered_all old (mentioned (names_at pool method.descriptor)) → new ≡ entered_all middle (body_names pool (Some body))
@@ -99,12 +102,8 @@ pub item_entered : {X : Type 0} (names : X → List Entry) (items : List X) (pla
     → new ≡ entered_all old (flat_map names (take (place + 1) items))
 item_entered {X} names items place item old middle new short is first then =
     let whole : flat_map names (take place items) ++ names item ≡ flat_map names (take (place + 1) items) =
-    ap (λ rest. flat_map names (take place items) ++ rest) (sym (append_none (names item)))
+    ap (λ rest. flat_map names (take place items) ++ rest) (sym (append-nil (names item)))
     ∙ sym (flat_map-append names (take place items) (item ∷ []))
     ∙ ap (λ item. flat_map names (take place items ++ item ∷ [])) is
     ∙ ap (flat_map names) (sym (take_more items place item short)) in
     more old middle new (flat_map names (take place items)) (names item) first then ∙ ap (entered_all old) whole
-  where
-    append_none : (entries : List Entry) → entries ++ [] ≡ entries
-    append_none [] = refl
-    append_none (entry ∷ entries) = ap (λ rest. entry ∷ rest) (append_none entries)

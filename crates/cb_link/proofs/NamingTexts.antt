@@ -1,5 +1,5 @@
 -- Where the names in a descriptor stand.
-use Rattle.std.proofs.Common.{◌≡◌, ◌∙◌, ap, refl, sym, arith, true≢false, append_assoc, ℕ, zero, suc, ◌+◌, ◌<◌, ◌≤◌, ◌==◌, Bool, true, false, cond, ◌||◌, not, List, [], ◌∷◌, ◌++◌, length, take, drop, Option, Some, None, MatchOption, Bor}
+use Rattle.std.proofs.Common.{◌≡◌, ◌∙◌, ap, refl, sym, arith, true≢false, append_assoc, append-nil, ℕ, zero, suc, ◌+◌, ◌<◌, ◌≤◌, ◌==◌, Bool, true, false, cond, ◌||◌, not, List, [], ◌∷◌, ◌++◌, length, take, drop, Option, Some, None, MatchOption, Bor}
 use Rattle.std.specs.List.{list_any, prefix_len}
 use Rattle.std.proofs.lemmas.Bool.{eqb-true}
 use Rattle.cb_link.specs.Names.{letter_class, name_behind, names_in, semicolon}
@@ -72,11 +72,7 @@ no_end name (unit ∷ text) no-end = go (unit == semicolon) no-end (no_end (name
 
 -- a name goes up to the first semicolon
 to_end : (name front text : List ℕ) → list_any (λ other. other == semicolon) front ≡ false → name_behind name (front ++ semicolon ∷ text) ≡ (name ++ front) ∷ names_in text
-to_end name [] text no-end = ap (λ name. name ∷ names_in text) (append_none name)
-  where
-    append_none : (name : List ℕ) → name ≡ name ++ []
-    append_none [] = refl
-    append_none (unit ∷ name) = ap (λ rest. unit ∷ rest) (append_none name)
+to_end name [] text no-end = ap (λ name. name ∷ names_in text) (sym (append-nil name))
 to_end name (unit ∷ front) text no-end = go (unit == semicolon) no-end (to_end (name ++ unit ∷ []) front text)
   where
     go : (test : Bool) → (test || list_any (λ other. other == semicolon) front) ≡ false

@@ -8,6 +8,8 @@ mod names;
 mod program;
 mod refusal;
 mod text_names;
+mod text_uses;
+mod uses;
 
 pub use law::small_closures;
 pub use linking::link;
