@@ -15,7 +15,7 @@ entered_append entries [] other = refl
 entered_append entries (entry ∷ one) other = entered_append (entered entries entry) one other
 
 -- one of the entries makes this one superfluous
-abbrev hidden : List Entry → Entry → Bool
+abbrev pub hidden : List Entry → Entry → Bool
 hidden entries entry = list_any (λ before. covers before entry) entries
 
 both : (a b c d : Bool) → (a && (b || not c)) ≡ true → (c || not d) ≡ true → (a && (b || not d)) ≡ true

@@ -49,7 +49,7 @@ pub member_entered : (pool : List Constant) (index class descriptor : ℕ) (old 
 member_entered pool index class descriptor old middle new texts first then =
     let named : needed (class_names texts.member.class) ++ mentioned (names_in texts.member.descriptor) ≡ constant_names pool index = rw texts.there refl in
     let whole : marked true (all_of class_names (text_at pool class)) ++ mentioned (names_at pool descriptor) ≡ constant_names pool index =
-          (λ i. marked true (all_of class_names (texts.class_text i)) ++ mentioned (all_of names_in (texts.type_text i))) ∙ named in
+    (λ i. marked true (all_of class_names (texts.class_text i)) ++ mentioned (all_of names_in (texts.type_text i))) ∙ named in
     more old middle new (marked true (all_of class_names (text_at pool class))) (mentioned (names_at pool descriptor)) first then ∙ ap (entered_all old) whole
 
 pub method_entered : (pool : List Constant) (method : Method) (body : Body) (old middle new : List Entry) → method.body ≡ Some body

@@ -1,8 +1,8 @@
 -- Names that have been entered need not be entered again.
-use Rattle.std.proofs.Common.{◌≡◌, ◌∙◌, ap, refl, sym, subst, true≢false, ℕ, ◌==◌, Bool, true, false, cond, ◌&&◌, ◌||◌, not, List, [], ◌∷◌, ◌++◌}
+use Rattle.std.proofs.Common.{◌≡◌, ◌∙◌, ap, refl, sym, subst, true≢false, ◌==◌, Bool, true, false, cond, ◌&&◌, ◌||◌, not, List, [], ◌∷◌, ◌++◌}
 use Rattle.std.specs.Bool.{beq}
 use Rattle.std.specs.Cmp.{booleans_Decides, first_so, second_so}
-use Rattle.std.specs.List.{AllByRecursion, list_any}
+use Rattle.std.specs.List.{list_any}
 use Rattle.std.proofs.lemmas.Bool.{eqb-true}
 use Rattle.std.proofs.lemmas.Cmp.{nat_list_eq_equiv}
 use Rattle.std.proofs.lemmas.List.Folds.{list_any-append}
@@ -12,10 +12,8 @@ use Rattle.cb_link.specs.declared.uses.Use.{Use}
 use Rattle.cb_link.specs.Names.{Entry}
 use Rattle.cb_link.specs.Closure.{covers}
 use Rattle.cb_link.specs.Inner.{entered, entered_all}
+use Rattle.cb_link.proofs.EnteredLaws.{hidden}
 use Rattle.cb_link.specs.Using.{AreCovered, AreEntered, Enters, is_use, use_names}
-
-abbrev pub hidden : List Entry → Entry → Bool
-hidden entries entry = list_any (λ before. covers before entry) entries
 
 either : (a b : Bool) → a ≡ true → (a || b) ≡ true
 either a b is = ap (λ test. test || b) is

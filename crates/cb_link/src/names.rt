@@ -1,12 +1,12 @@
 // The names that a class adds to those that are looked for.
-ghost use Rattle.std.specs.Prelude.{◌≡◌, ◌++◌, OnOk, List as Items};
+ghost use Rattle.std.specs.Prelude.{◌≡◌, OnOk, Some, List as Items};
 ghost use Rattle.std.specs.List.{flat_map};
 ghost use Rattle.cb_text.specs.declared.constant.Constant.{Constant as AnyConstant};
 ghost use Rattle.cb_text.specs.Naming.{text_at};
 ghost use Rattle.cb_link.specs.Entering.{marked};
 ghost use Rattle.cb_link.specs.Inner.{entered_all};
 ghost use Rattle.cb_link.specs.Using.{AreEntered, Enters};
-ghost use Rattle.cb_link.specs.Names.{Entry, all_of, body_names, class_names, class_names_at, constant_names, insn_names, mentioned, method_names, names_at, names_of, needed};
+ghost use Rattle.cb_link.specs.Names.{Entry, all_of, body_names, class_names, class_names_at, constant_names, mentioned, names_at, names_of};
 
 use crate::entries::Entries;
 use crate::text_uses::{class_text, enter_once, member_texts};
@@ -63,7 +63,12 @@ impl Naming for u32 {
 
     ghost names = { λ pool index. needed (class_names_at pool index) };
 
-    fn enter(&self, pool: &Pool, uses: &mut Uses, entries: &mut Entries) -> Result<(), OutOfMemory> {
+    fn enter(
+        &self,
+        pool: &Pool,
+        uses: &mut Uses,
+        entries: &mut Entries,
+    ) -> Result<(), OutOfMemory> {
         if *self < u32::from(pool.len()) {
             enter_class(pool, *self as u16, true, uses, entries)
         } else {
@@ -78,7 +83,12 @@ impl Naming for Field {
 
     ghost names = { λ pool field. mentioned (names_at pool field.descriptor) };
 
-    fn enter(&self, pool: &Pool, uses: &mut Uses, entries: &mut Entries) -> Result<(), OutOfMemory> {
+    fn enter(
+        &self,
+        pool: &Pool,
+        uses: &mut Uses,
+        entries: &mut Entries,
+    ) -> Result<(), OutOfMemory> {
         enter_type(pool, self.descriptor, uses, entries)
     }
 }
@@ -89,7 +99,12 @@ impl Naming for Method {
 
     ghost names = { method_names };
 
-    fn enter(&self, pool: &Pool, uses: &mut Uses, entries: &mut Entries) -> Result<(), OutOfMemory> {
+    fn enter(
+        &self,
+        pool: &Pool,
+        uses: &mut Uses,
+        entries: &mut Entries,
+    ) -> Result<(), OutOfMemory> {
         enter_type(pool, self.descriptor, uses, entries)?;
         if let Some(body) = &self.body {
             enter_body(pool, body, uses, entries)?;
@@ -104,7 +119,12 @@ impl Naming for (u32, Insn) {
 
     ghost names = { λ pool placed. insn_names pool placed.1 };
 
-    fn enter(&self, pool: &Pool, uses: &mut Uses, entries: &mut Entries) -> Result<(), OutOfMemory> {
+    fn enter(
+        &self,
+        pool: &Pool,
+        uses: &mut Uses,
+        entries: &mut Entries,
+    ) -> Result<(), OutOfMemory> {
         match index_in(&self.1.operand) {
             Some(index) => enter_constant(pool, index, uses, entries),
             None => Ok(()),
@@ -118,7 +138,12 @@ impl Naming for Handler {
 
     ghost names = { λ pool handler. needed (handler_names pool handler) };
 
-    fn enter(&self, pool: &Pool, uses: &mut Uses, entries: &mut Entries) -> Result<(), OutOfMemory> {
+    fn enter(
+        &self,
+        pool: &Pool,
+        uses: &mut Uses,
+        entries: &mut Entries,
+    ) -> Result<(), OutOfMemory> {
         enter_class(pool, self.catch_type, true, uses, entries)
     }
 }
@@ -129,7 +154,12 @@ impl Naming for MapFrame {
 
     ghost names = { λ pool frame. mentioned (frame_names pool frame) };
 
-    fn enter(&self, pool: &Pool, uses: &mut Uses, entries: &mut Entries) -> Result<(), OutOfMemory> {
+    fn enter(
+        &self,
+        pool: &Pool,
+        uses: &mut Uses,
+        entries: &mut Entries,
+    ) -> Result<(), OutOfMemory> {
         enter_each(pool, self.locals.as_slice(), uses, entries)?;
         enter_each(pool, self.stack.as_slice(), uses, entries)?;
         Ok(())
@@ -142,7 +172,12 @@ impl Naming for MapType {
 
     ghost names = { λ pool kind. mentioned (type_names pool kind) };
 
-    fn enter(&self, pool: &Pool, uses: &mut Uses, entries: &mut Entries) -> Result<(), OutOfMemory> {
+    fn enter(
+        &self,
+        pool: &Pool,
+        uses: &mut Uses,
+        entries: &mut Entries,
+    ) -> Result<(), OutOfMemory> {
         match self {
             MapType::Object(class) => enter_class(pool, *class, false, uses, entries),
             _ => Ok(()),

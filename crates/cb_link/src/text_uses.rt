@@ -1,5 +1,5 @@
 // The texts of a class whose names are entered, each once in each of its uses.
-ghost use Rattle.std.specs.Prelude.{◌≡◌, ◌∷◌, ◌++◌, MatchOption, None, OnOk, option_and_then, option_map};
+ghost use Rattle.std.specs.Prelude.{◌≡◌, MatchOption, None, OnOk, option_and_then, option_map};
 ghost use Rattle.cb_text.specs.Naming.{member_at, member_of, name_and_type_of, name_of_class};
 ghost use Rattle.cb_text.specs.Pool.{constant_at};
 ghost use Rattle.cb_link.specs.Inner.{entered_all};

@@ -8,4 +8,4 @@ returns-then-has c = enters_old c.args.pool.now c.args.usage c.args.uses.now c.a
 pub returns : goal.returns
 returns c =
     enters_new c.args.pool.now c.args.usage c.args.uses.now c.add.new.self c.args.entries.now c.enter_use.new.entries
-      c.in_ok-enter_use.ensures c.requires c.in_ok-add.ensures
+    c.in_ok-enter_use.ensures c.requires c.in_ok-add.ensures
