@@ -1,13 +1,18 @@
 //! Linking: the classes that a main class needs, found in a folder (JVMS §5.3).
 #![tactic(auto)]
 
+mod entries;
 mod law;
 mod linking;
 mod path;
+mod names;
 mod program;
 mod refusal;
+mod text_names;
+mod text_uses;
+mod uses;
 
-pub use law::closures;
+pub use law::small_closures;
 pub use linking::link;
 pub use path::path_of;
 pub use program::Program;

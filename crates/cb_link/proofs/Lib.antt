@@ -1,0 +1,5 @@
+pub mod EnteredKeys
+pub mod EnteredLaws
+pub mod NamingParts
+pub mod NamingTexts
+pub mod UsedLaws
