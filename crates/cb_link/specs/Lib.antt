@@ -4,6 +4,7 @@ pub mod Inner
 pub mod Loading
 pub mod Names
 pub mod Program
+pub mod Turning
 -- what the public clauses cite of the crates below
 pub use Rattle.cb_classfile.specs.Library
 pub use Rattle.cb_io.specs.Faults

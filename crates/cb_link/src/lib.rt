@@ -1,8 +1,15 @@
 //! Linking: the classes that a main class needs, found in a folder (JVMS §5.3).
 #![tactic(auto)]
 
+mod class_names;
+mod class_of;
+mod entries;
+mod file;
 mod law;
 mod linking;
+mod loading;
+mod names;
+mod path;
 mod program;
 mod refusal;
 

@@ -1,0 +1,33 @@
+-- Counts of faults in calls that follow one another.
+use Rattle.std.proofs.Common.{◌≡◌, ℕ, ◌-◌, ◌^◌, ◌<◌, ◌≤◌, arith}
+use Rattle.cb_io.specs.Faults.{CountsFaults}
+
+pub no_fault : (count : ℕ) → CountsFaults count count ⊥
+no_fault count = record { never_falls = omega arith; exact = λ below. (λ no. absurd no, λ less. absurd (omega arith)) }
+
+pub fault_then : (before between now : ℕ) {Failed : Type 0} → CountsFaults before between ⊥ → CountsFaults between now Failed → CountsFaults before now Failed
+fault_then before between now {Failed} first next =
+    let rises : between ≤ now = next.never_falls in
+    let rose : before ≤ between = first.never_falls in
+    record {
+      never_falls = omega arith;
+      exact = λ below.
+          let still : before ≡ between = same below in
+          let fits : between < 2 ^ 64 - 1 = omega arith in
+          (
+            λ failed. let later : between < now = (next.exact fits).0 failed in omega arith,
+            λ less. let later : between < now = omega arith in (next.exact fits).1 later,
+          );
+    } where
+      same : before < 2 ^ 64 - 1 → before ≡ between
+      same below =
+          let rose : before ≤ between = first.never_falls in
+          let not_more : before < between → ⊥ = (first.exact below).1 in
+          omega (arith, not_more)
+
+-- a call that didn't fail
+pub fault_else : (before now : ℕ) {Failed : Type 0} → CountsFaults before now ⊥ → (Failed → ⊥) → CountsFaults before now Failed
+fault_else before now counts not_failed = record {
+  never_falls = counts.never_falls;
+  exact = λ below. (λ failed. absurd (not_failed failed), λ less. absurd ((counts.exact below).1 less));
+}
