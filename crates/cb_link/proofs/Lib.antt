@@ -1,4 +1,6 @@
+pub mod EnteredKeys
 pub mod EnteredLaws
+pub mod LoadBytes
 pub mod LoadFaults
 pub mod LoadFiles
 pub mod LoadNames

@@ -84,13 +84,13 @@ no_class files root before entry bytes (Malformed class) may short fresh room (i
     subst (λ class. IsRefused files root before entry (Malformed class)) (sym is) (IsNoClass bytes fresh may short room accepted none)
 no_class files root before entry bytes (Unsupported class item) may short fresh room (is, read, accepted, named, left_out) =
     subst (λ class. IsRefused files root before entry (Unsupported class item)) (sym is) (IsLeftOut bytes read item fresh may short room accepted named left_out)
-no_class files root before entry bytes OutOfMemory may short fresh room no = tt
-no_class files root before entry bytes refusal may short fresh room no = absurd no
+no_class files root before entry bytes OutOfMemory may short fresh room none = tt
+no_class files root before entry bytes refusal may short fresh room none = absurd none
 
 pub no_class_entry : (files : Option Files) (root : List ℕ) (before : List (Turn ClassFile)) (entry : Entry) (found : Found) (bytes : Vec ℕ Global) (refusal : Refusal) → IsFound files root entry.name found → found ≡ Bytes bytes → is_loaded before entry.name ≡ false → HasRoom before → IsNoClassOf entry.name bytes.items refusal → StopsAt files root before entry refusal
-no_class_entry files root before entry found bytes refusal finds is fresh room no =
+no_class_entry files root before entry found bytes refusal finds is fresh room none =
     let there = subst (IsFound files root entry.name) is finds in
-    no_class files root before entry bytes.items refusal (present files root entry.name bytes there) there.2.1 fresh room no
+    no_class files root before entry bytes.items refusal (present files root entry.name bytes there) there.2.1 fresh room none
 
 -- a fault of the folder and want of memory say nothing of the entry
 pub outside_entry : (files : Option Files) (root : List ℕ) (before : List (Turn ClassFile)) (entry : Entry) (refusal : Refusal) → IsOutside refusal → StopsAt files root before entry refusal
@@ -100,5 +100,5 @@ outside_entry files root before entry refusal is = absurd is
 
 -- nor is a refusal of an entry one of the folder
 pub not_fault : (name bytes : List ℕ) (refusal : Refusal) → IsNoClassOf name bytes refusal → refusal ≡ FolderFault → ⊥
-not_fault name bytes FolderFault no is = no
-not_fault name bytes refusal no is = cc
+not_fault name bytes FolderFault none is = none
+not_fault name bytes refusal none is = cc

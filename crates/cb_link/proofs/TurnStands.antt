@@ -24,7 +24,7 @@ use Rattle.cb_link.proofs.LoadNames.{names_of_rows}
 use Rattle.cb_link.proofs.TurnLists.{each_more, entered_behind, silent, spoken, take_next}
 
 -- a turn
-turn_of : Entry → Option ClassFile → Turn ClassFile
+abbrev pub turn_of : Entry → Option ClassFile → Turn ClassFile
 turn_of entry loads = record { entry = entry; loads = loads }
 
 -- the turns so far, with one that loads nothing

@@ -1,6 +1,6 @@
 -- What taking up an entry comes to.
 use Rattle.std.proofs.Common.{◌≡◌, ◌↔◌, ℕ, zero, suc, ◌+◌, ◌<◌, ◌≤◌, Bool, true, false, ◌||◌, List, [], ◌∷◌, ◌++◌, length, Option, None, Some, IfSome, refl, sym, subst, ap, ◌∙◌, arith}
-use Rattle.std.specs.Prelude.{IsTrue, slice_get}
+use Rattle.std.specs.Prelude.{IsTrue, option_map, slice_get}
 use Rattle.std.specs.List.{list_any}
 use Rattle.std.proofs.lemmas.Option.{slice_get_within}
 use Rattle.cb_io.specs.Folder.{Files}
@@ -14,9 +14,12 @@ use Rattle.cb_link.specs.Turning.{AreTaken, IsNext, Stands, StopsAt}
 use Rattle.cb_link.proofs.TurnStands.{all_taken, idle_turn, loading_turn, room_of, stops_at}
 
 -- the entry at a place, by its parts
-pub entry_at : (entries : List Entry) (place : ℕ) (name : List ℕ) (needed : Bool) → place < length entries → IfSome (slice_get entries place) (λ entry. entry.name ≡ name) → IfSome (slice_get entries place) (λ entry. entry.needed ≡ needed) → slice_get entries place ≡ Some (record { name = name; needed = needed })
+pub entry_at : (entries : List Entry) (place : ℕ) (name : List ℕ) (needed : Bool) → place < length entries → option_map (λ entry. entry.name) (slice_get entries place) ≡ Some name → option_map (λ entry. entry.needed) (slice_get entries place) ≡ Some needed → slice_get entries place ≡ Some (record { name = name; needed = needed })
 entry_at [] place name needed within is so = absurd (omega arith)
-entry_at (first ∷ entries) zero name needed within is so = λ i. Some (record { name = is i; needed = so i })
+entry_at (first ∷ entries) zero name needed within is so =
+    let named : first.name ≡ name = cc in
+    let wanted : first.needed ≡ needed = cc in
+    λ i. Some (record { name = named i; needed = wanted i })
 entry_at (first ∷ entries) (suc place) name needed within is so = entry_at entries place name needed (omega arith) is so
 
 module _ (files : Option Files) (root main : List ℕ) (library : List ClassFile) (place : ℕ) (entries : List Entry) (has : List (List ℕ)) (classes : List ClassFile) (entry : Entry) (stands : Stands files root main library place entries has classes) (at : slice_get entries place ≡ Some entry) where

@@ -1,4 +1,5 @@
 pub mod Closure
+pub mod Entering
 pub mod Files
 pub mod Inner
 pub mod Loading

@@ -10,7 +10,7 @@ use std::collections::BTreeSet;
 use std::marker::Model;
 
 /// Names of classes, which contracts see as a list of them.
-#[derive(Debug, Drop)]
+#[derive(Drop)]
 pub(crate) struct ClassNames {
     alloc: Global,
     names: BTreeSet<Vec<u16>>,

@@ -34,7 +34,10 @@ fn named_class_of(alloc: Global, name: &[u16], bytes: &[u8]) -> Result<ClassFile
 {
     match read_any_class(alloc, bytes) {
         Ok(class) if is_named(&class, name) => Ok(class),
-        Ok(_) | Err(ReadFault::Malformed) => Err(Refusal::Malformed {
+        Ok(_) => Err(Refusal::Malformed {
+            class: units_of(alloc, name)?,
+        }),
+        Err(ReadFault::Malformed) => Err(Refusal::Malformed {
             class: units_of(alloc, name)?,
         }),
         Err(ReadFault::BadVersion { major }) => Err(Refusal::BadVersion {

@@ -1,68 +1,146 @@
-// Stub.
-ghost use Rattle.std.specs.Prelude.{◌≡◌, ◌<◌, [], length, slice_get, IfSome, OnOk};
+// The names that are looked for, in the order in which they were entered.
+ghost use Rattle.std.specs.Prelude.{◌≡◌, ◌<◌, [], false, length, option_map, slice_get, IfOk, OnOk, Some};
+ghost use Rattle.std.specs.List.{list_any};
+ghost use Rattle.cb_link.specs.Closure.{covers};
+ghost use Rattle.cb_link.specs.Entering.{is_same, key_entry};
 ghost use Rattle.cb_link.specs.Inner.{entered};
 
-use std::alloc::{AllocError, Global};
+use cb_plain::OutOfMemory;
+use indexmap::{Equivalent, IndexSet};
+use std::alloc::Global;
 use std::marker::Model;
 
-/// The entries so far.
-#[derive(Debug, Drop)]
+/// A name that was entered, and whether a class of that name has to be there.
+#[derive(PartialEq, Eq, Hash, Drop)]
+pub(crate) struct Key {
+    name: Vec<u16>,
+    needed: bool,
+}
+
+/// What a key is looked up by.
+#[derive(Clone, Copy, PartialEq, Eq, Hash)]
+struct Query<'a> {
+    name: &'a [u16],
+    needed: bool,
+}
+
+impl<'a> Equivalent<Key> for Query<'a> {
+    ghost use Rattle.std.specs.Prelude.{nat_eq, ◌&&◌, ◌++◌};
+    ghost use Rattle.std.specs.Bool.{beq};
+    ghost use Rattle.std.specs.Cmp.{booleans_Decides, first_so, second_so};
+    ghost use Rattle.std.specs.Cmp.Lexicographic.{bytes_decides, pointwise};
+    ghost use Rattle.std.specs.Hash as fed;
+
+    ghost equivalent = { λ query key. pointwise nat_eq query.name.now key.name.items && beq query.needed key.needed };
+
+    ghost respects_hash = { λ query key same.
+        let names = (bytes_decides query.name.now key.name.items).0 (first_so _ (beq query.needed key.needed) same) in
+        let flags = (booleans_Decides query.needed key.needed).0 (second_so (pointwise nat_eq query.name.now key.name.items) _ same) in
+        λ i. fed.slice fed.u16 (names i) ++ fed.bool (flags i) };
+
+    ghost respects_eq = { λ query key other same.
+        let names = (bytes_decides query.name.now key.name.items).0 (first_so _ (beq query.needed key.needed) same) in
+        let flags = (booleans_Decides query.needed key.needed).0 (second_so (pointwise nat_eq query.name.now key.name.items) _ same) in
+        λ i. pointwise nat_eq (names i) other.name.items && beq (flags i) other.needed };
+
+    fn equivalent(&self, key: &Key) -> bool {
+        self.name == key.name.as_slice() && self.needed == key.needed
+    }
+}
+
+/// The names that are looked for, each once, and once more as needed where it wasn't at first. Contracts see it as the
+/// list of these entries.
+#[derive(Drop)]
 pub(crate) struct Entries {
     alloc: Global,
+    keys: IndexSet<Key>,
 }
 
 impl Model for Entries {
-    ghost use Rattle.std.specs.Prelude.{List, []};
+    ghost use Rattle.std.specs.Prelude.{List, map};
     ghost use Rattle.cb_link.specs.Names.{Entry};
+    ghost use Rattle.cb_link.specs.Entering.{key_entry};
 
     ghost Value = { List Entry };
 
-    ghost view = { λ entries. [] };
+    ghost view = { λ entries. map key_entry entries.keys.keys };
 }
 
 impl Entries {
-    /// No entries.
+    /// No names. It takes memory from `alloc` as names are entered.
     pub(crate) fn new(alloc: Global) -> Self
         ensures { result ≡ [] }
     {
-        Entries { alloc }
+        Entries {
+            alloc,
+            keys: IndexSet::new(alloc),
+        }
     }
 
-    /// Enters a name.
-    pub(crate) fn enter(&mut self, name: &[u16], needed: bool) -> Result<(), AllocError>
-        ensures { OnOk result (self.new ≡ entered self.old (record { name = name.now; needed = needed })) }
-    {
-        let _ = &self.alloc;
-        let _ = name;
-        let _ = needed;
-        Err(AllocError)
-    }
-
-    /// How many there are.
+    /// How many entries there are.
     pub(crate) fn len(&self) -> usize
         ensures { result ≡ length self.now }
     {
-        let _ = &self.alloc;
-        0
+        self.keys.len()
     }
 
     /// The name of the entry at a place.
     pub(crate) fn name(&self, place: usize) -> &[u16]
         requires { place < length self.now }
-        ensures { IfSome (slice_get self.now place) (λ entry. entry.name ≡ result.now) }
+        ensures { option_map (λ entry. entry.name) (slice_get self.now place) ≡ Some result.now }
     {
-        let _ = &self.alloc;
-        let _ = place;
-        &[]
+        self.keys.as_slice()[place].name.as_slice()
     }
 
     /// Whether the entry at a place is needed.
     pub(crate) fn is_needed(&self, place: usize) -> bool
         requires { place < length self.now }
-        ensures { IfSome (slice_get self.now place) (λ entry. entry.needed ≡ result) }
+        ensures { option_map (λ entry. entry.needed) (slice_get self.now place) ≡ Some result }
     {
-        let _ = &self.alloc;
-        let _ = place;
-        false
+        self.keys.as_slice()[place].needed
     }
+
+    /// Enters a name, if no entry makes it superfluous. `OutOfMemory` where no memory was to be had. Takes expected time in
+    /// the length of the name.
+    pub(crate) fn enter(&mut self, name: &[u16], needed: bool) -> Result<(), OutOfMemory>
+        ensures { OnOk result (self.new ≡ entered self.old (record { name = name.now; needed = needed })) }
+    {
+        if self.covers(name, needed) {
+            return Ok(());
+        }
+        let name = copy_of(self.alloc, name)?;
+        self.add(Key { name, needed })
+    }
+
+    /// Enters a name that no entry makes superfluous.
+    fn add(&mut self, key: Key) -> Result<(), OutOfMemory>
+        requires { list_any (λ before. covers before (key_entry key)) self.old ≡ false }
+        ensures { OnOk result (self.new ≡ entered self.old (key_entry key)) }
+    {
+        self.keys.insert(key)?;
+        Ok(())
+    }
+
+    /// Whether an entry makes this one superfluous.
+    fn covers(&self, name: &[u16], needed: bool) -> bool
+        ensures { result ≡ list_any (λ before. covers before (record { name = name.now; needed = needed })) self.now }
+    {
+        self.has(name, true) || !needed && self.has(name, false)
+    }
+
+    /// Whether there is just this entry.
+    fn has(&self, name: &[u16], needed: bool) -> bool
+        ensures { result ≡ list_any (is_same (record { name = name.now; needed = needed })) self.now }
+    {
+        self.keys.contains(Query { name, needed })
+    }
+}
+
+/// The same units.
+fn copy_of(alloc: Global, units: &[u16]) -> Result<Vec<u16>, OutOfMemory>
+    ensures { IfOk result (λ copy. copy.items ≡ units.now) }
+{
+    let mut copy = Vec::with_capacity(alloc, units.len())?;
+    copy.extend_from_slice(units)?;
+    Ok(copy)
 }

@@ -26,7 +26,7 @@ use std::alloc::{AllocError, Global};
 pub(crate) const CLASS_LIMIT: usize = 1024;
 
 /// The classes so far, their names, the entries that they add, and how many of these were taken up.
-#[derive(Debug, Drop)]
+#[derive(Drop)]
 pub(crate) struct Loading {
     pub(crate) classes: Classes,
     pub(crate) names: ClassNames,
