@@ -40,6 +40,6 @@ of_another name own bytes class result is reads says other same =
     let (spelled, versions) = subst (λ r. IfOk r (λ class. SpellsClass bytes class × IsAccepted class.major)) is reads in
     (
       same,
-      accepted bytes (λ major has refused. subst (λ r. IsErrOf r (unread.BadVersion major)) is ((says major).1 (has, refused))),
+      accepted bytes (λ major has refused. let clash : Ok class ≡ Err (unread.BadVersion major) = subst (λ r. IsErrOf r (unread.BadVersion major)) is ((says major).1 (has, refused)) in cc),
       λ another spells named. other (subst (λ class. class_at class.pool class.this_class ≡ Some name) (one_class_spelled bytes another class spells spelled) named),
     )

@@ -1,6 +1,7 @@
 -- Counts of faults in calls that follow one another.
-use Rattle.std.proofs.Common.{◌≡◌, ℕ, ◌-◌, ◌^◌, ◌<◌, ◌≤◌, arith}
+use Rattle.std.proofs.Common.{◌≡◌, ℕ, ◌-◌, ◌^◌, ◌<◌, ◌≤◌, IsErrOf, Ok, arith}
 use Rattle.cb_io.specs.Faults.{CountsFaults}
+use Rattle.cb_link.specs.declared.refusal.Refusal.{Refusal}
 
 pub no_fault : (count : ℕ) → CountsFaults count count ⊥
 no_fault count = record { never_falls = omega arith; exact = λ below. (λ no. absurd no, λ less. absurd (omega arith)) }
@@ -25,9 +26,15 @@ fault_then before between now {Failed} first next =
           let not_more : before < between → ⊥ = (first.exact below).1 in
           omega (arith, not_more)
 
--- a call that didn't fail
-pub fault_else : (before now : ℕ) {Failed : Type 0} → CountsFaults before now ⊥ → (Failed → ⊥) → CountsFaults before now Failed
-fault_else before now counts not_failed = record {
+-- what failed, in other words
+pub fault_as : (before now : ℕ) {Failed Also : Type 0} → CountsFaults before now Failed → (Failed → Also) → (Also → Failed) → CountsFaults before now Also
+fault_as before now counts as back = record {
   never_falls = counts.never_falls;
-  exact = λ below. (λ failed. absurd (not_failed failed), λ less. absurd ((counts.exact below).1 less));
+  exact = λ below. (λ also. (counts.exact below).0 (back also), λ less. as ((counts.exact below).1 less));
 }
+
+-- a call that gave something didn't fail
+pub fault_of_ok : {Given : Type 0} (before now : ℕ) (given : Given) (refusal : Refusal) → CountsFaults before now (IsErrOf (Ok given) refusal) → CountsFaults before now ⊥
+fault_of_ok {Given} before now given refusal counts = fault_as before now counts (no_error given refusal) (λ none. absurd none) where
+  no_error : (given : Given) (refusal : Refusal) → IsErrOf (Ok given) refusal → ⊥
+  no_error given refusal is = cc

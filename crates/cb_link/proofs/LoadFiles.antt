@@ -82,7 +82,7 @@ no_class files root before entry bytes (BadVersion class major) may short fresh 
     subst (λ class. IsRefused files root before entry (BadVersion class major)) (sym is) (IsOfVersion bytes major fresh may short room version refused)
 no_class files root before entry bytes (Malformed class) may short fresh room (is, accepted, none) =
     subst (λ class. IsRefused files root before entry (Malformed class)) (sym is) (IsNoClass bytes fresh may short room accepted none)
-no_class files root before entry bytes (Unsupported class item) may short fresh room (is, read, accepted, named, left_out) =
+no_class files root before entry bytes (Unsupported class item) may short fresh room (is, (read, accepted, named, left_out)) =
     subst (λ class. IsRefused files root before entry (Unsupported class item)) (sym is) (IsLeftOut bytes read item fresh may short room accepted named left_out)
 no_class files root before entry bytes OutOfMemory may short fresh room none = tt
 no_class files root before entry bytes refusal may short fresh room none = absurd none

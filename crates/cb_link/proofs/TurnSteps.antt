@@ -55,8 +55,8 @@ none_next files root main library place entries has classes stands last = all_ta
 -- a class that is loaded has room, and the turns stand with it
 had_room : (files : Option Files) (root : List ℕ) (before : List (Turn ClassFile)) (entry : Entry) (loads : Option ClassFile) → Loads files root before entry loads → IfSome loads (λ class. HasRoom before)
 had_room files root before entry loads (IsThere is) = tt
-had_room files root before entry loads (StaysOpaque fresh may unneeded) = tt
-had_room files root before entry loads (IsRead bytes class fresh may room of) = room
+had_room files root before entry loads (StaysOpaque new may unneeded) = tt
+had_room files root before entry loads (IsRead bytes class new may room of) = room
 
 pub loaded_next : (files : Option Files) (root main : List ℕ) (library : List ClassFile) (place : ℕ) (entries more : List Entry) (has names : List (List ℕ)) (classes all : List ClassFile) (class : ClassFile) → IsNext files root main library entries has classes (Some (place, class))
     → IfSome (slice_get entries place) (λ entry. (other : List ℕ) → list_any (same_name other) names ≡ (same_name other entry.name || list_any (same_name other) has)) → more ≡ entered_all entries (names_of class) → all ≡ classes ++ class ∷ []

@@ -28,7 +28,7 @@ pub(crate) fn path_of(
         return Ok(None);
     };
     let mut path = String::from_str(alloc, root)?;
-    path.push('/')?;
+    path.push_str("/")?;
     path.push_str(&text)?;
     path.push_str(".class")?;
     Ok(Some(path))
