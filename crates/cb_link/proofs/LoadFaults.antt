@@ -1,5 +1,6 @@
 -- Counts of faults in calls that follow one another.
-use Rattle.std.proofs.Common.{◌≡◌, ℕ, ◌-◌, ◌^◌, ◌<◌, ◌≤◌, IsErrOf, Ok, arith}
+use Rattle.std.proofs.Common.{◌≡◌, ℕ, ◌-◌, ◌^◌, ◌<◌, ◌≤◌, IsErrOf, IfErr, Result, Ok, Err, sym, subst, arith}
+use Rattle.std.specs.Result.{IsErr, IsErrAnd}
 use Rattle.cb_io.specs.Faults.{CountsFaults}
 use Rattle.cb_link.specs.declared.refusal.Refusal.{Refusal}
 
@@ -28,9 +29,9 @@ fault_then before between now {Failed} first next =
 
 -- what failed, in other words
 pub fault_as : (before now : ℕ) {Failed Also : Type 0} → CountsFaults before now Failed → (Failed → Also) → (Also → Failed) → CountsFaults before now Also
-fault_as before now counts as back = record {
+fault_as before now counts on back = record {
   never_falls = counts.never_falls;
-  exact = λ below. (λ also. (counts.exact below).0 (back also), λ less. as ((counts.exact below).1 less));
+  exact = λ below. (λ also. (counts.exact below).0 (back also), λ less. on ((counts.exact below).1 less));
 }
 
 -- a call that gave something didn't fail
@@ -38,3 +39,8 @@ pub fault_of_ok : {Given : Type 0} (before now : ℕ) (given : Given) (refusal :
 fault_of_ok {Given} before now given refusal counts = fault_as before now counts (no_error given refusal) (λ none. absurd none) where
   no_error : (given : Given) (refusal : Refusal) → IsErrOf (Ok given) refusal → ⊥
   no_error given refusal is = cc
+
+-- a refusal that is handed on
+pub handed : {Given : Type 0} (Is : Refusal → Type 0) (result : Result Given Refusal) (refusal : Refusal) → IsErr result × IsErrAnd result (λ told. told ≡ refusal) → Is refusal → IfErr result Is
+handed Is (Ok given) refusal on is = tt
+handed Is (Err told) refusal on is = subst Is (sym on.1) is

@@ -87,18 +87,7 @@ no_class files root before entry bytes (Unsupported class item) may short fresh 
 no_class files root before entry bytes OutOfMemory may short fresh room none = tt
 no_class files root before entry bytes refusal may short fresh room none = absurd none
 
-pub no_class_entry : (files : Option Files) (root : List ℕ) (before : List (Turn ClassFile)) (entry : Entry) (found : Found) (bytes : Vec ℕ Global) (refusal : Refusal) → IsFound files root entry.name found → found ≡ Bytes bytes → is_loaded before entry.name ≡ false → HasRoom before → IsNoClassOf entry.name bytes.items refusal → StopsAt files root before entry refusal
-no_class_entry files root before entry found bytes refusal finds is fresh room none =
+pub no_class_entry : (files : Option Files) (root : List ℕ) (before : List (Turn ClassFile)) (entry : Entry) (found : Found) (bytes : Vec ℕ Global) (read : List ℕ) (refusal : Refusal) → IsFound files root entry.name found → found ≡ Bytes bytes → is_loaded before entry.name ≡ false → HasRoom before → read ≡ bytes.items → IsNoClassOf entry.name read refusal → StopsAt files root before entry refusal
+no_class_entry files root before entry found bytes read refusal finds is fresh room same none =
     let there = subst (IsFound files root entry.name) is finds in
-    no_class files root before entry bytes.items refusal (present files root entry.name bytes there) there.2.1 fresh room none
-
--- a fault of the folder and want of memory say nothing of the entry
-pub outside_entry : (files : Option Files) (root : List ℕ) (before : List (Turn ClassFile)) (entry : Entry) (refusal : Refusal) → IsOutside refusal → StopsAt files root before entry refusal
-outside_entry files root before entry OutOfMemory is = tt
-outside_entry files root before entry FolderFault is = tt
-outside_entry files root before entry refusal is = absurd is
-
--- nor is a refusal of an entry one of the folder
-pub not_fault : (name bytes : List ℕ) (refusal : Refusal) → IsNoClassOf name bytes refusal → refusal ≡ FolderFault → ⊥
-not_fault name bytes FolderFault none is = none
-not_fault name bytes refusal none is = cc
+    no_class files root before entry bytes.items refusal (present files root entry.name bytes there) there.2.1 fresh room (subst (λ read. IsNoClassOf entry.name read refusal) same none)

@@ -1,8 +1,9 @@
 -- What taking up an entry comes to.
 use Rattle.std.proofs.Common.{◌≡◌, ◌↔◌, ℕ, zero, suc, ◌+◌, ◌<◌, ◌≤◌, Bool, true, false, ◌||◌, List, [], ◌∷◌, ◌++◌, length, Option, None, Some, IfSome, refl, sym, subst, ap, ◌∙◌, arith}
-use Rattle.std.specs.Prelude.{IsTrue, option_map, slice_get}
+use Rattle.std.specs.Prelude.{IsTrue, nat_lt, option_map, slice_get}
 use Rattle.std.specs.List.{list_any}
 use Rattle.std.proofs.lemmas.Option.{slice_get_within}
+use Rattle.std.proofs.lemmas.Bool.Decides.{nat_tests}
 use Rattle.cb_io.specs.Folder.{Files}
 use Rattle.cb_classfile.specs.declared.class.ClassFile.{ClassFile}
 use Rattle.cb_link.specs.declared.refusal.Refusal.{Refusal}
@@ -22,7 +23,17 @@ entry_at (first ∷ entries) zero name needed within is so =
     λ i. Some (record { name = named i; needed = wanted i })
 entry_at (first ∷ entries) (suc place) name needed within is so = entry_at entries place name needed (omega arith) is so
 
-module _ (files : Option Files) (root main : List ℕ) (library : List ClassFile) (place : ℕ) (entries : List Entry) (has : List (List ℕ)) (classes : List ClassFile) (entry : Entry) (stands : Stands files root main library place entries has classes) (at : slice_get entries place ≡ Some entry) where
+pub entry_named : (entries : List Entry) (place : ℕ) (name : List ℕ) → option_map (λ entry. entry.name) (slice_get entries place) ≡ Some name → (entry : Entry) × (slice_get entries place ≡ Some entry) × (entry.name ≡ name)
+entry_named entries place name is = go (slice_get entries place) is where
+  go : (found : Option Entry) → option_map (λ entry. entry.name) found ≡ Some name → (entry : Entry) × (found ≡ Some entry) × (entry.name ≡ name)
+  go None is = absurd (cc)
+  go (Some entry) is = (entry, refl, cc)
+
+-- whether there are few classes
+pub few_of : (count long : ℕ) → count ≡ long → IsTrue (nat_lt count 1024) ↔ (long < 1024)
+few_of count long is = (λ less. grind (arith, nat_tests), λ less. grind (arith, nat_tests))
+
+module _ (files there : Option Files) (same : there ≡ files) (root main : List ℕ) (library : List ClassFile) (place : ℕ) (entries : List Entry) (has : List (List ℕ)) (classes : List ClassFile) (entry : Entry) (stands : Stands files root main library place entries has classes) (at : slice_get entries place ≡ Some entry) where
   -- its class is there already
   pub there_next : list_any (same_name entry.name) has ≡ true → Stands files root main library (place + 1) entries has classes
   there_next known = (_, idle_turn files root main library place entries has classes stands.0 entry stands.1 at (IsThere (sym (stands.1.there entry.name) ∙ known)))
@@ -36,17 +47,20 @@ module _ (files : Option Files) (root main : List ℕ) (library : List ClassFile
         let same = room_of files root main library place entries has classes stands.0 stands.1 in
         (λ is. same.0 (few.0 is), λ is. few.1 (same.1 is))
 
+    loads_here : (given loads : Option ClassFile) → given ≡ loads → ((before : List (Turn ClassFile)) → is_loaded before entry.name ≡ false → (IsTrue room ↔ HasRoom before) → Loads there root before entry given) → Loads files root stands.0 entry loads
+    loads_here given loads is told = subst (λ files. Loads files root stands.0 entry loads) same (subst (Loads there root stands.0 entry) is (told stands.0 fresh has_room))
+
     -- it has no file
-    pub idle_next : ((before : List (Turn ClassFile)) → is_loaded before entry.name ≡ false → (IsTrue room ↔ HasRoom before) → Loads files root before entry None) → Stands files root main library (place + 1) entries has classes
-    idle_next loads = (_, idle_turn files root main library place entries has classes stands.0 entry stands.1 at (loads stands.0 fresh has_room))
+    pub idle_next : (given : Option ClassFile) → given ≡ None → ((before : List (Turn ClassFile)) → is_loaded before entry.name ≡ false → (IsTrue room ↔ HasRoom before) → Loads there root before entry given) → Stands files root main library (place + 1) entries has classes
+    idle_next given is told = (_, idle_turn files root main library place entries has classes stands.0 entry stands.1 at (loads_here given None is told))
 
     -- its class is loaded
-    pub found_next : (class : ClassFile) → ((before : List (Turn ClassFile)) → is_loaded before entry.name ≡ false → (IsTrue room ↔ HasRoom before) → Loads files root before entry (Some class)) → IsNext files root main library entries has classes (Some (place, class))
-    found_next class loads = (stands.0, entry, stands.1, at, loads stands.0 fresh has_room)
+    pub found_next : (given : Option ClassFile) (class : ClassFile) → given ≡ Some class → ((before : List (Turn ClassFile)) → is_loaded before entry.name ≡ false → (IsTrue room ↔ HasRoom before) → Loads there root before entry given) → IsNext files root main library entries has classes (Some (place, class))
+    found_next given class is told = (stands.0, entry, stands.1, at, loads_here given (Some class) is told)
 
     -- it is refused
-    pub stop_next : (refusal : Refusal) → ((before : List (Turn ClassFile)) → is_loaded before entry.name ≡ false → (IsTrue room ↔ HasRoom before) → StopsAt files root before entry refusal) → Stops files root main refusal
-    stop_next refusal stops = stops_at files root main library place entries has classes stands.0 entry refusal stands.1 at (stops stands.0 fresh has_room)
+    pub stop_next : (refusal : Refusal) → ((before : List (Turn ClassFile)) → is_loaded before entry.name ≡ false → (IsTrue room ↔ HasRoom before) → StopsAt there root before entry refusal) → Stops files root main refusal
+    stop_next refusal told = stops_at files root main library place entries has classes stands.0 entry refusal stands.1 at (subst (λ files. StopsAt files root stands.0 entry refusal) same (told stands.0 fresh has_room))
 
 -- no entry is left
 pub none_next : (files : Option Files) (root main : List ℕ) (library : List ClassFile) (place : ℕ) (entries : List Entry) (has : List (List ℕ)) (classes : List ClassFile) → Stands files root main library place entries has classes → length entries ≤ place → IsNext files root main library entries has classes None
