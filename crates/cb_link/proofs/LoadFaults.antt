@@ -44,3 +44,7 @@ fault_of_ok {Given} before now given refusal counts = fault_as before now counts
 pub handed : {Given : Type 0} (Is : Refusal → Type 0) (result : Result Given Refusal) (refusal : Refusal) → IsErr result × IsErrAnd result (λ told. told ≡ refusal) → Is refusal → IfErr result Is
 handed Is (Ok given) refusal on is = tt
 handed Is (Err told) refusal on is = subst Is (sym on.1) is
+
+-- one that was told of another result is handed on
+pub handed_from : {Given Gave : Type 0} (Is : Refusal → Type 0) (result : Result Given Refusal) (told : Result Gave Refusal) (refusal : Refusal) → IsErr result × IsErrAnd result (λ told. told ≡ refusal) → told ≡ Err refusal → IfErr told Is → IfErr result Is
+handed_from Is result told refusal on was is = handed Is result refusal on (subst (λ told. IfErr told Is) was is)

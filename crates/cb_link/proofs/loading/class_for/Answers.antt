@@ -1,5 +1,6 @@
 use Rattle.std.proofs.Common.{◌≡◌, ◌∙◌, sym, subst}
 use Rattle.std.proofs.lemmas.Bool.{false≢true}
+use Rattle.cb_link.specs.Names.{Entry}
 use Rattle.cb_link.specs.Loading.{IsClassOf}
 use Rattle.cb_link.specs.Turning.{StopsAt}
 use Rattle.cb_link.proofs.LoadFaults.{handed}
@@ -8,7 +9,7 @@ use Rattle.cb_link.proofs.loading.class_for.Goals as goal
 
 pub returns-in_err-class_of-in-Bytes-2-clause-refused : goal.returns-in_err-class_of-in-Bytes-2-clause-refused
 returns-in_err-class_of-in-Bytes-2-clause-refused g c = λ before fresh room.
-    let entry = record { name = c.args.name.now; needed = c.args.needed } in
+    let entry : Entry = record { name = c.args.name.now; needed = c.args.needed } in
     handed (StopsAt (g.F.Folder.files c.args.folder.now) c.args.root.now before entry) _ _ c.from_residual-in_err-class_of-in-Bytes-2.ensures
     (no_class_entry (g.F.Folder.files c.args.folder.now) c.args.root.now before entry c.in_ok-find.field-0 c.in-Bytes.field-0 _ _ c.in_ok-find.ensures.found c.in-Bytes.is fresh (room.0 c.if-not-has_room.false) c.deref.ensures.value c.in_err-class_of-in-Bytes-2.ensures)
 
