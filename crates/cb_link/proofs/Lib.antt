@@ -3,3 +3,11 @@ pub mod EnteredLaws
 pub mod NamingParts
 pub mod NamingTexts
 pub mod UsedLaws
+pub mod LoadBytes
+pub mod LoadFaults
+pub mod LoadFiles
+pub mod LoadNames
+pub mod PathText
+pub mod TurnLists
+pub mod TurnStands
+pub mod TurnSteps

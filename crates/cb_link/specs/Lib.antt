@@ -7,6 +7,7 @@ pub mod Loading
 pub mod Names
 pub mod Program
 pub mod Using
+pub mod Turning
 -- what the public clauses cite of the crates below
 pub use Rattle.cb_classfile.specs.Library
 pub use Rattle.cb_io.specs.Faults

@@ -6,6 +6,7 @@ ghost use Rattle.cb_classfile.specs.Library.{AreLibrary};
 ghost use Rattle.cb_link.specs.Loading.{AreLoaded, Stops};
 ghost use Rattle.cb_link.specs.declared.refusal.Refusal.TheVariants as refusals;
 
+use crate::loading::Loading;
 use crate::{Program, Refusal};
 use cb_classfile::Classes;
 use cb_io::Folder;
@@ -36,7 +37,9 @@ pub fn link<F: Folder>(
     ensures refused { IfErr result (Stops (F.files folder.old) root.now main) }
     ensures fault { CountsFaults (F.faults folder.old) (F.faults folder.new) (IsErrOf result refusals.FolderFault) }
 {
-    let _ = (alloc, library, root, main);
-    let _ = &*folder;
-    Err(Refusal::OutOfMemory)
+    let mut loading = Loading::begin(alloc, library, main.as_slice())?;
+    while let Some((place, class)) = loading.next(alloc, folder, root)? {
+        loading.load(place, class)?;
+    }
+    Ok(Program::new(loading.classes))
 }

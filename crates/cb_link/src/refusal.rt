@@ -1,6 +1,10 @@
 // Why a program can't be linked.
+ghost use Rattle.std.specs.Prelude.{◌≡◌};
+ghost use Rattle.cb_link.specs.declared.refusal.Refusal.TheVariants.{OutOfMemory as MemoryRefusal};
+
 use cb_classfile::Feature;
 use cb_text::Units;
+use std::alloc::AllocError;
 
 /// Why a program can't be linked. Classes are named by their internal names (JVMS §4.2.1).
 #[derive(Debug, Drop)]
@@ -42,4 +46,12 @@ pub enum Quantity {
     ClassFileBytes,
     /// The classes of a program.
     Classes,
+}
+
+impl From<AllocError> for Refusal {
+    ghost from_gives = { λ _ refusal. refusal ≡ MemoryRefusal };
+
+    fn from(_: AllocError) -> Self {
+        Refusal::OutOfMemory
+    }
 }
