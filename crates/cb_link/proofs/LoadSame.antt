@@ -33,7 +33,7 @@ compared (suc one) (suc other) = raised (compared one other)
 -- the turns of all entries have none behind them
 ended : (main : List ℕ) (turns : List (Turn ClassFile)) → map (λ turn. turn.entry) turns ≡ entries_of names_of main turns → slice_get (entries_of names_of main turns) (length turns) ≡ None
 ended main turns closed =
-    let long : length (entries_of names_of main turns) ≡ length turns = sym (ap length closed) ∙ length-map turns in
+    let long : length (entries_of names_of main turns) ≡ length turns = sym (ap length closed) ∙ length-map turns (λ turn. turn.entry) in
     let past : length (entries_of names_of main turns) ≤ length turns = omega arith in
     slice_get_past (entries_of names_of main turns) (length turns) past
 

@@ -13,7 +13,7 @@ mod path;
 mod program;
 mod refusal;
 
-pub use law::closures;
+pub use law::{closures, one_loading};
 pub use linking::link;
 pub use program::Program;
 pub use refusal::{Quantity, Refusal};
