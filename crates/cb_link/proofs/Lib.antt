@@ -7,6 +7,8 @@ pub mod LoadBytes
 pub mod LoadFaults
 pub mod LoadFiles
 pub mod LoadNames
+pub mod LoadOnce
+pub mod LoadSame
 pub mod PathText
 pub mod TurnLists
 pub mod TurnStands

@@ -1,22 +1,22 @@
 //! Linking: the classes that a main class needs, found in a folder (JVMS §5.3).
 #![tactic(auto)]
 
-mod entries;
-mod law;
-mod linking;
-mod path;
-mod names;
 mod class_names;
 mod class_of;
+mod entries;
 mod file;
+mod law;
+mod linking;
 mod loading;
+mod names;
+mod path;
 mod program;
 mod refusal;
 mod text_names;
 mod text_uses;
 mod uses;
 
-pub use law::small_closures;
+pub use law::{one_loading, small_closures};
 pub use linking::link;
 pub use path::path_of;
 pub use program::Program;
