@@ -1,7 +1,13 @@
 // Laws of the answer, each in one fact.
-ghost use Rattle.std.specs.Prelude.{◌≡◌, ◌⊎◌, ◌↔◌, ℕ, ◌+◌, ◌<◌, ◌≤◌, List, [], length, Option, None, Some};
+ghost use Rattle.std.specs.Prelude.{◌≡◌, ◌⊎◌, ◌↔◌, ℕ, ◌+◌, ◌<◌, ◌≤◌, List, [], length, Option, None, Some, IsSomeAnd};
 ghost use Rattle.std.specs.FinMap.{get};
 ghost use Rattle.cb_io.specs.Folder.{Files};
+ghost use Rattle.cb_io.specs.Utf8.{utf8};
+ghost use Rattle.cb_machine.specs.Expression.{Expression};
+ghost use Rattle.cb_machine.specs.Printing.{printed};
+ghost use Rattle.cb_link.specs.declared.refusal.Refusal.{Refusal as LinkRefusal};
+ghost use Rattle.cb_link.specs.Files.{MayStandAt, path_of};
+ghost use Rattle.cb_link.specs.Loading.{AreLoaded, StopsFor};
 ghost use Rattle.cb_asm.specs.Answers.{StopsAt};
 ghost use Rattle.cb_asm_list.specs.Listing.{listing};
 ghost use Rattle.cb_asm_record.specs.Grammar.{Assembles};
@@ -13,13 +19,15 @@ ghost use Rattle.cb_runner.specs.Answer.{Answers, Ends, EndsIn, IsWhole};
 ghost use Rattle.cb_runner.specs.Asm.{text_limit};
 ghost use Rattle.cb_runner.specs.Ending.{Ending, refused, returned, usage};
 ghost use Rattle.cb_runner.specs.List.{IsListed, LeavesOut};
-ghost use Rattle.cb_runner.specs.Messages.{MissingClass, Malformed, BadVersion, Unsupported, TooLarge, BadLine};
-ghost use Rattle.cb_runner.specs.Run.{file_limit};
-ghost use Rattle.cb_runner.specs.Words.{Assemble, Command, ListOf, SaysNone};
+ghost use Rattle.cb_runner.specs.Messages.{Reason, MissingClass, Malformed, BadVersion, Unsupported, NotYet, TooLarge, BadLine};
+ghost use Rattle.cb_runner.specs.Run.{IsProgramFile, file_limit, reason_of_linking};
+ghost use Rattle.cb_runner.specs.Words.{Assemble, Command, ListOf, RunIn, SaysNone};
 ghost use Rattle.cb_runner.specs.declared.cause.Cause.TheVariants as causes;
 ghost use Rattle.cb_runner.specs.declared.refusal.Quantity.TheVariants.{ClassFileBytes, AssemblyBytes};
 
 use cb_classfile::one_class;
+use cb_first_form::one_program;
+use cb_link::one_loading;
 
 /// A call ends as one whose words are no command exactly where its words say none.
 pub fn usage_exactly()
@@ -39,6 +47,27 @@ pub fn refused_silently()
     ensures { (command : Command) (files : Option Files) (left : Option (List ℕ)) (ending : Ending)
         → EndsIn command files left ending → ending.cause ≡ causes.Refused → (ending.out ≡ []) × ((ending.read ≡ 0) ⊎ (command ≡ Assemble)) }
 {}
+
+/// A run that nothing cuts short, where the folder tells its files. It is refused for the reason for which linking its class
+/// stops, where that stops. Where its classes are loaded, it is refused as one that isn't run yet exactly where the class has
+/// no file of a program, and that of a program's file returns, having printed what the program prints.
+pub fn run_exactly()
+    ensures unlinked { (folder main : List ℕ) (files : Files) (left : Option (List ℕ)) (ending : Ending)
+        (refusal : LinkRefusal) (reason : Reason) → Answers (RunIn folder main) (Some files) left ending
+        → StopsFor (Some files) folder main refusal → reason_of_linking refusal ≡ Some reason → ending ≡ refused reason 0 }
+    ensures not_yet { (folder main : List ℕ) (files : Files) (left : Option (List ℕ)) (ending : Ending)
+        (classes : List ClassFile) (file : Option (List ℕ)) → Answers (RunIn folder main) (Some files) left ending
+        → AreLoaded (Some files) folder main classes → MayStandAt (Some files) (path_of folder main) file
+        → (ending ≡ refused (NotYet (utf8 main)) 0)
+        ↔ ((program : List Expression) → ¬ IsSomeAnd file (λ bytes. IsProgramFile bytes program)) }
+    ensures returned { (folder main bytes : List ℕ) (files : Files) (left : Option (List ℕ)) (ending : Ending)
+        (classes : List ClassFile) (program : List Expression) → Answers (RunIn folder main) (Some files) left ending
+        → AreLoaded (Some files) folder main classes → MayStandAt (Some files) (path_of folder main) (Some bytes)
+        → IsProgramFile bytes program → ending ≡ returned (printed program) 0 }
+{
+    one_loading();
+    one_program();
+}
 
 /// A listing that nothing cuts short is refused for want of its file exactly where there is none, and as too large exactly
 /// where the file has too many bytes. Else the bytes of the file decide: it returns exactly where they are the file of a

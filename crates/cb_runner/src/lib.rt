@@ -27,5 +27,7 @@ mod words;
 pub use cause::Cause;
 pub use command::run_command;
 pub use ended::{Ended, Tally};
-pub use law::{asm_exactly, list_exactly, refused_silently, usage_exactly, whole_exactly};
+pub use law::{
+    asm_exactly, list_exactly, refused_silently, run_exactly, usage_exactly, whole_exactly,
+};
 pub use refusal::{Quantity, Refusal};

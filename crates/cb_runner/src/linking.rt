@@ -1,5 +1,5 @@
 // Linking the class that is run.
-ghost use Rattle.std.specs.Prelude.{◌≡◌, List, Option, IfErr, IfOk, IsErrOf};
+ghost use Rattle.std.specs.Prelude.{◌≡◌, List, IfErr, IfOk, IsErrOf};
 ghost use Rattle.cb_classfile.specs.declared.class.ClassFile.{ClassFile};
 ghost use Rattle.cb_io.specs.Faults.{CountsFaults};
 ghost use Rattle.cb_link.specs.Loading.{AreLoaded};

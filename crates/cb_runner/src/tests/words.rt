@@ -1,8 +1,8 @@
 // The words of the command line and of refusals, and the laws called.
 use super::Objects;
 use crate::{
-    Cause, Quantity, Refusal, asm_exactly, list_exactly, refused_silently, usage_exactly,
-    whole_exactly,
+    Cause, Quantity, Refusal, asm_exactly, list_exactly, refused_silently, run_exactly,
+    usage_exactly, whole_exactly,
 };
 use cb_classfile::Feature;
 use std::test::Fail;
@@ -47,6 +47,7 @@ fn refusals_have_their_words_and_laws_are_called(rt: HostRuntime) -> Result<(), 
     usage_exactly();
     whole_exactly();
     refused_silently();
+    run_exactly();
     list_exactly();
     asm_exactly();
     let class = String::from_str(alloc, "a/B")?;
