@@ -1,8 +1,9 @@
 -- Entries that are entered one after the other are the first ones.
-use Rattle.std.proofs.Common.{◌≡◌, ◌∙◌, ap, refl, sym, true≢false, append_assoc, ℕ, Bool, true, false, cond, ◌&&◌, ◌||◌, not, List, [], ◌∷◌, ◌++◌, filter}
+use Rattle.std.proofs.Common.{◌≡◌, ◌∙◌, ap, refl, sym, true≢false, append_assoc, Bool, true, false, cond, ◌&&◌, ◌||◌, not, List, [], ◌∷◌, ◌++◌, filter}
 use Rattle.std.specs.List.{list_any}
 use Rattle.std.specs.Cmp.{first_so, second_so}
 use Rattle.std.specs.Cmp.Lexicographic.{bytes_decides}
+use Rattle.std.proofs.lemmas.List.{append-nil}
 use Rattle.std.proofs.lemmas.List.Folds.{list_any-append}
 use Rattle.cb_link.specs.Names.{Entry}
 use Rattle.cb_link.specs.Closure.{covers, firsts, same_name}
@@ -14,7 +15,7 @@ entered_append entries [] other = refl
 entered_append entries (entry ∷ one) other = entered_append (entered entries entry) one other
 
 -- one of the entries makes this one superfluous
-abbrev hidden : List Entry → Entry → Bool
+abbrev pub hidden : List Entry → Entry → Bool
 hidden entries entry = list_any (λ before. covers before entry) entries
 
 both : (a b c d : Bool) → (a && (b || not c)) ≡ true → (c || not d) ≡ true → (a && (b || not d)) ≡ true
@@ -28,8 +29,8 @@ covers_more : (before entry later : Entry) → covers before entry ≡ true → 
 covers_more before entry later one other =
     let names : entry.name ≡ later.name = (bytes_decides entry.name later.name).0 (first_so (same_name entry.name later.name) (entry.needed || not later.needed) other) in
     both (same_name before.name later.name) before.needed entry.needed later.needed
-      (ap (λ name. same_name before.name name && (before.needed || not entry.needed)) (sym names) ∙ one)
-      (second_so (same_name entry.name later.name) (entry.needed || not later.needed) other)
+    (ap (λ name. same_name before.name name && (before.needed || not entry.needed)) (sym names) ∙ one)
+    (second_so (same_name entry.name later.name) (entry.needed || not later.needed) other)
 
 hidden_more : (entries : List Entry) (entry later : Entry) → hidden entries entry ≡ true → covers entry later ≡ true → hidden entries later ≡ true
 hidden_more [] entry later is covered = is
@@ -82,10 +83,6 @@ kept_new entries entry more = filter_both _ _ _ told more
     told : (later : Entry) → (not (covers entry later) && not (hidden entries later)) ≡ not (hidden (entries ++ entry ∷ []) later)
     told later = neither (covers entry later) (hidden entries later) ∙ ap not (sym (list_any-append (λ before. covers before later) entries (entry ∷ [])))
 
-none : (entries : List Entry) → entries ++ [] ≡ entries
-none [] = refl
-none (entry ∷ entries) = ap (λ rest. entry ∷ rest) (none entries)
-
 all : (entries : List Entry) → filter (λ entry. true) entries ≡ entries
 all [] = refl
 all (entry ∷ entries) = ap (λ rest. entry ∷ rest) (all entries)
@@ -96,7 +93,7 @@ fewer entry more = filter (λ later. not (covers entry later)) (firsts more)
 
 -- entering adds the first entries, without those that are superfluous
 entered_kept : (entries more : List Entry) → entered_all entries more ≡ entries ++ kept entries (firsts more)
-entered_kept entries [] = sym (none entries)
+entered_kept entries [] = sym (append-nil entries)
 entered_kept entries (entry ∷ more) = go (hidden entries entry) refl (entered_kept entries more) (entered_kept (entries ++ entry ∷ []) more)
   where
     go : (test : Bool) → hidden entries entry ≡ test → entered_all entries more ≡ entries ++ kept entries (firsts more)

@@ -4,7 +4,10 @@ pub mod LoadBytes
 pub mod LoadFaults
 pub mod LoadFiles
 pub mod LoadNames
+pub mod NamingParts
+pub mod NamingTexts
 pub mod PathText
 pub mod TurnLists
 pub mod TurnStands
 pub mod TurnSteps
+pub mod UsedLaws

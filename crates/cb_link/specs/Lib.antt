@@ -1,11 +1,13 @@
 pub mod Closure
 pub mod Entering
+pub mod Examples
 pub mod Files
 pub mod Inner
 pub mod Loading
 pub mod Names
 pub mod Program
 pub mod Turning
+pub mod Using
 -- what the public clauses cite of the crates below
 pub use Rattle.cb_classfile.specs.Library
 pub use Rattle.cb_io.specs.Faults

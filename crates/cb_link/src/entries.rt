@@ -77,6 +77,11 @@ impl Entries {
         }
     }
 
+    /// What it takes memory from.
+    pub(crate) fn alloc(&self) -> Global {
+        self.alloc
+    }
+
     /// How many entries there are.
     pub(crate) fn len(&self) -> usize
         ensures { result ≡ length self.now }

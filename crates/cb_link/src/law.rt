@@ -1,10 +1,15 @@
-// Closures of small folders.
-ghost use Rattle.std.specs.Prelude.{◌≡◌, ℕ, List, [], ◌∷◌, codes};
-ghost use Rattle.cb_link.specs.Names.{names_in, class_names};
-ghost use Rattle.cb_link.specs.Loading.{StopsFor, AreLoaded};
+// The closure of a small folder, and the names in some texts.
+ghost use Rattle.std.specs.Prelude.{◌≡◌, [], ◌∷◌, codes};
+ghost use Rattle.cb_link.specs.Closure.{IsClosure};
+ghost use Rattle.cb_link.specs.Examples.{example};
+ghost use Rattle.cb_link.specs.Names.{class_names, names_in};
 
-/// The names in descriptors and of arrays.
-pub fn closures()
-    ensures descriptors { names_in (codes "(ILa/B;[[LC;)LD;") ≡ codes "a/B" ∷ codes "C" ∷ codes "D" ∷ [] }
-    ensures arrays { class_names (codes "[[La/L;") ≡ codes "a/L" ∷ [] }
+/// What the definitions say of an example: the names in a descriptor, those of an array and of a class, and the closure of
+/// a folder of four names.
+pub fn small_closures()
+    ensures descriptor { names_in (codes "(ILa/L;[[LC;)LD;") ≡ codes "a/L" ∷ codes "C" ∷ codes "D" ∷ [] }
+    ensures primitive_array { class_names (codes "[[J") ≡ [] }
+    ensures array { class_names (codes "[[La/B;") ≡ codes "a/B" ∷ [] }
+    ensures class { class_names (codes "La") ≡ codes "La" ∷ [] }
+    ensures closure { IsClosure (λ names. names) (codes "A") example }
 {}

@@ -12,8 +12,11 @@ mod names;
 mod path;
 mod program;
 mod refusal;
+mod text_names;
+mod text_uses;
+mod uses;
 
-pub use law::closures;
+pub use law::small_closures;
 pub use linking::link;
 pub use program::Program;
 pub use refusal::{Quantity, Refusal};

@@ -1,4 +1,4 @@
-use Rattle.std.proofs.Common.{◌≡◌, ◌∙◌, ap, sym, false, map}
+use Rattle.std.proofs.Common.{◌∙◌, ap, map}
 use Rattle.std.specs.List.{list_any}
 use Rattle.cb_link.specs.Closure.{covers}
 use Rattle.cb_link.specs.Inner.{entered}

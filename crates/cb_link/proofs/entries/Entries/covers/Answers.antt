@@ -1,4 +1,4 @@
-use Rattle.std.proofs.Common.{◌≡◌, ◌∙◌, ap, arith}
+use Rattle.std.proofs.Common.{arith}
 use Rattle.cb_link.proofs.EnteredKeys.{covered}
 use Rattle.cb_link.proofs.entries.Entries.covers.Goals as goal
 
