@@ -1,5 +1,5 @@
 -- What the keys of the entries tell of them.
-use Rattle.std.proofs.Common.{◌≡◌, ◌∙◌, ap, refl, sym, true≢false, ℕ, Bool, true, false, cond, ◌&&◌, ◌||◌, not, List, [], ◌∷◌, ◌++◌, map, nat_eq}
+use Rattle.std.proofs.Common.{◌≡◌, ◌∙◌, ap, ap₂, refl, sym, true≢false, ℕ, Bool, true, false, cond, ◌&&◌, ◌||◌, not, List, [], ◌∷◌, ◌++◌, map, nat_eq}
 use Rattle.std.specs.Bool.{beq}
 use Rattle.std.specs.List.{list_any}
 use Rattle.std.specs.Cmp.Lexicographic.{pointwise}
@@ -73,3 +73,30 @@ inserted keys key apart =
     ap (λ test. map key_entry (cond test keys (keys ++ key ∷ []))) (found (key_entry key) keys ∙ absent key.name.items key.needed (map key_entry keys) apart)
     ∙ map-append key_entry keys (key ∷ [])
     ∙ ap (λ test. cond test (map key_entry keys) (map key_entry keys ++ key_entry key ∷ [])) (sym apart)
+
+-- the same by the two keys that are looked for
+pub covered_by_keys : (name : List ℕ) (needed : Bool) (entries : List Entry)
+    → list_any (λ before. covers before (record { name = name; needed = needed })) entries
+    ≡ (list_any (is_same (record { name = name; needed = true })) entries || list_any (is_same (record { name = name; needed = needed })) entries)
+covered_by_keys name needed entries = covered name needed entries ∙ by_needed needed
+  where
+    some : Bool
+    some = list_any (is_same (record { name = name; needed = true })) entries
+
+    both : (a b : Bool) → (a || (false && b)) ≡ (a || a)
+    both true b = refl
+    both false b = refl
+
+    by_needed : (needed : Bool) → (some || (not needed && list_any (is_same (record { name = name; needed = false })) entries)) ≡ (some || list_any (is_same (record { name = name; needed = needed })) entries)
+    by_needed true = both some (list_any (is_same (record { name = name; needed = false })) entries)
+    by_needed false = refl
+
+-- an entry that is there by either key changes nothing, and one that is there by neither isn't covered
+pub kept_by : (name : List ℕ) (needed : Bool) (entries : List Entry) (first second : Bool) → first ≡ list_any (is_same (record { name = name; needed = true })) entries
+    → second ≡ list_any (is_same (record { name = name; needed = needed })) entries → (first || second) ≡ true → entries ≡ entered entries (record { name = name; needed = needed })
+kept_by name needed entries first second is also there =
+    sym (ap (λ test. cond test entries (entries ++ record { name = name; needed = needed } ∷ [])) (covered_by_keys name needed entries ∙ sym (ap₂ (λ a b. a || b) is also) ∙ there))
+
+pub free_of : (name : List ℕ) (needed : Bool) (entries : List Entry) → list_any (is_same (record { name = name; needed = true })) entries ≡ false
+    → list_any (is_same (record { name = name; needed = needed })) entries ≡ false → list_any (λ before. covers before (record { name = name; needed = needed })) entries ≡ false
+free_of name needed entries one other = covered_by_keys name needed entries ∙ ap₂ (λ a b. a || b) one other

@@ -6,7 +6,7 @@ ghost use Rattle.cb_link.specs.Entering.{is_same, key_entry};
 ghost use Rattle.cb_link.specs.Inner.{entered};
 
 use cb_plain::OutOfMemory;
-use indexmap::{Equivalent, IndexSet};
+use indexmap::IndexSet;
 use std::alloc::Global;
 use std::marker::Model;
 
@@ -15,37 +15,6 @@ use std::marker::Model;
 pub(crate) struct Key {
     name: Vec<u16>,
     needed: bool,
-}
-
-/// What a key is looked up by.
-#[derive(Clone, Copy, PartialEq, Eq, Hash)]
-struct Query<'a> {
-    name: &'a [u16],
-    needed: bool,
-}
-
-impl<'a> Equivalent<Key> for Query<'a> {
-    ghost use Rattle.std.specs.Prelude.{nat_eq, ◌&&◌, ◌++◌};
-    ghost use Rattle.std.specs.Bool.{beq};
-    ghost use Rattle.std.specs.Cmp.{booleans_Decides, first_so, second_so};
-    ghost use Rattle.std.specs.Cmp.Lexicographic.{bytes_decides, pointwise};
-    ghost use Rattle.std.specs.Hash as fed;
-
-    ghost equivalent = { λ query key. pointwise nat_eq query.name.now key.name.items && beq query.needed key.needed };
-
-    ghost respects_hash = { λ query key same.
-        let names = (bytes_decides query.name.now key.name.items).0 (first_so _ (beq query.needed key.needed) same) in
-        let flags = (booleans_Decides query.needed key.needed).0 (second_so (pointwise nat_eq query.name.now key.name.items) _ same) in
-        λ i. fed.slice fed.u16 (names i) ++ fed.bool (flags i) };
-
-    ghost respects_eq = { λ query key other same.
-        let names = (bytes_decides query.name.now key.name.items).0 (first_so _ (beq query.needed key.needed) same) in
-        let flags = (booleans_Decides query.needed key.needed).0 (second_so (pointwise nat_eq query.name.now key.name.items) _ same) in
-        λ i. pointwise nat_eq (names i) other.name.items && beq (flags i) other.needed };
-
-    fn equivalent(&self, key: &Key) -> bool {
-        self.name == key.name.as_slice() && self.needed == key.needed
-    }
 }
 
 /// The names that are looked for, each once, and once more as needed where it wasn't at first. Contracts see it as the
@@ -110,11 +79,19 @@ impl Entries {
     pub(crate) fn enter(&mut self, name: &[u16], needed: bool) -> Result<(), OutOfMemory>
         ensures { OnOk result (self.new ≡ entered self.old (record { name = name.now; needed = needed })) }
     {
-        if self.covers(name, needed) {
+        let name = copy_of(self.alloc, name)?;
+        let as_needed = Key { name, needed: true };
+        if self.has(&as_needed) {
             return Ok(());
         }
-        let name = copy_of(self.alloc, name)?;
-        self.add(Key { name, needed })
+        let key = Key {
+            name: as_needed.name,
+            needed,
+        };
+        if self.has(&key) {
+            return Ok(());
+        }
+        self.add(key)
     }
 
     /// Enters a name that no entry makes superfluous.
@@ -126,18 +103,11 @@ impl Entries {
         Ok(())
     }
 
-    /// Whether an entry makes this one superfluous.
-    fn covers(&self, name: &[u16], needed: bool) -> bool
-        ensures { result ≡ list_any (λ before. covers before (record { name = name.now; needed = needed })) self.now }
-    {
-        self.has(name, true) || !needed && self.has(name, false)
-    }
-
     /// Whether there is just this entry.
-    fn has(&self, name: &[u16], needed: bool) -> bool
-        ensures { result ≡ list_any (is_same (record { name = name.now; needed = needed })) self.now }
+    fn has(&self, key: &Key) -> bool
+        ensures { result ≡ list_any (is_same (key_entry key.now)) self.now }
     {
-        self.keys.contains(Query { name, needed })
+        self.keys.contains(key)
     }
 }
 
