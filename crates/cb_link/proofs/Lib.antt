@@ -4,6 +4,8 @@ pub mod LoadBytes
 pub mod LoadFaults
 pub mod LoadFiles
 pub mod LoadNames
+pub mod LoadOnce
+pub mod LoadSame
 pub mod NamingParts
 pub mod NamingTexts
 pub mod PathText

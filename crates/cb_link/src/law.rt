@@ -1,7 +1,11 @@
-// The closure of a small folder, and the names in some texts.
-ghost use Rattle.std.specs.Prelude.{◌≡◌, [], ◌∷◌, codes};
+// Laws of loading, and what the definitions say of an example.
+ghost use Rattle.std.specs.Prelude.{◌≡◌, ℕ, List, [], ◌∷◌, Some, codes};
+ghost use Rattle.cb_io.specs.Folder.{Files};
+ghost use Rattle.cb_classfile.specs.declared.class.ClassFile.{ClassFile};
+ghost use Rattle.cb_link.specs.declared.refusal.Refusal.{Refusal};
 ghost use Rattle.cb_link.specs.Closure.{IsClosure};
 ghost use Rattle.cb_link.specs.Examples.{example};
+ghost use Rattle.cb_link.specs.Loading.{AreLoaded, StopsFor};
 ghost use Rattle.cb_link.specs.Names.{class_names, names_in};
 
 /// What the definitions say of an example: the names in a descriptor, those of an array and of a class, and the closure of
@@ -12,4 +16,15 @@ pub fn small_closures()
     ensures array { class_names (codes "[[La/B;") ≡ codes "a/B" ∷ [] }
     ensures class { class_names (codes "La") ≡ codes "La" ∷ [] }
     ensures closure { IsClosure (λ names. names) (codes "A") example }
+{}
+
+/// A folder that tells its files has one loading of a main class: the classes are loaded or refused, and those are one list
+/// of classes, or one reason.
+pub fn one_loading()
+    ensures classes { (files : Files) (root main : List ℕ) (one other : List ClassFile) → AreLoaded (Some files) root main one
+        → AreLoaded (Some files) root main other → one ≡ other }
+    ensures never_both { (files : Files) (root main : List ℕ) (classes : List ClassFile) (refusal : Refusal)
+        → AreLoaded (Some files) root main classes → StopsFor (Some files) root main refusal → ⊥ }
+    ensures refusal { (files : Files) (root main : List ℕ) (one other : Refusal) → StopsFor (Some files) root main one
+        → StopsFor (Some files) root main other → one ≡ other }
 {}

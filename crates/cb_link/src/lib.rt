@@ -16,7 +16,7 @@ mod text_names;
 mod text_uses;
 mod uses;
 
-pub use law::small_closures;
+pub use law::{one_loading, small_closures};
 pub use linking::link;
 pub use program::Program;
 pub use refusal::{Quantity, Refusal};
