@@ -28,8 +28,8 @@ covers_more : (before entry later : Entry) → covers before entry ≡ true → 
 covers_more before entry later one other =
     let names : entry.name ≡ later.name = (bytes_decides entry.name later.name).0 (first_so (same_name entry.name later.name) (entry.needed || not later.needed) other) in
     both (same_name before.name later.name) before.needed entry.needed later.needed
-      (ap (λ name. same_name before.name name && (before.needed || not entry.needed)) (sym names) ∙ one)
-      (second_so (same_name entry.name later.name) (entry.needed || not later.needed) other)
+    (ap (λ name. same_name before.name name && (before.needed || not entry.needed)) (sym names) ∙ one)
+    (second_so (same_name entry.name later.name) (entry.needed || not later.needed) other)
 
 hidden_more : (entries : List Entry) (entry later : Entry) → hidden entries entry ≡ true → covers entry later ≡ true → hidden entries later ≡ true
 hidden_more [] entry later is covered = is
