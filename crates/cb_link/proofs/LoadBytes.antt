@@ -37,8 +37,7 @@ pub of_another : (name own bytes : List ℕ) (class : ClassFile) (result : Resul
     → ((major : ℕ) → IsErrOf result (unread.BadVersion major) ↔ (HasVersion bytes major × (IsAccepted major → ⊥)))
     → (class_at class.pool class.this_class ≡ Some name → ⊥) → own ≡ name → IsNoClassOf name bytes (Malformed own)
 of_another name own bytes class result is reads says other same =
-    let (spelled, versions) = subst (λ r. IfOk r (λ class. SpellsClass bytes class × IsAccepted class.major)) is reads in
-    (
+    let (spelled, versions) = subst (λ r. IfOk r (λ class. SpellsClass bytes class × IsAccepted class.major)) is reads in (
       same,
       accepted bytes (λ major has refused. let clash : Ok class ≡ Err (unread.BadVersion major) = subst (λ r. IsErrOf r (unread.BadVersion major)) is ((says major).1 (has, refused)) in cc),
       λ another spells named. other (subst (λ class. class_at class.pool class.this_class ≡ Some name) (one_class_spelled bytes another class spells spelled) named),

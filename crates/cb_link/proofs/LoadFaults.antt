@@ -15,8 +15,7 @@ fault_then before between now {Failed} first next =
       never_falls = omega arith;
       exact = λ below.
           let still : before ≡ between = same below in
-          let fits : between < 2 ^ 64 - 1 = omega arith in
-          (
+          let fits : between < 2 ^ 64 - 1 = omega arith in (
             λ failed. let later : between < now = (next.exact fits).0 failed in omega arith,
             λ less. let later : between < now = omega arith in (next.exact fits).1 later,
           );

@@ -19,7 +19,6 @@ use Rattle.cb_library.specs.Rows.{CoreClass}
 use Rattle.cb_link.specs.Closure.{same_name}
 use Rattle.cb_link.specs.Turning.{is_named, is_own}
 
-
 -- a set finds a name among its keys
 pub found_at : (name : List ℕ) (keys : List (Vec ℕ Global)) → list_any (is_at (λ key. slice_cmp nat_cmp name key.items)) keys ≡ list_any (same_name name) (map (λ key. key.items) keys)
 found_at name [] = refl

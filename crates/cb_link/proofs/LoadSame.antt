@@ -65,8 +65,7 @@ module _ (files : Files) (root main : List ℕ) (one other : List (Turn ClassFil
   behind : length one < length other → (turn : Turn ClassFile) × (slice_get (entries_of names_of main one) (length one) ≡ Some turn.entry) × Loads (Some files) root one turn.entry turn.loads
   behind short =
       let (turn, at) = an_item other (length one) short in
-      let front : take (length one) other ≡ one = sym (same_front (length one) (omega arith) (omega arith)) ∙ take-length one in
-      (
+      let front : take (length one) other ≡ one = sym (same_front (length one) (omega arith) (omega arith)) ∙ take-length one in (
         turn,
         subst (λ before. slice_get (entries_of names_of main before) (length one) ≡ Some turn.entry) front (too.begun (length one) turn at),
         subst (λ before. Loads (Some files) root before turn.entry turn.loads) front (too.each (length one) turn at),

@@ -7,7 +7,9 @@ ghost use Rattle.cb_link.specs.Loading.{IsClassOf, file_limit};
 ghost use Rattle.cb_link.specs.Turning.{IsNoClassOf};
 
 use crate::Refusal;
-use cb_classfile::{ClassFile, Constants, Feature, ReadFault, facts_of, read_any_class, unsupported_in};
+use cb_classfile::{
+    ClassFile, Constants, Feature, ReadFault, facts_of, read_any_class, unsupported_in,
+};
 use cb_text::Units;
 use std::alloc::{AllocError, Global};
 

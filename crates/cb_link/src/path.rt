@@ -14,11 +14,7 @@ const JAVA: &[u16] = &[
 ];
 
 /// The path of a class's file below a folder, if the class may have one. Takes time in the lengths of the two.
-pub fn path_of(
-    alloc: Global,
-    root: &str,
-    name: &[u16],
-) -> Result<Option<String>, AllocError>
+pub fn path_of(alloc: Global, root: &str, name: &[u16]) -> Result<Option<String>, AllocError>
     ensures { IfOk result (λ path. option_map string_bytes path ≡ path_of root.now name.now) }
 {
     if name.starts_with(JAVA) || name.contains(&0) {

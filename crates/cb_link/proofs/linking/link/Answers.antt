@@ -38,8 +38,7 @@ loop-loading-preserved g c =
     let stands = subst (λ files. Stands files c.args.root.now c.args.main c.args.library now.taken now.entries now.names now.classes) (sym c.loop-loading.invariant.0) c.loop-loading.invariant.2 in
     let next = subst (λ found. IsNext (g.F.Folder.files c.loop-loading.folder) c.args.root.now c.args.main c.args.library now.entries now.names now.classes found) c.in-Some.is (c.in_ok-place.ensures.next c.args.main c.args.library stands) in
     let loaded = loaded_next (g.F.Folder.files c.loop-loading.folder) c.args.root.now c.args.main c.args.library c.in-Some.place now.entries later.entries now.names later.names now.classes later.classes c.in-Some.class next c.in_ok-load.ensures.names c.in_ok-load.ensures.entries c.in_ok-load.ensures.classes in
-    let counted = subst (λ taken. Stands (g.F.Folder.files c.loop-loading.folder) c.args.root.now c.args.main c.args.library taken later.entries later.names later.classes) (sym c.in_ok-load.ensures.taken) loaded.0 in
-    (
+    let counted = subst (λ taken. Stands (g.F.Folder.files c.loop-loading.folder) c.args.root.now c.args.main c.args.library taken later.entries later.names later.classes) (sym c.in_ok-load.ensures.taken) loaded.0 in (
       c.in_ok-place.ensures.kept ∙ c.loop-loading.invariant.0,
       fault_then _ _ _ c.loop-loading.invariant.1 (fault_of_ok _ _ c.in_ok-place.field-0 FolderFault c.in_ok-place.ensures.fault),
       subst (λ files. Stands files c.args.root.now c.args.main c.args.library later.taken later.entries later.names later.classes) c.loop-loading.invariant.0 counted,

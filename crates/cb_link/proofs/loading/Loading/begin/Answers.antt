@@ -6,6 +6,9 @@ use Rattle.cb_link.proofs.TurnStands.{first_taken}
 use Rattle.cb_link.proofs.loading.Loading.begin.Goals as goal
 
 pub returns : goal.returns
-returns c = λ files root. ([], first_taken files root c.args.main.now c.args.library c.enter.new.self c.in_ok-names.names c.requires
-    (λ name. c.in_ok-names.ensures name ∙ ap (list_any (is_named name)) c.as_slice.ensures)
-    (c.in_ok-enter.ensures ∙ ap (λ entries. entered entries (record { name = c.args.main.now; needed = true })) c.new-entries.ensures))
+returns c = λ files root. (
+  [],
+  first_taken files root c.args.main.now c.args.library c.enter.new.self c.in_ok-names.names c.requires
+      (λ name. c.in_ok-names.ensures name ∙ ap (list_any (is_named name)) c.as_slice.ensures)
+      (c.in_ok-enter.ensures ∙ ap (λ entries. entered entries (record { name = c.args.main.now; needed = true })) c.new-entries.ensures),
+)

@@ -12,8 +12,7 @@ use Rattle.cb_link.proofs.loading.Loading.next.Goals as goal
 pub loop-place-preserved-then-has : goal.loop-place-preserved-then-has
 loop-place-preserved-then-has g c =
     let found = entry_named c.args.self.now.entries c.loop-place.place c.name-name.result.now c.name-name.ensures in
-    let known = sym c.has.ensures ∙ c.if-has.true in
-    (
+    let known = sym c.has.ensures ∙ c.if-has.true in (
       c.loop-place.invariant.0,
       c.loop-place.invariant.1,
       λ main library stands. there_next (g.F.Folder.files c.args.folder.now) _ c.loop-place.invariant.0 c.args.root.now main library c.loop-place.place c.args.self.now.entries c.args.self.now.names c.args.self.now.classes found.0 (c.loop-place.invariant.2 main library stands) found.1
@@ -38,8 +37,7 @@ returns-in-Some-clause-next g c = λ main library stands.
 pub loop-place-preserved : goal.loop-place-preserved
 loop-place-preserved g c =
     let within : c.loop-place.place < length c.args.self.now.entries = omega (arith, c.loop-place-test.true, c.len-place-end.ensures) in
-    let at = entry_at c.args.self.now.entries c.loop-place.place c.name-name.result.now c.is_needed-needed.result within c.name-name.ensures c.is_needed-needed.ensures in
-    (
+    let at = entry_at c.args.self.now.entries c.loop-place.place c.name-name.result.now c.is_needed-needed.result within c.name-name.ensures c.is_needed-needed.ensures in (
       c.in_ok-class.ensures.kept ∙ c.loop-place.invariant.0,
       fault_then _ _ _ c.loop-place.invariant.1 (fault_of_ok _ _ c.in_ok-class.field-0 FolderFault c.in_ok-class.ensures.fault),
       λ main library stands. idle_next (g.F.Folder.files c.args.folder.now) _ c.loop-place.invariant.0 c.args.root.now main library c.loop-place.place c.args.self.now.entries c.args.self.now.names c.args.self.now.classes _ (c.loop-place.invariant.2 main library stands) at
