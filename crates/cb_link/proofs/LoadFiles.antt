@@ -1,9 +1,11 @@
 -- What a file comes to.
-use Rattle.std.proofs.Common.{◌≡◌, ◌↔◌, ℕ, ◌+◌, ◌<◌, ◌≤◌, Bool, true, false, List, [], ◌∷◌, length, Option, None, Some, IfSome, refl, sym, subst, ap, ◌∙◌, arith, replicate}
+use Rattle.std.proofs.Common.{◌≡◌, ◌↔◌, ℕ, ◌+◌, ◌<◌, ◌≤◌, Bool, true, false, ◌||◌, List, [], ◌∷◌, length, Option, None, Some, IfSome, refl, sym, subst, ap, ◌∙◌, arith, replicate}
 use Rattle.std.specs.Prelude.{IsSomeAnd, IsTrue, Vec}
 use Rattle.std.specs.FinMap.{get}
+use Rattle.std.specs.List.{list_any}
 use Rattle.std.specs.declared.alloc.Global.{Global}
 use Rattle.std.proofs.lemmas.List.{length-replicate}
+use Rattle.std.proofs.lemmas.Slice.Eq.{bytes_eq-Decides}
 use Rattle.cb_io.specs.Folder.{Files, Finds, FindsAt, IsWithin}
 use Rattle.cb_io.specs.declared.folder.Found.{Found}
 use Rattle.cb_io.specs.declared.folder.Found.TheVariants.{Bytes, Absent, TooLong}
@@ -12,10 +14,10 @@ use Rattle.cb_link.specs.declared.refusal.Refusal.{Refusal}
 use Rattle.cb_link.specs.declared.refusal.Refusal.TheVariants.{MissingClass, TooLarge, Malformed, BadVersion, Unsupported, FolderFault, OutOfMemory}
 use Rattle.cb_link.specs.declared.refusal.Quantity.TheVariants.{ClassFileBytes, Classes}
 use Rattle.cb_link.specs.Names.{Entry}
-use Rattle.cb_link.specs.Closure.{Turn}
+use Rattle.cb_link.specs.Closure.{Turn, same_name}
 use Rattle.cb_link.specs.Files.{MayStandAt, path_of}
 use Rattle.cb_link.specs.Loading.{HasRoom, IsClassOf, IsRefused, IsMissing, IsLong, AreMany, IsOfVersion, IsNoClass, IsLeftOut, IsRead, Loads, StaysOpaque, class_limit, file_limit, is_loaded}
-use Rattle.cb_link.specs.Turning.{IsFound, IsNoClassOf, IsOutside, StopsAt}
+use Rattle.cb_link.specs.Turning.{AreAbsent, IsFound, IsNoClassOf, IsOutside, StopsAt}
 
 -- a list can be that long
 longer : (limit : ℕ) → (bytes : List ℕ) × (limit < length bytes)
@@ -38,11 +40,25 @@ found_there (Some files) root name path found is told within = (get files path, 
 pub found_nowhere : (files : Option Files) (root name : List ℕ) → path_of root name ≡ None → IsFound files root name Absent
 found_nowhere files root name is = (None, subst (λ at. MayStandAt files at None) (sym is) refl, refl)
 
+pub found_absent : (files : Option Files) (root name : List ℕ) → MayStandAt files (path_of root name) None → IsFound files root name Absent
+found_absent files root name may = (None, may, refl)
+
+-- one name more has no file
+pub more_absent : (files : Option Files) (root : List ℕ) (names more : List (List ℕ)) (name : List ℕ) → AreAbsent files root names → MayStandAt files (path_of root name) None
+    → ((other : List ℕ) → list_any (same_name other) more ≡ (same_name other name || list_any (same_name other) names)) → AreAbsent files root more
+more_absent files root names more name lacking may known other has = go (same_name other name) refl where
+  go : (test : Bool) → same_name other name ≡ test → MayStandAt files (path_of root other) None
+  go true is = subst (λ name. MayStandAt files (path_of root name) None) (sym ((bytes_eq-Decides other name).0 is)) may
+  go false is = lacking other (sym (known other ∙ ap (λ (test : Bool). test || list_any (same_name other) names) is) ∙ has)
+
 absent : (files : Option Files) (root name : List ℕ) → IsFound files root name Absent → MayStandAt files (path_of root name) None
 absent files root name (file, may, finds) = subst (MayStandAt files (path_of root name)) finds may
 
 present : (files : Option Files) (root name : List ℕ) (bytes : Vec ℕ Global) → IsFound files root name (Bytes bytes) → MayStandAt files (path_of root name) (Some bytes.items)
 present files root name bytes (file, may, finds) = subst (MayStandAt files (path_of root name)) finds.0 may
+
+pub absent_found : (files : Option Files) (root name : List ℕ) (found : Found) → IsFound files root name found → found ≡ Absent → MayStandAt files (path_of root name) None
+absent_found files root name found finds is = absent files root name (subst (IsFound files root name) is finds)
 
 -- an entry without a file isn't loaded, and is refused where it is needed
 pub opaque_entry : (files : Option Files) (root : List ℕ) (before : List (Turn ClassFile)) (entry : Entry) (found : Found) → IsFound files root entry.name found → found ≡ Absent → entry.needed ≡ false → is_loaded before entry.name ≡ false → Loads files root before entry None

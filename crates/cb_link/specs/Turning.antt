@@ -27,6 +27,10 @@ is_named name class = is_own name (class_at class.pool class.this_class)
 abbrev pub IsFound : Option Files → List ℕ → List ℕ → Found → Type 0
 IsFound files root name found = (file : Option (List ℕ)) × MayStandAt files (path_of root name) file × FindsAt file file_limit found
 
+-- these names have no file
+abbrev pub AreAbsent : Option Files → List ℕ → List (List ℕ) → Type 0
+AreAbsent files root names = (name : List ℕ) → list_any (same_name name) names ≡ true → MayStandAt files (path_of root name) None
+
 -- the folder failed, or there was no memory
 abbrev pub IsOutside : Refusal → Type 0
 IsOutside FolderFault = Unit {0}

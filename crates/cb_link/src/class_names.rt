@@ -1,5 +1,5 @@
 // The names of the classes that are there.
-ghost use Rattle.std.specs.Prelude.{◌≡◌, ◌||◌, ℕ, List, IfOk, OnOk};
+ghost use Rattle.std.specs.Prelude.{◌≡◌, ◌||◌, ℕ, List, [], IfOk, OnOk};
 ghost use Rattle.std.specs.List.{list_any};
 ghost use Rattle.cb_link.specs.Closure.{same_name};
 ghost use Rattle.cb_link.specs.Turning.{is_named};
@@ -29,14 +29,21 @@ impl ClassNames {
     pub(crate) fn of(alloc: Global, classes: &[ClassFile]) -> Result<Self, AllocError>
         ensures { IfOk result (λ names. (name : List ℕ) → list_any (same_name name) names ≡ list_any (is_named name) classes.now) }
     {
-        let mut names = ClassNames {
-            alloc,
-            names: BTreeSet::new(alloc),
-        };
+        let mut names = ClassNames::none(alloc);
         for class in classes {
             names.insert_name_of(class)?;
         }
         Ok(names)
+    }
+
+    /// No names.
+    pub(crate) fn none(alloc: Global) -> Self
+        ensures { result ≡ [] }
+    {
+        ClassNames {
+            alloc,
+            names: BTreeSet::new(alloc),
+        }
     }
 
     /// Whether a name is among them.

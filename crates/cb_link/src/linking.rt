@@ -6,6 +6,7 @@ ghost use Rattle.cb_classfile.specs.Library.{AreLibrary};
 ghost use Rattle.cb_link.specs.Loading.{AreLoaded, Stops};
 ghost use Rattle.cb_link.specs.declared.refusal.Refusal.TheVariants as refusals;
 
+use crate::class_names::ClassNames;
 use crate::loading::Loading;
 use crate::{Program, Refusal};
 use cb_classfile::Classes;
@@ -39,7 +40,8 @@ pub fn link<F: Folder>(
     ensures fault { CountsFaults (F.faults folder.old) (F.faults folder.new) (IsErrOf result refusals.FolderFault) }
 {
     let mut loading = Loading::begin(alloc, library, main.as_slice())?;
-    while let Some((place, class)) = loading.next(alloc, folder, root)? {
+    let mut absent = ClassNames::none(alloc);
+    while let Some((place, class)) = loading.next(alloc, folder, root, &mut absent)? {
         loading.load(place, class)?;
     }
     Ok(Program::new(loading.classes))

@@ -1,15 +1,16 @@
 // The classes that are loaded one after the other.
-ghost use Rattle.std.specs.Prelude.{◌≡◌, ◌↔◌, ◌∷◌, ◌++◌, [], ◌||◌, ℕ, ◌+◌, ◌-◌, ◌<◌, ◌^◌, List, Option as Maybe, length, slice_get, IfErr, IfOk, IfSome, IsErrOf, IsTrue, OnOk, false};
+ghost use Rattle.std.specs.Prelude.{◌≡◌, ◌↔◌, ◌∷◌, ◌++◌, [], ◌||◌, ℕ, ◌+◌, ◌-◌, ◌<◌, ◌^◌, List, Option as Maybe, length, slice_get, IfErr, IfOk, IfSome, IsErrOf, IsTrue, None, OnOk, false};
 ghost use Rattle.std.specs.List.{list_any};
 ghost use Rattle.cb_io.specs.Faults.{CountsFaults};
 ghost use Rattle.cb_io.specs.Folder.{Files};
 ghost use Rattle.cb_classfile.specs.declared.class.ClassFile.{ClassFile as AnyClass};
 ghost use Rattle.cb_classfile.specs.Library.{AreLibrary};
 ghost use Rattle.cb_link.specs.Closure.{Turn, same_name};
+ghost use Rattle.cb_link.specs.Files.{MayStandAt, path_of};
 ghost use Rattle.cb_link.specs.Inner.{entered_all};
 ghost use Rattle.cb_link.specs.Loading.{HasRoom, Loads, Stops, is_loaded};
 ghost use Rattle.cb_link.specs.Names.{names_of};
-ghost use Rattle.cb_link.specs.Turning.{IsNext, Stands, StopsAt};
+ghost use Rattle.cb_link.specs.Turning.{AreAbsent, IsNext, Stands, StopsAt};
 ghost use Rattle.cb_link.specs.declared.refusal.Refusal.TheVariants as refusals;
 
 use crate::class_names::ClassNames;
@@ -51,13 +52,16 @@ impl Loading {
         })
     }
 
-    /// The next class to be loaded, and the place of its entry.
+    /// The next class to be loaded, and the place of its entry. The names that have no file are noted, and not looked for
+    /// again.
     pub(crate) fn next<F: Folder>(
         &self,
         alloc: Global,
         folder: &mut F,
         root: &str,
+        absent: &mut ClassNames,
     ) -> Result<Option<(usize, ClassFile)>, Refusal>
+        requires { AreAbsent (F.files folder.old) root.now absent.old }
         ensures kept { F.files folder.new ≡ F.files folder.old }
         ensures next { (main : List ℕ) (library : List AnyClass)
             → Stands (F.files folder.old) root.now main library self.now.taken self.now.entries self.now.names self.now.classes
@@ -65,6 +69,7 @@ impl Loading {
         ensures refused { (main : List ℕ) (library : List AnyClass)
             → Stands (F.files folder.old) root.now main library self.now.taken self.now.entries self.now.names self.now.classes
             → IfErr result (Stops (F.files folder.old) root.now main) }
+        ensures absent { OnOk result (AreAbsent (F.files folder.old) root.now absent.new) }
         ensures place { IfOk result (λ next. IfSome next (λ found. (found.0 < length self.now.entries) × (found.0 < 2 ^ 64 - 1))) }
         ensures fault { CountsFaults (F.faults folder.old) (F.faults folder.new) (IsErrOf result refusals.FolderFault) }
     {
@@ -75,9 +80,11 @@ impl Loading {
                 continue;
             }
             let needed = self.entries.is_needed(place);
-            if let Some(class) = class_for(alloc, folder, root, name, needed, has_room)? {
+            if let Some(class) = class_for(alloc, folder, root, name, needed, has_room, absent)?
+            {
                 return Ok(Some((place, class)));
             }
+            absent.insert(name)?;
         }
         Ok(None)
     }
@@ -109,15 +116,18 @@ fn class_for<F: Folder>(
     name: &[u16],
     needed: bool,
     has_room: bool,
+    absent: &ClassNames,
 ) -> Result<Option<ClassFile>, Refusal>
+    requires { AreAbsent (F.files folder.old) root.now absent.now }
     ensures kept { F.files folder.new ≡ F.files folder.old }
+    ensures absent { IfOk result (λ class. class ≡ None → MayStandAt (F.files folder.old) (path_of root.now name.now) None) }
     ensures loads { (before : List (Turn AnyClass)) → is_loaded before name.now ≡ false → (IsTrue has_room ↔ HasRoom before)
         → IfOk result (Loads (F.files folder.old) root.now before (record { name = name.now; needed = needed })) }
     ensures refused { (before : List (Turn AnyClass)) → is_loaded before name.now ≡ false → (IsTrue has_room ↔ HasRoom before)
         → IfErr result (StopsAt (F.files folder.old) root.now before (record { name = name.now; needed = needed })) }
     ensures fault { CountsFaults (F.faults folder.old) (F.faults folder.new) (IsErrOf result refusals.FolderFault) }
 {
-    match find(alloc, folder, root, name)? {
+    match find(alloc, folder, root, name, absent)? {
         Found::Absent if needed => Err(Refusal::MissingClass {
             name: units_of(alloc, name)?,
         }),

@@ -1,7 +1,10 @@
 use Rattle.std.proofs.Common.{◌∙◌, ap, sym, Some}
 use Rattle.std.specs.Prelude.{option_map, string_bytes}
-use Rattle.cb_link.proofs.LoadFiles.{found_there}
+use Rattle.cb_link.proofs.LoadFiles.{found_absent, found_there}
 use Rattle.cb_link.proofs.file.find.Goals as goal
+
+pub returns-then-has-clause-found : goal.returns-then-has-clause-found
+returns-then-has-clause-found g c = found_absent (g.F.Folder.files c.args.folder.now) c.args.root.now c.args.name.now (c.requires c.args.name.now (sym c.has.ensures ∙ c.if-has.true))
 
 pub returns-in-Ok-clause-found : goal.returns-in-Ok-clause-found
 returns-in-Ok-clause-found g c =

@@ -1,6 +1,9 @@
 use Rattle.std.proofs.Common.{◌≡◌, ◌+◌, ◌<◌, ◌∙◌, IfErr, List, [], ◌∷◌, ap, length, refl, sym, subst, arith, length-append}
+use Rattle.std.specs.List.{list_any}
+use Rattle.std.proofs.lemmas.Bool.{false≢true}
+use Rattle.cb_link.specs.Closure.{same_name}
 use Rattle.cb_link.specs.Loading.{AreLoaded, Stops}
-use Rattle.cb_link.specs.Turning.{IsNext, Stands}
+use Rattle.cb_link.specs.Turning.{AreAbsent, IsNext, Stands}
 use Rattle.cb_link.specs.declared.refusal.Refusal.TheVariants.{FolderFault}
 use Rattle.cb_link.proofs.LoadFaults.{fault_of_ok, fault_then, handed_from, no_fault}
 use Rattle.cb_link.proofs.TurnSteps.{loaded_next}
@@ -10,13 +13,14 @@ pub loop-loading-init : goal.loop-loading-init
 loop-loading-init g c = (
   refl,
   no_fault _,
+  λ name has. absurd (false≢true (sym (ap (list_any (same_name name)) c.none-absent.ensures) ∙ has)),
   subst (λ main. Stands (g.F.Folder.files c.args.folder.now) c.args.root.now main c.args.library c.in_ok-loading.loading.taken c.in_ok-loading.loading.entries c.in_ok-loading.loading.names c.in_ok-loading.loading.classes) c.as_slice.ensures (c.in_ok-loading.ensures (g.F.Folder.files c.args.folder.now) c.args.root.now),
 )
 
 pub returns-in_err-place-clause-refused : goal.returns-in_err-place-clause-refused
 returns-in_err-place-clause-refused g c =
     let now = c.loop-loading.loading in
-    let stands = subst (λ files. Stands files c.args.root.now c.args.main c.args.library now.taken now.entries now.names now.classes) (sym c.loop-loading.invariant.0) c.loop-loading.invariant.2 in
+    let stands = subst (λ files. Stands files c.args.root.now c.args.main c.args.library now.taken now.entries now.names now.classes) (sym c.loop-loading.invariant.0) c.loop-loading.invariant.3 in
     let told = subst (λ files. IfErr c.next.result (Stops files c.args.root.now c.args.main)) c.loop-loading.invariant.0 (c.next.ensures.refused c.args.main c.args.library stands) in
     handed_from (Stops (g.F.Folder.files c.args.folder.now) c.args.root.now c.args.main) _ c.next.result _ c.from_residual-in_err-place.ensures c.in_err-place.was told
 
@@ -24,7 +28,7 @@ pub loop-loading-smaller : goal.loop-loading-smaller
 loop-loading-smaller g c =
     let now = c.loop-loading.loading in
     let later = c.load.new.self in
-    let stands = subst (λ files. Stands files c.args.root.now c.args.main c.args.library now.taken now.entries now.names now.classes) (sym c.loop-loading.invariant.0) c.loop-loading.invariant.2 in
+    let stands = subst (λ files. Stands files c.args.root.now c.args.main c.args.library now.taken now.entries now.names now.classes) (sym c.loop-loading.invariant.0) c.loop-loading.invariant.3 in
     let next = subst (λ found. IsNext (g.F.Folder.files c.loop-loading.folder) c.args.root.now c.args.main c.args.library now.entries now.names now.classes found) c.in-Some.is (c.in_ok-place.ensures.next c.args.main c.args.library stands) in
     let loaded = loaded_next (g.F.Folder.files c.loop-loading.folder) c.args.root.now c.args.main c.args.library c.in-Some.place now.entries later.entries now.names later.names now.classes later.classes c.in-Some.class next c.in_ok-load.ensures.names c.in_ok-load.ensures.entries c.in_ok-load.ensures.classes in
     let less : length now.classes < 1024 = loaded.1 in
@@ -35,18 +39,22 @@ pub loop-loading-preserved : goal.loop-loading-preserved
 loop-loading-preserved g c =
     let now = c.loop-loading.loading in
     let later = c.load.new.self in
-    let stands = subst (λ files. Stands files c.args.root.now c.args.main c.args.library now.taken now.entries now.names now.classes) (sym c.loop-loading.invariant.0) c.loop-loading.invariant.2 in
+    let stands = subst (λ files. Stands files c.args.root.now c.args.main c.args.library now.taken now.entries now.names now.classes) (sym c.loop-loading.invariant.0) c.loop-loading.invariant.3 in
     let next = subst (λ found. IsNext (g.F.Folder.files c.loop-loading.folder) c.args.root.now c.args.main c.args.library now.entries now.names now.classes found) c.in-Some.is (c.in_ok-place.ensures.next c.args.main c.args.library stands) in
     let loaded = loaded_next (g.F.Folder.files c.loop-loading.folder) c.args.root.now c.args.main c.args.library c.in-Some.place now.entries later.entries now.names later.names now.classes later.classes c.in-Some.class next c.in_ok-load.ensures.names c.in_ok-load.ensures.entries c.in_ok-load.ensures.classes in
     let counted = subst (λ taken. Stands (g.F.Folder.files c.loop-loading.folder) c.args.root.now c.args.main c.args.library taken later.entries later.names later.classes) (sym c.in_ok-load.ensures.taken) loaded.0 in (
       c.in_ok-place.ensures.kept ∙ c.loop-loading.invariant.0,
       fault_then _ _ _ c.loop-loading.invariant.1 (fault_of_ok _ _ c.in_ok-place.field-0 FolderFault c.in_ok-place.ensures.fault),
+      subst (λ files. AreAbsent files c.args.root.now c.next.new.absent) c.loop-loading.invariant.0 c.in_ok-place.ensures.absent,
       subst (λ files. Stands files c.args.root.now c.args.main c.args.library later.taken later.entries later.names later.classes) c.loop-loading.invariant.0 counted,
     )
 
 pub returns-clause-loaded : goal.returns-clause-loaded
 returns-clause-loaded g c =
     let now = c.loop-loading.loading in
-    let stands = subst (λ files. Stands files c.args.root.now c.args.main c.args.library now.taken now.entries now.names now.classes) (sym c.loop-loading.invariant.0) c.loop-loading.invariant.2 in
+    let stands = subst (λ files. Stands files c.args.root.now c.args.main c.args.library now.taken now.entries now.names now.classes) (sym c.loop-loading.invariant.0) c.loop-loading.invariant.3 in
     let last = subst (λ found. IsNext (g.F.Folder.files c.loop-loading.folder) c.args.root.now c.args.main c.args.library now.entries now.names now.classes found) c.in_default.is (c.in_ok-place.ensures.next c.args.main c.args.library stands) in
     (last.0, subst (λ files. AreLoaded files c.args.root.now c.args.main last.0) c.loop-loading.invariant.0 last.1, c.new.ensures ∙ last.2)
+
+pub next-requires : goal.next-requires
+next-requires g c = subst (λ files. AreAbsent files c.args.root.now c.loop-loading.absent) (sym c.loop-loading.invariant.0) c.loop-loading.invariant.2
