@@ -22,9 +22,8 @@ use std::alloc::Global;
 /// where the folder's count of faults rose; `MissingClass` where it is needed and has no file; `TooLarge` where its file is
 /// longer than a class file may be, or where there are too many classes; `BadVersion`; `Malformed` where its file is no
 /// class file or that of a class of another name; `Unsupported`. A name under `java/` that isn't the library's has no file,
-/// nor has one that isn't text or holds U+0000. Each other name is asked for once, but for one that was mentioned, has no file
-/// and is needed later: it is asked for a second time. `OutOfMemory` where no memory was to be had. Takes time in the bytes
-/// that are read, times a logarithm.
+/// nor has one that isn't text or holds U+0000. Each other name is asked for once. `OutOfMemory` where no memory was to be
+/// had. Takes time in the bytes that are read, times a logarithm.
 pub fn link<F: Folder>(
     alloc: Global,
     library: Classes,

@@ -3,12 +3,12 @@ use Rattle.cb_io.specs.Faults.{CountsFaults}
 use Rattle.cb_link.specs.Turning.{AreAbsent, Stands}
 use Rattle.cb_link.proofs.linking.link.Given as goal
 
-abbrev pub invariant-loop-loading : goal.invariant-loop-loading
-invariant-loop-loading g l =
+abbrev pub invariant-loop-absent : goal.invariant-loop-absent
+invariant-loop-absent g l =
     (g.F.Folder.files l.folder ≡ g.F.Folder.files l.fn.folder)
     × CountsFaults (g.F.Folder.faults l.fn.folder) (g.F.Folder.faults l.folder) ⊥
     × AreAbsent (g.F.Folder.files l.fn.folder) l.root l.absent
     × Stands (g.F.Folder.files l.fn.folder) l.root l.fn.main l.fn.library l.loading.taken l.loading.entries l.loading.names l.loading.classes
 
-abbrev pub decreases-loop-loading : goal.decreases-loop-loading
-decreases-loop-loading g l = 1025 - length l.loading.classes
+abbrev pub decreases-loop-absent : goal.decreases-loop-absent
+decreases-loop-absent g l = 1025 - length l.loading.classes
