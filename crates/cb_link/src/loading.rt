@@ -80,8 +80,7 @@ impl Loading {
                 continue;
             }
             let needed = self.entries.is_needed(place);
-            if let Some(class) = class_for(alloc, folder, root, name, needed, has_room, absent)?
-            {
+            if let Some(class) = class_for(alloc, folder, root, name, needed, has_room, absent)? {
                 return Ok(Some((place, class)));
             }
             absent.insert(name)?;

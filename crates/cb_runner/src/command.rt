@@ -63,10 +63,12 @@ fn carry_out<F: Folder, S: Source, O: Sink>(
     ensures output_fault { CountsFaults (O.faults out.old) (O.faults out.new) (result ≡ stops.OutputFault) }
 {
     match command_of(words) {
-        Some(Command::Run {
-            folder: root,
-            class,
-        }) => run_class(alloc, root, class, folder, out),
+        Some(
+            Command::Run {
+                folder: root,
+                class,
+            },
+        ) => run_class(alloc, root, class, folder, out),
         Some(Command::List { path }) => list_file(alloc, path, folder, out),
         Some(Command::Assemble) => assemble_input(alloc, input, out),
         None => Stop::Usage,

@@ -219,7 +219,10 @@ fn there_are_at_most_1024_classes(rt: HostRuntime) -> Result<(), Fail> {
     let alloc = rt.alloc();
     // How many classes the folder has, each the superclass of the one before it.
     for (count, want) in [
-        (974, b"cbvm: E4 unsupported not yet in class A0\n".as_slice()),
+        (
+            974,
+            b"cbvm: E4 unsupported not yet in class A0\n".as_slice(),
+        ),
         (975, b"cbvm: E8 too large classes 1025 over 1024\n"),
     ] {
         let mut folder = SureFolder::new(alloc);
@@ -259,6 +262,27 @@ fn faults_end_the_loading(rt: HostRuntime) -> Result<(), Fail> {
         assert_eq!(rt; objects.run(alloc, "run F A")?.status, status);
         assert_eq!(rt; objects.err.bytes(), want);
     }
+    Ok(())
+}
+
+#[test]
+fn a_name_is_asked_for_once(rt: HostRuntime) -> Result<(), Fail> {
+    let alloc = rt.alloc();
+    // Of A, C and B only B has no file. It is mentioned by A and needed by C, and a fourth call would fail.
+    let mut folder = SureFolder::new(alloc);
+    put(alloc, &mut folder, "A", "A C\nfield 0 b LB;\n")?;
+    put(
+        alloc,
+        &mut folder,
+        "C",
+        "C java/lang/Object\nimplements B\n",
+    )?;
+    let mut objects = objects(alloc, folder, 4, 0)?;
+    assert_eq!(rt; objects.run(alloc, "run F A")?.status, 121);
+    assert_eq!(rt;
+        objects.err.bytes(),
+        b"cbvm: E1 missing class B\n".as_slice()
+    );
     Ok(())
 }
 
