@@ -1,9 +1,7 @@
 // The top call over objects in memory.
 mod asm;
 mod faults;
-mod javac;
 mod library;
-mod linking;
 mod list;
 mod run;
 mod words;
