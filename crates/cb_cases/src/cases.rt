@@ -1,0 +1,271 @@
+// The cases of the text.
+use crate::command::do_command;
+use crate::content::{Named, change};
+use crate::repeat::{Repeat, filled};
+use crate::setup::Setup;
+use crate::trouble::Trouble;
+use cb_io::Folder;
+use std::alloc::{AllocError, Global};
+use std::collections::BTreeMap;
+use std::mem;
+
+/// Where the bytes belong that lines make.
+#[derive(Drop)]
+enum Target {
+    /// Nowhere.
+    Nothing,
+    /// To a name, for later cases.
+    Name(String),
+    /// To the file at a path.
+    File(String),
+    /// To the input.
+    Input,
+}
+
+/// What the lines of the text have said and done so far.
+#[derive(Drop)]
+pub(crate) struct Cases {
+    alloc: Global,
+    /// Bytes that have a name.
+    named: Named,
+    /// What the next command is handed.
+    setup: Setup,
+    /// Whether a case has begun that has run nothing.
+    is_open: bool,
+    /// Where the bytes of the last lines belong.
+    target: Target,
+    /// These bytes.
+    bytes: Vec<u8>,
+    /// The lines of a repetition that has not ended.
+    repeat: Option<Repeat>,
+    /// How many lines were read.
+    lines: usize,
+    /// How many cases have begun.
+    cases: usize,
+    /// How many lines did nothing that should have done something.
+    troubles: usize,
+    /// What is printed.
+    report: String,
+}
+
+impl Cases {
+    /// No line was read.
+    pub fn new(alloc: Global) -> Self {
+        Cases {
+            alloc,
+            named: BTreeMap::new(alloc),
+            setup: Setup::new(alloc),
+            is_open: false,
+            target: Target::Nothing,
+            bytes: Vec::new(alloc),
+            repeat: None,
+            lines: 0,
+            cases: 0,
+            troubles: 0,
+            report: String::new(alloc),
+        }
+    }
+
+    /// All that is printed.
+    pub fn printed(&self) -> &str {
+        self.report.as_str()
+    }
+
+    /// Whether there was a line that did nothing and should have done something.
+    pub fn had_trouble(&self) -> bool {
+        self.troubles > 0
+    }
+
+    /// Does what a line says. Data is the files beside the program.
+    pub fn read_line<F: Folder>(&mut self, data: &mut F, line: &str) -> Result<(), AllocError> {
+        self.lines = self.lines.saturating_add(1);
+        let line = line.trim_start();
+        if line.is_empty() || line.starts_with('#') {
+            return Ok(());
+        }
+        let answer = self.gather(data, line);
+        self.tell(line, answer)
+    }
+
+    /// Ends the text.
+    pub fn finish(&mut self) -> Result<(), AllocError> {
+        self.lines = self.lines.saturating_add(1);
+        let answer = if self.is_open {
+            Err(Trouble::NothingRun)
+        } else if self.repeat.is_some() {
+            Err(Trouble::EndlessRepeat)
+        } else {
+            Ok(())
+        };
+        self.tell("", answer)?;
+        writeln!(self.report, "\n{} cases", self.cases)?;
+        if self.troubles > 0 {
+            writeln!(self.report, "{} lines in trouble", self.troubles)?;
+        }
+        Ok(())
+    }
+
+    /// Prints what came of a line that did nothing.
+    fn tell(&mut self, line: &str, answer: Result<(), Trouble>) -> Result<(), AllocError> {
+        if let Err(trouble) = answer {
+            self.troubles = self.troubles.saturating_add(1);
+            writeln!(self.report, "line {} {trouble}: {line}", self.lines)?;
+        }
+        Ok(())
+    }
+
+    /// Reads a line, or puts it aside where it is to be read more than once.
+    fn gather<F: Folder>(&mut self, data: &mut F, line: &str) -> Result<(), Trouble> {
+        let (keyword, rest) = parts_of(line);
+        match keyword {
+            "end" if rest.is_empty() => {
+                let repeat = self.repeat.take().ok_or(Trouble::NotUnderstood)?;
+                self.read_repeated(data, &repeat)?;
+                Ok(())
+            }
+            "repeat" if self.repeat.is_none() => {
+                self.repeat = Some(Repeat::new(self.alloc, rest)?);
+                Ok(())
+            }
+            _ => {
+                if let Some(repeat) = &mut self.repeat {
+                    repeat.lines.push(String::from_str(self.alloc, line)?)?;
+                    return Ok(());
+                }
+                self.obey(data, keyword, rest)
+            }
+        }
+    }
+
+    /// Reads the lines of a repetition, once for each number.
+    fn read_repeated<F: Folder>(
+        &mut self,
+        data: &mut F,
+        repeat: &Repeat,
+    ) -> Result<(), AllocError> {
+        for number in repeat.first..=repeat.last {
+            self.read_once(data, repeat.lines.as_slice(), number)?;
+        }
+        Ok(())
+    }
+
+    /// Reads lines with a number put in. One that does nothing is told with the number of the line that ends them.
+    fn read_once<F: Folder>(
+        &mut self,
+        data: &mut F,
+        lines: &[String],
+        number: usize,
+    ) -> Result<(), AllocError> {
+        for line in lines {
+            let line = filled(self.alloc, line.as_str(), number)?;
+            let (keyword, rest) = parts_of(line.as_str());
+            let answer = self.obey(data, keyword, rest);
+            self.tell(line.as_str(), answer)?;
+        }
+        Ok(())
+    }
+
+    /// Does what a line with this keyword says.
+    fn obey<F: Folder>(&mut self, data: &mut F, keyword: &str, rest: &str) -> Result<(), Trouble> {
+        match keyword {
+            "|" | "text" | "hex" | "fill" | "same" | "data" | "cut" | "assemble" => {
+                self.change_bytes(data, keyword, rest)
+            }
+            _ => {
+                self.store()?;
+                self.obey_anew(keyword, rest)
+            }
+        }
+    }
+
+    /// Does what a line says that adds to no bytes.
+    fn obey_anew(&mut self, keyword: &str, rest: &str) -> Result<(), Trouble> {
+        match keyword {
+            "bytes" => {
+                self.target = Target::Name(String::from_str(self.alloc, rest)?);
+                Ok(())
+            }
+            "case" => {
+                self.setup = Setup::new(self.alloc);
+                self.begin(rest)
+            }
+            "again" => {
+                self.setup.begin_again();
+                self.begin(rest)
+            }
+            _ if self.is_open => self.obey_in_case(keyword, rest),
+            _ => Err(Trouble::OutsideOfCase),
+        }
+    }
+
+    /// Adds to the bytes of the last lines, or changes them.
+    fn change_bytes<F: Folder>(
+        &mut self,
+        data: &mut F,
+        keyword: &str,
+        rest: &str,
+    ) -> Result<(), Trouble> {
+        if let Target::Nothing = &self.target {
+            return Err(Trouble::OutsideOfBytes);
+        }
+        change(
+            self.alloc,
+            &mut self.bytes,
+            &self.named,
+            data,
+            keyword,
+            rest,
+        )
+    }
+
+    /// Does what a line of a case says.
+    fn obey_in_case(&mut self, keyword: &str, rest: &str) -> Result<(), Trouble> {
+        match keyword {
+            "file" => self.target = Target::File(String::from_str(self.alloc, rest)?),
+            "input" if rest.is_empty() => self.target = Target::Input,
+            "folder" | "input" | "out" | "err" => self.setup.calls_mut().set(keyword, rest)?,
+            "word" => self.setup.add_word(rest)?,
+            _ => {
+                let alloc = self.alloc;
+                do_command(alloc, &mut self.setup, &mut self.report, keyword, rest)?;
+                self.is_open = false;
+            }
+        }
+        Ok(())
+    }
+
+    /// Begins a case with a title.
+    fn begin(&mut self, title: &str) -> Result<(), Trouble> {
+        let was_open = self.is_open;
+        self.is_open = true;
+        if self.cases > 0 {
+            self.report.push('\n')?;
+        }
+        self.cases = self.cases.saturating_add(1);
+        writeln!(self.report, "case {title}")?;
+        if was_open {
+            Err(Trouble::NothingRun)
+        } else {
+            Ok(())
+        }
+    }
+
+    /// Puts the bytes of the last lines where they belong.
+    fn store(&mut self) -> Result<(), Trouble> {
+        let bytes = mem::replace(&mut self.bytes, Vec::new(self.alloc));
+        match mem::replace(&mut self.target, Target::Nothing) {
+            Target::Nothing => {}
+            Target::Name(name) => {
+                self.named.insert(name, bytes)?;
+            }
+            Target::File(path) => self.setup.put(path.as_str(), bytes)?,
+            Target::Input => self.setup.set_input(bytes),
+        }
+        Ok(())
+    }
+}
+
+/// The word at the front of a line, and what stands behind the blank after it.
+fn parts_of(line: &str) -> (&str, &str) {
+    line.split_once(' ').unwrap_or((line, ""))
+}

@@ -1,0 +1,143 @@
+// The commands of cases.
+use crate::number::number_of;
+use crate::printing::push_bytes;
+use crate::setup::Setup;
+use crate::trouble::Trouble;
+use cb_asm::list;
+use cb_classfile::{ClassFile, unsupported};
+use cb_core::core_classes;
+use cb_io::{MemFolder, MemSink, MemSource, text_of};
+use cb_link::{Program, link};
+use cb_runner::run_command;
+use cb_text::Units;
+use cb_writer::well_formed;
+use std::alloc::Global;
+
+/// Does a command, if the keyword is that of one, and prints what came of it.
+pub(crate) fn do_command(
+    alloc: Global,
+    setup: &mut Setup,
+    report: &mut String,
+    keyword: &str,
+    rest: &str,
+) -> Result<(), Trouble> {
+    match keyword {
+        "command" => {
+            add_words(setup, rest)?;
+            run(alloc, setup, report)
+        }
+        "link" => link_main(alloc, setup, report, rest),
+        "library" => list_class(alloc, report, number_of(rest)?),
+        _ => Err(Trouble::NotUnderstood),
+    }
+}
+
+/// Adds the words of a line, which one blank parts.
+fn add_words(setup: &mut Setup, line: &str) -> Result<(), Trouble> {
+    if line.is_empty() {
+        return Ok(());
+    }
+    for word in line.split(' ') {
+        setup.add_word(word)?;
+    }
+    Ok(())
+}
+
+/// Does what the words say, over objects in memory.
+fn run(alloc: Global, setup: &mut Setup, report: &mut String) -> Result<(), Trouble> {
+    let words = setup.take_words();
+    let calls = setup.take_calls();
+    let mut folder = MemFolder::new(setup.folder()?, calls.folder);
+    let mut input = MemSource::new(setup.input()?, calls.input.most.get(), calls.input.failing);
+    let mut out = MemSink::new(alloc, calls.out.most.get(), calls.out.failing);
+    let mut err = MemSink::new(alloc, calls.err.most.get(), calls.err.failing);
+    let ended = run_command(
+        alloc,
+        words.as_slice(),
+        &mut folder,
+        &mut input,
+        &mut out,
+        &mut err,
+    );
+    writeln!(report, "status {} {:?}", ended.status, ended.cause)?;
+    push_bytes(report, "out", out.bytes())?;
+    push_bytes(report, "err", err.bytes())?;
+    writeln!(report, "left {}", input.remaining().len())?;
+    Ok(())
+}
+
+/// Links the main class of a folder, and prints the names of the classes behind the library's in their order.
+fn link_main(
+    alloc: Global,
+    setup: &mut Setup,
+    report: &mut String,
+    line: &str,
+) -> Result<(), Trouble> {
+    let Some((root, main)) = line.split_once(' ') else {
+        return Err(Trouble::NotUnderstood);
+    };
+    let mut folder = MemFolder::new(setup.folder()?, setup.take_calls().folder);
+    let library = core_classes(alloc)?;
+    let known = library.len();
+    match link(alloc, library, &mut folder, root, units_of(alloc, main)?) {
+        Ok(program) => print_classes(alloc, report, &program, known),
+        Err(refusal) => {
+            writeln!(report, "refused {refusal:?}")?;
+            Ok(())
+        }
+    }
+}
+
+/// The units of a text.
+fn units_of(alloc: Global, text: &str) -> Result<Units, Trouble> {
+    let mut units = Units::new(alloc);
+    for unit in text.encode_utf16() {
+        units.push(unit)?;
+    }
+    Ok(units)
+}
+
+/// Prints how many classes a program has, and the names of all but the first.
+fn print_classes(
+    alloc: Global,
+    report: &mut String,
+    program: &Program,
+    known: usize,
+) -> Result<(), Trouble> {
+    writeln!(report, "classes {}", program.class_count())?;
+    for number in known..program.class_count() {
+        print_name(alloc, report, program.class(number))?;
+    }
+    Ok(())
+}
+
+/// Prints the name of a class.
+fn print_name(alloc: Global, report: &mut String, class: &ClassFile) -> Result<(), Trouble> {
+    let name = class.pool.class(class.this_class).unwrap_or(&[]);
+    let name = text_of(alloc, name)?;
+    writeln!(report, "class {name}")?;
+    Ok(())
+}
+
+/// Prints the listing of a class of the library.
+fn list_class(alloc: Global, report: &mut String, number: usize) -> Result<(), Trouble> {
+    let classes = core_classes(alloc)?;
+    if number >= classes.len() {
+        return Err(Trouble::UnknownClass);
+    }
+    print_listing(alloc, report, classes.get(number))
+}
+
+/// Prints the listing of a class, or why it has none.
+fn print_listing(alloc: Global, report: &mut String, class: &ClassFile) -> Result<(), Trouble> {
+    if !well_formed(class) {
+        report.push_str("malformed\n")?;
+        return Ok(());
+    }
+    if let Some(item) = unsupported(class) {
+        writeln!(report, "unsupported {item}")?;
+        return Ok(());
+    }
+    push_bytes(report, "out", list(alloc, class)?.as_bytes())?;
+    Ok(())
+}
