@@ -3,6 +3,7 @@ use crate::number::count_of;
 use crate::trouble::Trouble;
 use cb_plain::Numbers;
 use std::alloc::Global;
+use std::mem;
 use std::num::NonZeroUsize;
 
 /// What the calls of a stream do.
@@ -21,6 +22,11 @@ impl StreamCalls {
             failing: Numbers::new(alloc),
             most,
         }
+    }
+
+    /// Takes the calls that fail. From then on none does.
+    pub fn take_failing(&mut self, alloc: Global) -> Numbers {
+        mem::replace(&mut self.failing, Numbers::new(alloc))
     }
 }
 

@@ -223,7 +223,7 @@ impl Cases {
         match keyword {
             "file" => self.target = Target::File(String::from_str(self.alloc, rest)?),
             "input" if rest.is_empty() => self.target = Target::Input,
-            "folder" | "input" | "out" | "err" => self.setup.calls_mut().set(keyword, rest)?,
+            "folder" | "input" | "out" | "err" => self.setup.set_calls(keyword, rest)?,
             "word" => self.setup.add_word(rest)?,
             _ => {
                 let alloc = self.alloc;

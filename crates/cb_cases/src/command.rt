@@ -6,7 +6,7 @@ use crate::trouble::Trouble;
 use cb_asm::list;
 use cb_classfile::{ClassFile, unsupported};
 use cb_core::core_classes;
-use cb_io::{MemFolder, MemSink, MemSource, text_of};
+use cb_io::text_of;
 use cb_link::{Program, link};
 use cb_runner::run_command;
 use cb_text::Units;
@@ -46,11 +46,10 @@ fn add_words(setup: &mut Setup, line: &str) -> Result<(), Trouble> {
 /// Does what the words say, over objects in memory.
 fn run(alloc: Global, setup: &mut Setup, report: &mut String) -> Result<(), Trouble> {
     let words = setup.take_words();
-    let calls = setup.take_calls();
-    let mut folder = MemFolder::new(setup.folder()?, calls.folder);
-    let mut input = MemSource::new(setup.input()?, calls.input.most.get(), calls.input.failing);
-    let mut out = MemSink::new(alloc, calls.out.most.get(), calls.out.failing);
-    let mut err = MemSink::new(alloc, calls.err.most.get(), calls.err.failing);
+    let mut folder = setup.take_folder()?;
+    let mut input = setup.take_input()?;
+    let mut out = setup.take_out();
+    let mut err = setup.take_err();
     let ended = run_command(
         alloc,
         words.as_slice(),
@@ -76,7 +75,7 @@ fn link_main(
     let Some((root, main)) = line.split_once(' ') else {
         return Err(Trouble::NotUnderstood);
     };
-    let mut folder = MemFolder::new(setup.folder()?, setup.take_calls().folder);
+    let mut folder = setup.take_folder()?;
     let library = core_classes(alloc)?;
     let known = library.len();
     match link(alloc, library, &mut folder, root, units_of(alloc, main)?) {

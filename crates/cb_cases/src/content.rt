@@ -32,7 +32,10 @@ pub(crate) fn change<F: Folder>(
             let same = named.get(rest).ok_or(Trouble::UnknownName)?;
             bytes.extend_from_slice(same.as_slice())?;
         }
-        "data" => bytes.extend_from_slice(data_of(alloc, data, rest)?.as_slice())?,
+        "data" => {
+            let file = data_of(alloc, data, rest)?;
+            bytes.extend_from_slice(file.as_slice())?;
+        }
         "cut" => cut(bytes, number_of(rest)?)?,
         "assemble" if rest.is_empty() => *bytes = assembled(alloc, bytes.as_slice())?,
         _ => return Err(Trouble::NotUnderstood),

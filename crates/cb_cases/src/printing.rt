@@ -7,12 +7,12 @@ const WIDE: usize = 100;
 /// Prints bytes in lines behind a word: printable ASCII characters but the backslash as they are, the line feed as `\n`, and
 /// other bytes as `\x` and two digits. A line ends behind a line feed, and where it has grown wide.
 pub(crate) fn push_bytes(report: &mut String, word: &str, bytes: &[u8]) -> Result<(), AllocError> {
-    let mut width = 0;
+    let mut width = 0usize;
     for byte in bytes {
         if width == 0 {
             write!(report, "{word} ")?;
         }
-        width += push_byte(report, *byte)?;
+        width = push_byte(report, *byte)?.saturating_add(width);
         if *byte == b'\n' || width >= WIDE {
             report.push('\n')?;
             width = 0;

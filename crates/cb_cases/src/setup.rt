@@ -1,7 +1,8 @@
 // What a command is handed.
-use crate::calls::Calls;
+use crate::calls::{Calls, StreamCalls};
 use crate::trouble::Trouble;
-use cb_io::SureFolder;
+use cb_io::{MemFolder, MemSink, MemSource, SureFolder};
+use cb_plain::Numbers;
 use std::alloc::Global;
 use std::collections::BTreeMap;
 use std::mem;
@@ -46,9 +47,9 @@ impl Setup {
         self.input = bytes;
     }
 
-    /// What the calls of the objects do.
-    pub fn calls_mut(&mut self) -> &mut Calls {
-        &mut self.calls
+    /// Does what a line says of the calls of an object.
+    pub fn set_calls(&mut self, object: &str, rest: &str) -> Result<(), Trouble> {
+        self.calls.set(object, rest)
     }
 
     /// Adds a word at the end.
@@ -57,30 +58,48 @@ impl Setup {
         Ok(())
     }
 
-    /// A folder of the files.
-    pub fn folder(&self) -> Result<SureFolder, Trouble> {
-        let mut folder = SureFolder::new(self.alloc);
-        for (path, bytes) in self.files.iter() {
-            folder.put(
-                path.as_str(),
-                Vec::from_slice(self.alloc, bytes.as_slice())?,
-            )?;
-        }
-        Ok(folder)
-    }
-
-    /// The bytes of the input.
-    pub fn input(&self) -> Result<Vec<u8>, Trouble> {
-        Ok(Vec::from_slice(self.alloc, self.input.as_slice())?)
-    }
-
-    /// Takes what calls do. From then on no call fails.
-    pub fn take_calls(&mut self) -> Calls {
-        mem::replace(&mut self.calls, Calls::new(self.alloc))
-    }
-
     /// Takes the words.
     pub fn take_words(&mut self) -> Vec<String> {
         mem::replace(&mut self.words, Vec::new(self.alloc))
     }
+
+    /// The folder of the files, whose next calls fail as was said.
+    pub fn take_folder(&mut self) -> Result<MemFolder, Trouble> {
+        let files = folder_of(self.alloc, &self.files)?;
+        let failing = mem::replace(&mut self.calls.folder, Numbers::new(self.alloc));
+        Ok(MemFolder::new(files, failing))
+    }
+
+    /// The input.
+    pub fn take_input(&mut self) -> Result<MemSource, Trouble> {
+        let bytes = Vec::from_slice(self.alloc, self.input.as_slice())?;
+        let calls = &mut self.calls.input;
+        let most = calls.most.get();
+        Ok(MemSource::new(bytes, most, calls.take_failing(self.alloc)))
+    }
+
+    /// An output that has taken nothing.
+    pub fn take_out(&mut self) -> MemSink {
+        sink_of(self.alloc, &mut self.calls.out)
+    }
+
+    /// An error output that has taken nothing.
+    pub fn take_err(&mut self) -> MemSink {
+        sink_of(self.alloc, &mut self.calls.err)
+    }
+}
+
+/// A folder of files.
+fn folder_of(alloc: Global, files: &BTreeMap<String, Vec<u8>>) -> Result<SureFolder, Trouble> {
+    let mut folder = SureFolder::new(alloc);
+    for (path, bytes) in files.iter() {
+        folder.put(path.as_str(), Vec::from_slice(alloc, bytes.as_slice())?)?;
+    }
+    Ok(folder)
+}
+
+/// A sink whose calls do as was said.
+fn sink_of(alloc: Global, calls: &mut StreamCalls) -> MemSink {
+    let most = calls.most.get();
+    MemSink::new(alloc, most, calls.take_failing(alloc))
 }

@@ -33,7 +33,7 @@ pub(crate) enum Trouble {
 
 impl fmt::Display for Trouble {
     fn fmt<W: fmt::Write>(&self, f: &mut fmt::Formatter<W>) -> fmt::Result {
-        f.write_str(match self {
+        let words = match self {
             Trouble::NotUnderstood => "is not understood",
             Trouble::OutsideOfCase => "stands outside of a case",
             Trouble::OutsideOfBytes => "adds to no bytes",
@@ -47,7 +47,8 @@ impl fmt::Display for Trouble {
             }
             Trouble::UnknownClass => "names no class of the library",
             Trouble::OutOfMemory => "wants more memory than there is",
-        })
+        };
+        f.write_str(words)
     }
 }
 
