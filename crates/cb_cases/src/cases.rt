@@ -76,14 +76,18 @@ impl Cases {
         self.troubles > 0
     }
 
-    /// Does what a line says. Data is the files beside the program.
-    pub fn read_line<F: Folder>(&mut self, data: &mut F, line: &str) -> Result<(), AllocError> {
+    /// Does what a line says. Its `data` lines read files of `data_folder`.
+    pub fn read_line<F: Folder>(
+        &mut self,
+        data_folder: &mut F,
+        line: &str,
+    ) -> Result<(), AllocError> {
         self.lines = self.lines.saturating_add(1);
         let line = line.trim_start();
         if line.is_empty() || line.starts_with('#') {
             return Ok(());
         }
-        let answer = self.gather(data, line);
+        let answer = self.gather(data_folder, line);
         self.tell(line, answer)
     }
 
@@ -115,12 +119,12 @@ impl Cases {
     }
 
     /// Reads a line, or puts it aside where it is to be read more than once.
-    fn gather<F: Folder>(&mut self, data: &mut F, line: &str) -> Result<(), Trouble> {
+    fn gather<F: Folder>(&mut self, data_folder: &mut F, line: &str) -> Result<(), Trouble> {
         let (keyword, rest) = parts_of(line);
         match keyword {
             "end" if rest.is_empty() => {
                 let repeat = self.repeat.take().ok_or(Trouble::NotUnderstood)?;
-                self.read_repeated(data, &repeat)?;
+                self.read_repeated(data_folder, &repeat)?;
                 Ok(())
             }
             "repeat" if self.repeat.is_none() => {
@@ -132,7 +136,7 @@ impl Cases {
                     repeat.lines.push(String::from_str(self.alloc, line)?)?;
                     return Ok(());
                 }
-                self.obey(data, keyword, rest)
+                self.obey(data_folder, keyword, rest)
             }
         }
     }
@@ -140,11 +144,11 @@ impl Cases {
     /// Reads the lines of a repetition, once for each number.
     fn read_repeated<F: Folder>(
         &mut self,
-        data: &mut F,
+        data_folder: &mut F,
         repeat: &Repeat,
     ) -> Result<(), AllocError> {
         for number in repeat.first..=repeat.last {
-            self.read_once(data, repeat.lines.as_slice(), number)?;
+            self.read_once(data_folder, repeat.lines.as_slice(), number)?;
         }
         Ok(())
     }
@@ -152,24 +156,29 @@ impl Cases {
     /// Reads lines with a number put in. One that does nothing is told with the number of the line that ends them.
     fn read_once<F: Folder>(
         &mut self,
-        data: &mut F,
+        data_folder: &mut F,
         lines: &[String],
         number: usize,
     ) -> Result<(), AllocError> {
         for line in lines {
             let line = filled(self.alloc, line.as_str(), number)?;
             let (keyword, rest) = parts_of(line.as_str());
-            let answer = self.obey(data, keyword, rest);
+            let answer = self.obey(data_folder, keyword, rest);
             self.tell(line.as_str(), answer)?;
         }
         Ok(())
     }
 
     /// Does what a line with this keyword says.
-    fn obey<F: Folder>(&mut self, data: &mut F, keyword: &str, rest: &str) -> Result<(), Trouble> {
+    fn obey<F: Folder>(
+        &mut self,
+        data_folder: &mut F,
+        keyword: &str,
+        rest: &str,
+    ) -> Result<(), Trouble> {
         match keyword {
             "|" | "text" | "hex" | "fill" | "same" | "data" | "cut" | "assemble" => {
-                self.change_bytes(data, keyword, rest)
+                self.change_bytes(data_folder, keyword, rest)
             }
             _ => {
                 self.store()?;
@@ -201,7 +210,7 @@ impl Cases {
     /// Adds to the bytes of the last lines, or changes them.
     fn change_bytes<F: Folder>(
         &mut self,
-        data: &mut F,
+        data_folder: &mut F,
         keyword: &str,
         rest: &str,
     ) -> Result<(), Trouble> {
@@ -212,7 +221,7 @@ impl Cases {
             self.alloc,
             &mut self.bytes,
             &self.named,
-            data,
+            data_folder,
             keyword,
             rest,
         )

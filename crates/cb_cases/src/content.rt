@@ -1,5 +1,5 @@
 // Bytes that lines of the text make.
-use crate::data::data_of;
+use crate::data_file::data_of;
 use crate::number::{byte_of, number_of};
 use crate::trouble::Trouble;
 use cb_asm::assemble_bytes;
@@ -16,7 +16,7 @@ pub(crate) fn change<F: Folder>(
     alloc: Global,
     bytes: &mut Vec<u8>,
     named: &Named,
-    data: &mut F,
+    data_folder: &mut F,
     keyword: &str,
     rest: &str,
 ) -> Result<(), Trouble> {
@@ -33,7 +33,7 @@ pub(crate) fn change<F: Folder>(
             bytes.extend_from_slice(same.as_slice())?;
         }
         "data" => {
-            let file = data_of(alloc, data, rest)?;
+            let file = data_of(alloc, data_folder, rest)?;
             bytes.extend_from_slice(file.as_slice())?;
         }
         "cut" => cut(bytes, number_of(rest)?)?,

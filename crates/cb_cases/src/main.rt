@@ -8,7 +8,7 @@ mod calls;
 mod cases;
 mod command;
 mod content;
-mod data;
+mod data_file;
 mod number;
 mod printing;
 mod repeat;
@@ -22,10 +22,10 @@ use std::process::ExitCode;
 
 fn main(rt: HostRuntime) -> io::Result<ExitCode> {
     let text = io::read_to_string(rt.alloc(), rt.stdin())?;
-    let mut data = DirFolder::new(&rt);
+    let mut data_folder = DirFolder::new(&rt);
     let mut cases = Cases::new(rt.alloc());
     for line in text.lines() {
-        cases.read_line(&mut data, line)?;
+        cases.read_line(&mut data_folder, line)?;
     }
     cases.finish()?;
     print!(rt; "{}", cases.printed())?;

@@ -9,10 +9,10 @@ const LIMIT: usize = 1_048_576;
 /// The bytes of a file beside the program.
 pub(crate) fn data_of<F: Folder>(
     alloc: Global,
-    data: &mut F,
+    data_folder: &mut F,
     name: &str,
 ) -> Result<Vec<u8>, Trouble> {
-    match data.read(alloc, name, LIMIT) {
+    match data_folder.read(alloc, name, LIMIT) {
         Ok(Found::Bytes(bytes)) => Ok(bytes),
         Ok(Found::Absent | Found::TooLong) | Err(FolderError::Failed) => Err(Trouble::UnknownData),
         Err(FolderError::OutOfMemory) => Err(Trouble::OutOfMemory),
