@@ -1,7 +1,7 @@
 // The top call at the types of the objects in memory. What else is tested of it are the cases of `cb_cases`.
 use crate::{
-    Cause, Tally, asm_exactly, list_exactly, refused_silently, run_command, run_exactly,
-    usage_exactly, whole_exactly,
+    Cause, asm_exactly, list_exactly, refused_silently, run_command, run_exactly, usage_exactly,
+    whole_exactly,
 };
 use cb_io::{MemFolder, MemSink, MemSource, SureFolder};
 use cb_plain::Numbers;
@@ -22,6 +22,5 @@ fn no_word_is_no_command_and_laws_are_called(rt: HostRuntime) -> Result<(), Fail
     let mut err = MemSink::new(alloc, 1, Numbers::new(alloc));
     let ended = run_command(alloc, &[], &mut folder, &mut input, &mut out, &mut err);
     assert_eq!(rt; ended.cause, Cause::Usage);
-    assert_eq!(rt; ended.tally, Tally::default());
     Ok(())
 }
