@@ -1,0 +1,4 @@
+pub mod Basics
+pub mod Descriptors
+pub mod Kinds
+pub mod Texts

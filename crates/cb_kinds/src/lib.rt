@@ -1,0 +1,20 @@
+//! Kinds of objects by name and number, and the types in descriptors: texts that are kept once and found by number, the kinds
+//! that a name or a type has, and what values of a type are (JVMS §4.3, §4.4.1).
+//!
+//! Names and descriptors are lists of UTF-16 units. No clause says that memory is to be had: that no call always gives up is
+//! shown by tests alone.
+#![tactic(auto)]
+
+mod basic;
+mod descriptor;
+mod kinds;
+mod law;
+#[cfg(test)]
+mod tests;
+mod texts;
+
+pub use basic::{Basic, basic_of, component_of, kind_number};
+pub use descriptor::{Sign, next_sign};
+pub use kinds::{array_of, enter_kinds_of_name, enter_kinds_of_type};
+pub use law::{each_once, types_as_spelled};
+pub use texts::Texts;
