@@ -2,11 +2,11 @@
 use Rattle.std.specs.Prelude.{ℕ, Bool, List, [], ◌∷◌, ◌++◌, Option, Some, None, ◌==◌, ◌||◌, if◌then◌else◌}
 use Rattle.cb_names.specs.Signs.{bracket, letter_boolean, letter_byte, letter_char, letter_class, letter_double, letter_float, letter_int, letter_long, letter_short, right_parenthesis, semicolon}
 use Rattle.cb_kinds.specs.declared.descriptor.Sign.{Sign}
-use Rattle.cb_kinds.specs.declared.descriptor.Sign.TheVariants.{Parenthesis, Type}
+use Rattle.cb_kinds.specs.declared.descriptor.Sign.TheVariants.{Parenthesis, ValueType}
 
 -- what a sign of a program says
 abbrev pub sign_of : Sign → Option (List ℕ)
-sign_of (Type text) = Some text.now
+sign_of (ValueType text) = Some text.now
 sign_of Parenthesis = None
 
 abbrev pub is_base : ℕ → Bool

@@ -5,7 +5,7 @@ ghost use Rattle.cb_kinds.specs.Descriptors.{sign_of, signs};
 /// What a descriptor says: a type, by the text that says it, or the parenthesis behind the parameters.
 #[derive(Clone, Copy, Debug)]
 pub enum Sign<'a> {
-    Type(&'a [u16]),
+    ValueType(&'a [u16]),
     Parenthesis,
 }
 
