@@ -12,9 +12,10 @@ mod law;
 #[cfg(test)]
 mod tests;
 mod texts;
+mod units;
 
 pub use basic::{Basic, basic_of, component_of, kind_number};
 pub use descriptor::{Sign, next_sign};
-pub use kinds::{array_of, enter_kinds_of_name, enter_kinds_of_type};
+pub use kinds::{array_of, enter_kinds_of_name, enter_kinds_of_type, enter_kinds_of_types};
 pub use law::{each_once, types_as_spelled};
 pub use texts::Texts;

@@ -7,6 +7,9 @@ use indexmap::IndexSet;
 use std::alloc::{AllocError, Global};
 use std::marker::Model;
 
+/// The most texts that there may be.
+const MOST: usize = u32::MAX as usize;
+
 /// Texts, each once, in the order in which they were entered. Contracts see it as the list of them. There are fewer than 2^32.
 #[derive(Drop)]
 pub struct Texts {
@@ -55,7 +58,7 @@ impl Texts {
     pub fn number(&self, text: &[u16]) -> Option<u32>
         ensures { result ≡ number_of self.now text.now }
     {
-        None
+        self.texts.get_index_of(text).map(|place| place as u32)
     }
 
     /// Enters a text, unless it is there. `OutOfMemory` where no memory was to be had, also where there would be 2^32 texts.
@@ -64,6 +67,14 @@ impl Texts {
         ensures entered { OnOk result (self.new ≡ entered self.old text.now) }
         ensures refused { OnErr result (self.new ≡ self.old) }
     {
-        Err(AllocError)
+        if self.texts.contains(text) {
+            return Ok(());
+        }
+        if self.texts.len() >= MOST {
+            return Err(AllocError);
+        }
+        let copy = Vec::from_slice(self.alloc, text)?;
+        self.texts.insert(copy)?;
+        Ok(())
     }
 }
