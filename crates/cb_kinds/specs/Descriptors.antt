@@ -36,12 +36,12 @@ abbrev pub signs : List ℕ → List (Option (List ℕ))
 signs text = signs_behind [] text
 
 -- the types in front of the parenthesis, and behind it
-abbrev in_front : List (Option (List ℕ)) → List (List ℕ)
+abbrev pub in_front : List (Option (List ℕ)) → List (List ℕ)
 in_front [] = []
 in_front (None ∷ signs) = []
 in_front (Some type ∷ signs) = type ∷ in_front signs
 
-abbrev behind : List (Option (List ℕ)) → Option (List ℕ)
+abbrev pub behind : List (Option (List ℕ)) → Option (List ℕ)
 behind [] = None
 behind (None ∷ signs) = first signs where
   first : List (Option (List ℕ)) → Option (List ℕ)
@@ -57,7 +57,7 @@ abbrev pub result_of : List ℕ → Option (List ℕ)
 result_of descriptor = behind (signs descriptor)
 
 -- all types in a descriptor
-abbrev all_types : List (Option (List ℕ)) → List (List ℕ)
+abbrev pub all_types : List (Option (List ℕ)) → List (List ℕ)
 all_types [] = []
 all_types (None ∷ signs) = all_types signs
 all_types (Some type ∷ signs) = type ∷ all_types signs

@@ -58,7 +58,8 @@ impl Texts {
     pub fn number(&self, text: &[u16]) -> Option<u32>
         ensures { result ≡ number_of self.now text.now }
     {
-        self.texts.get_index_of(text).map(|place| place as u32)
+        let place = self.texts.get_index_of(text)?;
+        Some(place as u32)
     }
 
     /// Enters a text, unless it is there. `OutOfMemory` where no memory was to be had, also where there would be 2^32 texts.

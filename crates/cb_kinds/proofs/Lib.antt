@@ -1,0 +1,4 @@
+pub mod EnteredTexts
+pub mod SignPlaces
+pub mod SpelledTypes
+pub mod TextKeys
