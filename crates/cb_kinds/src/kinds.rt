@@ -1,7 +1,6 @@
 // The kinds that names and types have.
-ghost use Rattle.std.specs.Prelude.{◌≡◌, ◌≢◌, ◌∷◌, IfOk, OnOk};
+ghost use Rattle.std.specs.Prelude.{◌≡◌, IfOk, OnOk};
 ghost use Rattle.std.specs.List.{flat_map};
-ghost use Rattle.cb_names.specs.Signs.{bracket};
 ghost use Rattle.cb_kinds.specs.Descriptors.{types_of};
 ghost use Rattle.cb_kinds.specs.Kinds.{array_of, kinds_of_name, kinds_of_type};
 ghost use Rattle.cb_kinds.specs.Texts.{entered_all};
@@ -30,25 +29,16 @@ pub fn enter_kinds_of_type(kinds: &mut Texts, text: &[u16]) -> Result<(), OutOfM
 {
     let mut rest = text;
     while let Some((unit, behind)) = rest.split_first() {
+        if *unit == CLASS {
+            return kinds.enter(class_name(behind));
+        }
         if *unit != BRACKET {
-            return enter_kind_of_element(kinds, *unit, behind);
+            break;
         }
         kinds.enter(rest)?;
         rest = behind;
     }
     Ok(())
-}
-
-/// Enters the kind that a type without dimensions is, by the unit with which it begins and those behind it.
-fn enter_kind_of_element(kinds: &mut Texts, unit: u16, behind: &[u16]) -> Result<(), OutOfMemory>
-    requires { unit ≢ bracket }
-    ensures { OnOk result (kinds.new ≡ entered_all kinds.old (kinds_of_type (unit ∷ behind.now))) }
-{
-    if unit == CLASS {
-        kinds.enter(class_name(behind))
-    } else {
-        Ok(())
-    }
 }
 
 /// Enters the kinds of all types in a descriptor, in order. `OutOfMemory` where no memory was to be had. Takes expected time in
