@@ -1,4 +1,5 @@
 pub mod EnteredTexts
+pub mod FirstPlaceLaws
 pub mod Laws
 pub mod NumberedTexts
 pub mod SignPlaces

@@ -198,5 +198,5 @@ once_all texts [] once = once
 once_all texts (one ∷ more) once = once_all (entered texts one) more (once_one texts one once)
 
 -- so it is for texts that were entered where there were none
-pub own_number : (texts : List (List ℕ)) (number : ℕ) (text : List ℕ) → slice_get (entered_all [] texts) number ≡ Some text → number_of (entered_all [] texts) text ≡ Some number
-own_number texts number text here = (once_all [] texts once_none).own number text here
+pub number_is_place : (texts : List (List ℕ)) (number : ℕ) (text : List ℕ) → slice_get (entered_all [] texts) number ≡ Some text → number_of (entered_all [] texts) text ≡ Some number
+number_is_place texts number text here = (once_all [] texts once_none).own number text here

@@ -1,4 +1,5 @@
 pub mod Basics
 pub mod Descriptors
+pub mod FirstPlaces
 pub mod Kinds
 pub mod Texts

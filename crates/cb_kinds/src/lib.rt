@@ -7,6 +7,7 @@
 
 mod basic;
 mod descriptor;
+mod first_places;
 mod kinds;
 mod law;
 #[cfg(test)]
