@@ -3,7 +3,7 @@ use Rattle.std.proofs.Common.{◌≡◌, ◌≢◌, ◌∙◌, ap, refl, sym, ar
 use Rattle.std.specs.Prelude.{slice_get}
 use Rattle.std.specs.Cmp.Lexicographic.{bytes_decides}
 use Rattle.std.specs.List.{flat_map, list_any, position_or_len}
-use Rattle.std.proofs.Math.Bool.{or-false, or_assoc}
+use Rattle.std.proofs.Math.Bool.{or-false, or-true, or_assoc}
 use Rattle.std.proofs.Math.ListN.{get_or-append}
 use Rattle.std.proofs.Math.Seq.{get_or-append_seam}
 use Rattle.std.proofs.lemmas.Bool.{cases_lt, ltb-true, ne_eqb}
@@ -14,7 +14,7 @@ use Rattle.std.proofs.lemmas.List.Folds.{list_any-append, position_or_len_push, 
 use Rattle.std.proofs.lemmas.List.Quantifiers.{position-Some}
 use Rattle.std.proofs.lemmas.Option.{get_or_from_slice_get, slice_get-get_or, slice_get_within}
 use Rattle.cb_kinds.specs.Basics.{kind_number}
-use Rattle.cb_kinds.specs.Texts.{entered, entered_all, firsts, number_of, same_text}
+use Rattle.cb_kinds.specs.Texts.{EachOnce, entered, entered_all, firsts, number_of, same_text}
 use Rattle.cb_kinds.proofs.EnteredTexts.{entered_append, entered_new, new_to}
 
 -- to enter what belongs to the items of two lists is to enter that of one, and then that of the other
@@ -55,6 +55,10 @@ among_all texts (one ∷ more) text =
     among_all (entered texts one) more text
     ∙ ap (λ there. there || list_any (same_text text) more) (among_one texts one text)
     ∙ or_assoc (list_any (same_text text) texts) (same_text text one) (list_any (same_text text) more)
+
+-- so it is there once it was entered
+pub among_last : (texts : List (List ℕ)) (text : List ℕ) → list_any (same_text text) (entered texts text) ≡ true
+among_last texts text = among_one texts text text ∙ ap (λ test. list_any (same_text text) texts || test) ((bytes_decides text text).1 refl) ∙ or-true (list_any (same_text text) texts)
 
 -- a text that is there has a place, and one that isn't would have the next
 place_within : (texts : List (List ℕ)) (text : List ℕ) → list_any (same_text text) texts ≡ true → position_or_len (same_text text) texts < length texts
@@ -150,10 +154,7 @@ pub text_stays : (texts more : List (List ℕ)) (text : List ℕ) (number : ℕ)
 text_stays texts more text number here =
     ap (λ texts. slice_get texts number) (entered_new texts more) ∙ text_front texts (new_to texts (firsts more)) text number here
 
--- each text stands once: its number is its place
-pub record EachOnce (texts : List (List ℕ)) : Type 0 where
-  pub own : (number : ℕ) (text : List ℕ) → slice_get texts number ≡ Some text → number_of texts text ≡ Some number
-
+-- each text stands once
 pub once_none : EachOnce []
 once_none = record { own = λ number text here. absurd cc }
 

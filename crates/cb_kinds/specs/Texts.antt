@@ -1,5 +1,5 @@
 -- Texts, each once, by their numbers.
-use Rattle.std.specs.Prelude.{ℕ, Bool, ◌&&◌, List, [], ◌∷◌, ◌++◌, filter, not, nat_eq, Option, if◌then◌else◌}
+use Rattle.std.specs.Prelude.{◌≡◌, ℕ, Bool, ◌&&◌, List, [], ◌∷◌, ◌++◌, filter, not, nat_eq, Option, Some, if◌then◌else◌, slice_get}
 use Rattle.std.specs.Cmp.Lexicographic.{pointwise}
 use Rattle.std.specs.List.{list_any, position, position_or_len}
 
@@ -14,6 +14,10 @@ firsts (text ∷ texts) = text ∷ filter (λ other. not (same_text text other))
 -- the number of a text, if it is there
 abbrev pub number_of : List (List ℕ) → List ℕ → Option ℕ
 number_of texts text = position (same_text text) texts
+
+-- each text stands once: its number is its place
+pub record EachOnce (texts : List (List ℕ)) : Type 0 where
+  pub own : (number : ℕ) (text : List ℕ) → slice_get texts number ≡ Some text → number_of texts text ≡ Some number
 
 -- with one more text, and with all of these, each unless it is there
 abbrev pub entered : List (List ℕ) → List ℕ → List (List ℕ)

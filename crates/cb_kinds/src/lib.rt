@@ -10,8 +10,10 @@ mod descriptor;
 mod first_places;
 mod kinds;
 mod law;
+mod pair_numbers;
 #[cfg(test)]
 mod tests;
+mod text_numbers;
 mod texts;
 mod units;
 
@@ -19,4 +21,6 @@ pub use basic::{Basic, basic_of, component_of, kind_number};
 pub use descriptor::{Sign, next_sign};
 pub use kinds::{array_of, enter_kinds_of_name, enter_kinds_of_type, enter_kinds_of_types};
 pub use law::{each_once, types_as_spelled};
+pub use pair_numbers::PairNumbers;
+pub use text_numbers::TextNumbers;
 pub use texts::Texts;
