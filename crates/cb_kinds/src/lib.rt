@@ -1,5 +1,6 @@
 //! Kinds of objects by name and number, and the types in descriptors: texts that are kept once and found by number, the kinds
-//! that a name or a type has, and what values of a type are (JVMS §4.3, §4.4.1).
+//! that a name or a type has, and what values of a type are (JVMS §4.3, §4.4.1). Texts, and pairs of a name and a descriptor,
+//! are numbered too where the first of equal ones counts.
 //!
 //! Names and descriptors are lists of UTF-16 units. No clause says that memory is to be had: that no call always gives up is
 //! shown by tests alone.

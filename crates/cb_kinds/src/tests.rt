@@ -1,7 +1,8 @@
 // Texts by number, kinds by name and by type, and the types in descriptors (JVMS §4.3).
 use crate::{
-    Basic, Sign, Texts, array_of, basic_of, component_of, each_once, enter_kinds_of_name,
-    enter_kinds_of_type, enter_kinds_of_types, kind_number, next_sign, types_as_spelled,
+    Basic, PairNumbers, Sign, TextNumbers, Texts, array_of, basic_of, component_of, each_once,
+    enter_kinds_of_name, enter_kinds_of_type, enter_kinds_of_types, kind_number, next_sign,
+    types_as_spelled,
 };
 use std::alloc::{AllocError, Global};
 use std::test::Fail;
@@ -56,6 +57,42 @@ fn texts_stand_once_by_number(rt: HostRuntime) -> Result<(), Fail> {
         let text = units(rt.alloc(), bytes)?;
         assert_eq!(rt; texts.number(&text), number, "at {bytes:?}");
         assert_eq!(rt; kind_number(&texts, &text), kind, "at {bytes:?}");
+    }
+    Ok(())
+}
+
+#[test]
+fn the_first_of_equal_texts_counts(rt: HostRuntime) -> Result<(), Fail> {
+    let mut texts = TextNumbers::new(rt.alloc());
+    let mut pairs = PairNumbers::new(rt.alloc());
+    for (name, descriptor) in [
+        (b"a".as_slice(), b"()V".as_slice()),
+        (b"b", b"()V"),
+        (b"a", b"()V"),
+        (b"a", b"()I"),
+        (b"c", b"a"),
+    ] {
+        texts.push(&units(rt.alloc(), name)?)?;
+        pairs.push(&units(rt.alloc(), name)?, &units(rt.alloc(), descriptor)?)?;
+    }
+    assert_eq!(rt; (texts.len(), pairs.len()), (5, 5));
+    for (name, descriptor, text, pair) in [
+        (b"a".as_slice(), b"()V".as_slice(), Some(0), Some(0)),
+        (b"b", b"()V", Some(1), Some(1)),
+        (b"a", b"()I", Some(0), Some(3)),
+        (b"c", b"a", Some(4), Some(4)),
+        (b"c", b"()V", Some(4), None),
+        (b"()V", b"a", None, None),
+        (b"a", b"d", Some(0), None),
+    ] {
+        let name = units(rt.alloc(), name)?;
+        let descriptor = units(rt.alloc(), descriptor)?;
+        assert_eq!(rt; texts.number(&name), text, "at {name:?}");
+        assert_eq!(rt;
+            pairs.number(&name, &descriptor),
+            pair,
+            "at {name:?} {descriptor:?}"
+        );
     }
     Ok(())
 }
