@@ -64,35 +64,48 @@ fn texts_stand_once_by_number(rt: HostRuntime) -> Result<(), Fail> {
 #[test]
 fn the_first_of_equal_texts_counts(rt: HostRuntime) -> Result<(), Fail> {
     let mut texts = TextNumbers::new(rt.alloc());
+    for bytes in [b"a".as_slice(), b"b", b"a", b"c"] {
+        let text = units(rt.alloc(), bytes)?;
+        texts.push(&text)?;
+    }
+    assert_eq!(rt; texts.len(), 4);
+    for (bytes, number) in [
+        (b"a".as_slice(), Some(0)),
+        (b"b", Some(1)),
+        (b"c", Some(3)),
+        (b"d", None),
+    ] {
+        let text = units(rt.alloc(), bytes)?;
+        assert_eq!(rt; texts.number(&text), number, "at {bytes:?}");
+    }
+    Ok(())
+}
+
+#[test]
+fn the_first_of_equal_pairs_counts(rt: HostRuntime) -> Result<(), Fail> {
     let mut pairs = PairNumbers::new(rt.alloc());
     for (name, descriptor) in [
         (b"a".as_slice(), b"()V".as_slice()),
-        (b"b", b"()V"),
         (b"a", b"()V"),
+        (b"b", b"()V"),
         (b"a", b"()I"),
-        (b"c", b"a"),
-    ] {
-        texts.push(&units(rt.alloc(), name)?)?;
-        pairs.push(&units(rt.alloc(), name)?, &units(rt.alloc(), descriptor)?)?;
-    }
-    assert_eq!(rt; (texts.len(), pairs.len()), (5, 5));
-    for (name, descriptor, text, pair) in [
-        (b"a".as_slice(), b"()V".as_slice(), Some(0), Some(0)),
-        (b"b", b"()V", Some(1), Some(1)),
-        (b"a", b"()I", Some(0), Some(3)),
-        (b"c", b"a", Some(4), Some(4)),
-        (b"c", b"()V", Some(4), None),
-        (b"()V", b"a", None, None),
-        (b"a", b"d", Some(0), None),
     ] {
         let name = units(rt.alloc(), name)?;
         let descriptor = units(rt.alloc(), descriptor)?;
-        assert_eq!(rt; texts.number(&name), text, "at {name:?}");
-        assert_eq!(rt;
-            pairs.number(&name, &descriptor),
-            pair,
-            "at {name:?} {descriptor:?}"
-        );
+        pairs.push(&name, &descriptor)?;
+    }
+    assert_eq!(rt; pairs.len(), 4);
+    for (name, descriptor, number) in [
+        (b"a".as_slice(), b"()V".as_slice(), Some(0)),
+        (b"b", b"()V", Some(2)),
+        (b"a", b"()I", Some(3)),
+        (b"b", b"()I", None),
+        (b"()V", b"a", None),
+    ] {
+        let units_of_name = units(rt.alloc(), name)?;
+        let units_of_descriptor = units(rt.alloc(), descriptor)?;
+        let found = pairs.number(&units_of_name, &units_of_descriptor);
+        assert_eq!(rt; found, number, "at {name:?} {descriptor:?}");
     }
     Ok(())
 }
