@@ -1,0 +1,22 @@
+-- What this crate's own functions and proofs cite, and no public clause.
+use Rattle.std.specs.Prelude.{◌≡◌, ℕ, ◌<◌, List, [], length, take, slice_get, get_or, Some}
+use Rattle.std.specs.List.{Contains}
+use Rattle.cb_hierarchy.specs.declared.class.Class.{Class}
+use Rattle.cb_hierarchy.specs.Classes.{parents}
+
+-- the list of a number, or none
+abbrev pub list_at : List (List ℕ) → ℕ → List ℕ
+list_at lists number = get_or lists number []
+
+-- all classes, each behind its parents
+pub record IsParentsFirst (classes : List Class) (order : List ℕ) : Type 0 where
+  pub every : (class : ℕ) → class < length classes → Contains order class
+  pub below : (class : ℕ) → Contains order class → class < length classes
+  pub behind : (place class parent : ℕ) → slice_get order place ≡ Some class → Contains (parents classes class) parent
+      → Contains (take place order) parent
+
+-- what a rule says of a class depends on what is said of its parents alone
+abbrev pub IsLocal : List Class → ((ℕ → List ℕ) → ℕ → List ℕ) → Type 0
+IsLocal classes rule =
+    (class : ℕ) (one other : ℕ → List ℕ) → ((parent : ℕ) → Contains (parents classes class) parent → one parent ≡ other parent)
+    → rule one class ≡ rule other class

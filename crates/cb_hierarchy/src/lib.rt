@@ -1,0 +1,34 @@
+//! Classes, interfaces, methods and fields as numbers: which classes can't be in a hierarchy, where a member is found, and which
+//! method is selected on an object (JVMS chapter 5).
+//!
+//! Classes name their superclass and superinterfaces by number, and members their class and their signature, which is the
+//! number of a name with a descriptor. `specs/` has a file for each notion of the standard. No clause says that memory is to
+//! be had: that no call always gives up is shown by tests alone.
+#![tactic(auto)]
+
+mod ancestors;
+mod bad;
+mod class;
+mod hierarchy;
+mod index;
+mod initial;
+mod layout;
+mod member;
+mod resolution;
+mod rule;
+mod selected;
+mod selection;
+mod tables;
+#[cfg(test)]
+mod tests;
+
+pub use bad::first_bad;
+pub use class::{Class, Classes};
+pub use hierarchy::Hierarchy;
+pub use initial::initialised_before;
+pub use layout::layouts;
+pub use member::{Declared, Field, Fields, Method, Methods, Visibility};
+pub use resolution::{resolved_field, resolved_method};
+pub use selected::Selected;
+pub use selection::Selection;
+pub use tables::{FieldTable, MethodTable};
