@@ -1,22 +1,31 @@
 -- What this crate's own functions and proofs cite, and no public clause.
-use Rattle.std.specs.Prelude.{◌≡◌, ℕ, ◌<◌, List, [], length, take, slice_get, get_or, Some}
+use Rattle.std.specs.Prelude.{◌≡◌, ℕ, ◌<◌, ◌≤◌, List, [], length, take, slice_get, get_or, Some}
 use Rattle.std.specs.List.{Contains}
 use Rattle.cb_hierarchy.specs.declared.class.Class.{Class}
 use Rattle.cb_hierarchy.specs.Classes.{parents}
+use Rattle.cb_hierarchy.specs.Orders.{in_turns}
 
 -- the list of a number, or none
 abbrev pub list_at : List (List ℕ) → ℕ → List ℕ
 list_at lists number = get_or lists number []
 
--- all classes, each behind its parents
+-- all classes, each behind its parents. Each has a rank above those of its parents and below the number of classes
 pub record IsParentsFirst (classes : List Class) (order : List ℕ) : Type 0 where
   pub every : (class : ℕ) → class < length classes → Contains order class
   pub below : (class : ℕ) → Contains order class → class < length classes
   pub behind : (place class parent : ℕ) → slice_get order place ≡ Some class → Contains (parents classes class) parent
       → Contains (take place order) parent
+  pub rank : ℕ → ℕ
+  pub rising : (class parent : ℕ) → Contains (parents classes class) parent → rank parent < rank class
+  pub low : (class : ℕ) → class < length classes → rank class < length classes
 
 -- what a rule says of a class depends on what is said of its parents alone
 abbrev pub IsLocal : List Class → ((ℕ → List ℕ) → ℕ → List ℕ) → Type 0
 IsLocal classes rule =
     (class : ℕ) (one other : ℕ → List ℕ) → ((parent : ℕ) → Contains (parents classes class) parent → one parent ≡ other parent)
     → rule one class ≡ rule other class
+
+-- these are the lists of those classes whose rank is below so many turns, where they are the first of an order
+pub record AreListsOf (rule : (ℕ → List ℕ) → ℕ → List ℕ) (rank : ℕ → ℕ) (count : ℕ) (done : List ℕ) (lists : List (List ℕ)) : Type 0 where
+  pub as_many : length lists ≡ count
+  pub each : (class turns : ℕ) → Contains done class → rank class < turns → slice_get lists class ≡ Some (in_turns rule turns class)
