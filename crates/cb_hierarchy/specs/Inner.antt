@@ -1,9 +1,8 @@
 -- What this crate's own functions and proofs cite, and no public clause.
-use Rattle.std.specs.Prelude.{◌≡◌, ℕ, ◌<◌, ◌≤◌, List, [], length, take, slice_get, get_or, Some}
+use Rattle.std.specs.Prelude.{◌≡◌, ℕ, ◌<◌, List, [], length, take, slice_get, get_or, Some}
 use Rattle.std.specs.List.{Contains}
 use Rattle.cb_hierarchy.specs.declared.class.Class.{Class}
 use Rattle.cb_hierarchy.specs.Classes.{parents}
-use Rattle.cb_hierarchy.specs.Orders.{in_turns}
 
 -- the list of a number, or none
 abbrev pub list_at : List (List ℕ) → ℕ → List ℕ
@@ -24,8 +23,3 @@ abbrev pub IsLocal : List Class → ((ℕ → List ℕ) → ℕ → List ℕ) �
 IsLocal classes rule =
     (class : ℕ) (one other : ℕ → List ℕ) → ((parent : ℕ) → Contains (parents classes class) parent → one parent ≡ other parent)
     → rule one class ≡ rule other class
-
--- these are the lists of those classes whose rank is below so many turns, where they are the first of an order
-pub record AreListsOf (rule : (ℕ → List ℕ) → ℕ → List ℕ) (rank : ℕ → ℕ) (count : ℕ) (done : List ℕ) (lists : List (List ℕ)) : Type 0 where
-  pub as_many : length lists ≡ count
-  pub each : (class turns : ℕ) → Contains done class → rank class < turns → slice_get lists class ≡ Some (in_turns rule turns class)
