@@ -1,1 +1,3 @@
+pub mod Locals
+pub mod Once
 pub mod Turned

@@ -49,16 +49,15 @@ impl Hierarchy {
 
     /// The classes by their numbers.
     pub fn classes(&self) -> &Classes
-        ensures list { result.now ≡ self.now }
-        ensures classes { AreClasses self.now }
-        ensures acyclic { IsAcyclic self.now }
+        ensures { result.now ≡ self.now }
     {
         &self.classes
     }
 
     /// The classes, each behind its parents.
     pub(crate) fn parents_first(&self) -> &[u32]
-        ensures { IsParentsFirst self.now result.now }
+        ensures order { IsParentsFirst self.now result.now }
+        ensures classes { AreClasses self.now }
     {
         &[]
     }

@@ -9,10 +9,12 @@
 mod ancestors;
 mod bad;
 mod class;
+mod distinct;
 mod hierarchy;
 mod index;
 mod initial;
 mod layout;
+mod marks;
 mod member;
 mod resolution;
 mod rule;
