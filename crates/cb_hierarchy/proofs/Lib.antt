@@ -1,3 +1,4 @@
 pub mod Locals
+pub mod Named
 pub mod Once
 pub mod Turned

@@ -16,6 +16,7 @@ mod initial;
 mod layout;
 mod marks;
 mod member;
+mod orders;
 mod resolution;
 mod rule;
 mod selected;
