@@ -1,3 +1,4 @@
+pub mod Closing
 pub mod Locals
 pub mod Named
 pub mod Once

@@ -4,7 +4,7 @@ use Rattle.std.specs.List.{filter, list_any}
 use Rattle.std.proofs.lemmas.Bool.Decides.{eqb_tells, nat_tests}
 use Rattle.std.proofs.lemmas.List.{append-nil}
 use Rattle.std.proofs.lemmas.List.Elements.{filter-append}
-use Rattle.cb_hierarchy.specs.Inner.{AreDistinct, AreWith, has}
+use Rattle.cb_hierarchy.specs.Inner.{AreDistinct, AreWith, MarksList, has}
 use Rattle.cb_hierarchy.specs.Orders.{distinct}
 
 -- a number is kept where another one is left out
@@ -39,18 +39,20 @@ pub list_any-append : (p : ℕ → Bool) (xs ys : List ℕ) → list_any p (xs +
 list_any-append p [] ys = refl
 list_any-append p (x ∷ xs) ys = ap (λ b. p x || b) (list_any-append p xs ys) ∙ or_assoc (p x) (list_any p xs) (list_any p ys)
 
+-- the marks of a list and of one number more
+pub marks_more : (taken : List ℕ) (number : ℕ) (before marks : List Bool) → MarksList taken before → AreWith before number marks → MarksList (taken ++ number ∷ []) marks
+marks_more taken number before marks are marked other =
+    let turned : list_any (λ n. n == other) (number ∷ []) ≡ (other == number) = grind (arith, nat_tests) in
+    marked other ∙ ap (λ b. b || (other == number)) (are other) ∙ ap (λ b. list_any (λ n. n == other) taken || b) (sym turned) ∙ sym (list_any-append (λ n. n == other) taken (number ∷ []))
+
 -- a number that isn't marked
 pub once_more : (taken numbers more : List ℕ) (marks marks' : List Bool) (number : ℕ) → AreDistinct taken numbers marks → has marks number ≡ false → AreWith marks number marks' → more ≡ numbers ++ number ∷ [] → AreDistinct (taken ++ number ∷ []) more marks'
 once_more taken numbers more marks marks' number are unmarked marked added =
     let new : list_any (λ n. n == number) (distinct taken) ≡ false = ap (list_any (λ n. n == number)) (sym are.once) ∙ sym (are.marked number) ∙ unmarked in
     record {
       once = added ∙ ap (λ (list : List ℕ). list ++ number ∷ []) are.once ∙ sym (rw new at (distinct-push taken number));
-      marked = λ other. marked other ∙ ap (λ b. b || (other == number)) (are.marked other) ∙ last other ∙ ap (list_any (λ n. n == other)) (sym added);
-    } where
-      last : (other : ℕ) → (list_any (λ n. n == other) numbers || (other == number)) ≡ list_any (λ n. n == other) (numbers ++ number ∷ [])
-      last other = sym (list_any-append (λ n. n == other) numbers (number ∷ []) ∙ ap (λ b. list_any (λ n. n == other) numbers || b) turned) where
-        turned : list_any (λ n. n == other) (number ∷ []) ≡ (other == number)
-        turned = grind (arith, nat_tests)
+      marked = subst (λ (list : List ℕ). MarksList list marks') (sym added) (marks_more numbers number marks marks' are.marked marked);
+    }
 
 -- one that is marked
 pub once_again : (taken numbers : List ℕ) (marks : List Bool) (number : ℕ) → AreDistinct taken numbers marks → has marks number ≡ true → AreDistinct (taken ++ number ∷ []) numbers marks

@@ -7,4 +7,5 @@ pub mod Layout
 pub mod Members
 pub mod Orders
 pub mod Resolution
+pub mod Rows
 pub mod Selection

@@ -1,6 +1,7 @@
 // Sets of numbers.
-ghost use Rattle.std.specs.Prelude.{◌≡◌, ◌<◌, false, true, length, replicate, slice_set, count_by, IfOk, OnOk};
-ghost use Rattle.cb_hierarchy.specs.Inner.{AreJoined, AreWith, has};
+ghost use Rattle.std.specs.Prelude.{◌≡◌, ◌<◌, ℕ, false, true, length, replicate, slice_set, count_by, IfOk, OnOk};
+ghost use Rattle.std.specs.List.{Contains};
+ghost use Rattle.cb_hierarchy.specs.Inner.{AreJoined, AreWith, MarksList, has};
 
 use cb_plain::OutOfMemory;
 use std::alloc::Global;
@@ -26,6 +27,26 @@ impl Marks {
         ensures { IfOk result (λ marks. marks ≡ replicate count false) }
     {
         let marks = vec![in alloc; false; count]?;
+        Ok(Marks { marks })
+    }
+
+    /// So many marks, those of some numbers set.
+    pub(crate) fn of(alloc: Global, count: usize, numbers: &[u32]) -> Result<Self, OutOfMemory>
+        ensures marked { IfOk result (λ marks. MarksList numbers.now marks) }
+        ensures length { IfOk result (λ marks. ((number : ℕ) → Contains numbers.now number → number < count) → length marks ≡ count) }
+    {
+        let mut marks = Marks::none(alloc, count)?;
+        for number in numbers {
+            marks.add(*number)?;
+        }
+        Ok(marks)
+    }
+
+    /// The same marks once more.
+    pub(crate) fn copy(&self, alloc: Global) -> Result<Self, OutOfMemory>
+        ensures { IfOk result (λ marks. marks ≡ self.now) }
+    {
+        let marks = Vec::from_slice(alloc, self.marks.as_slice())?;
         Ok(Marks { marks })
     }
 
@@ -63,7 +84,8 @@ impl Marks {
 
     /// Marks any number.
     pub(crate) fn add(&mut self, number: u32) -> Result<(), OutOfMemory>
-        ensures { OnOk result (AreWith self.old number self.new) }
+        ensures added { OnOk result (AreWith self.old number self.new) }
+        ensures length { OnOk result (number < length self.old → length self.new ≡ length self.old) }
     {
         if self.marks.len() <= number as usize {
             self.marks.resize(number as usize + 1, false)?;
