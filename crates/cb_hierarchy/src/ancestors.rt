@@ -1,13 +1,70 @@
 // What is above each class.
-ghost use Rattle.std.specs.Prelude.{◌≡◌, ◌^◌, ◌<◌, ◌||◌, ◌&&◌, ℕ, length, IfOk, OnOk, vec_len};
+ghost use Rattle.std.specs.Prelude.{◌≡◌, ◌^◌, ◌<◌, ◌||◌, ◌&&◌, ℕ, length, map, IfOk, OnOk, vec_len};
 ghost use Rattle.std.specs.List.{Contains};
 ghost use Rattle.cb_hierarchy.specs.Classes.{AreClasses, parents, superclass};
 ghost use Rattle.cb_hierarchy.specs.Inner.{has, list_at};
-ghost use Rattle.cb_hierarchy.specs.Rows.{AreSquare, AreThrough, MarkAbove, MarkLists, marked};
+ghost use Rattle.cb_hierarchy.specs.Rows.{AreSquare, AreThrough, MarkAbove, MarkLists, how_many, marked};
 
+use crate::Classes;
 use crate::marks::Marks;
+use crate::parents::{parent_lists, superclass_lists};
 use cb_plain::{List, Numbers, OutOfMemory};
 use std::alloc::Global;
+use std::marker::Model;
+
+/// For each class a row that marks what is above it. Contracts see the rows.
+#[derive(Debug, Drop)]
+pub(crate) struct Ancestors {
+    rows: Vec<Marks>,
+}
+
+impl Model for Ancestors {
+    ghost use Rattle.std.specs.Prelude.{Bool, List};
+
+    ghost Value = { List (List Bool) };
+
+    ghost view = { λ ancestors. ancestors.rows.items };
+}
+
+impl Ancestors {
+    /// The superclass and the superinterfaces, direct or not, of each class.
+    pub(crate) fn of_parents(alloc: Global, classes: &Classes) -> Result<Self, OutOfMemory>
+        requires { AreClasses classes.now }
+        ensures square { IfOk result (λ ancestors. AreSquare (length classes.now) ancestors) }
+        ensures marks { IfOk result (λ ancestors. MarkAbove (parents classes.now) ancestors) }
+    {
+        let lists = parent_lists(alloc, classes)?;
+        let rows = closed(alloc, &lists)?;
+        Ok(Ancestors { rows })
+    }
+
+    /// The superclasses of each class.
+    pub(crate) fn of_superclasses(alloc: Global, classes: &Classes) -> Result<Self, OutOfMemory>
+        requires { AreClasses classes.now }
+        ensures { IfOk result (λ ancestors. MarkAbove (superclass classes.now) ancestors) }
+    {
+        let lists = superclass_lists(alloc, classes)?;
+        let rows = closed(alloc, &lists)?;
+        Ok(Ancestors { rows })
+    }
+
+    /// Whether a class is above another one.
+    pub(crate) fn has(&self, class: u32, other: u32) -> bool
+        ensures { result ≡ marked self.now class other }
+    {
+        match self.rows.get(class as usize) {
+            Some(row) => row.has(other),
+            None => false,
+        }
+    }
+
+    /// How many classes are above each.
+    pub(crate) fn counts(&self, alloc: Global) -> Result<Vec<usize>, OutOfMemory>
+        ensures { IfOk result (λ counts. counts.items ≡ map how_many self.now) }
+    {
+        self.rows.iter().map(|row| row.count()).collect(alloc)
+    }
+}
 
 /// A row for each list, which marks its numbers.
 fn rows_of(alloc: Global, lists: &List<Numbers>) -> Result<Vec<Marks>, OutOfMemory>

@@ -17,6 +17,8 @@ mod layout;
 mod marks;
 mod member;
 mod orders;
+mod parents;
+mod parents_first;
 mod resolution;
 mod rule;
 mod selected;
