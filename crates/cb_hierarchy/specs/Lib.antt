@@ -3,6 +3,7 @@ pub mod Bad
 pub mod Classes
 pub mod Initial
 pub mod Inner
+pub mod Kept
 pub mod Layout
 pub mod Members
 pub mod Orders

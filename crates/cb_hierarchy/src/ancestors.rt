@@ -67,9 +67,10 @@ impl Ancestors {
 }
 
 /// A row for each list, which marks its numbers.
-fn rows_of(alloc: Global, lists: &List<Numbers>) -> Result<Vec<Marks>, OutOfMemory>
-    requires { (class number : ℕ) → Contains (list_at lists.now class) number → number < length lists.now }
-    ensures square { IfOk result (λ rows. AreSquare (length lists.now) rows.items) }
+pub(crate) fn rows_of(alloc: Global, lists: &List<Numbers>) -> Result<Vec<Marks>, OutOfMemory>
+    ensures length { IfOk result (λ rows. length rows.items ≡ length lists.now) }
+    ensures square { IfOk result (λ rows. ((class number : ℕ) → Contains (list_at lists.now class) number → number < length lists.now)
+        → AreSquare (length lists.now) rows.items) }
     ensures marks { IfOk result (λ rows. MarkLists lists.now rows.items) }
 {
     let mut rows = Vec::new(alloc);

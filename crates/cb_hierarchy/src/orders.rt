@@ -12,6 +12,7 @@ use cb_plain::{Numbers, OutOfMemory};
 use std::alloc::Global;
 
 /// A class, and then the list of its superclass.
+#[derive(Clone, Copy, Debug)]
 pub(crate) struct Upwards<'a> {
     pub(crate) classes: &'a Classes,
 }
@@ -49,6 +50,7 @@ pub(crate) fn append_lists(
 }
 
 /// A class, the lists of its superinterfaces, and that of its superclass, each number once.
+#[derive(Clone, Copy, Debug)]
 pub(crate) struct Lookup<'a> {
     pub(crate) classes: &'a Classes,
 }

@@ -6,7 +6,7 @@ use Rattle.cb_hierarchy.proofs.ancestors.closed.Goals as goal
 
 pub loop-middle-init : goal.loop-middle-init
 loop-middle-init c =
-    record { square = c.in_ok-rows.ensures.square; closed = closed_none c.args.lists.now c.in_ok-rows.rows.items c.in_ok-rows.ensures.marks }
+    record { square = c.in_ok-rows.ensures.square c.requires.below; closed = closed_none c.args.lists.now c.in_ok-rows.rows.items c.in_ok-rows.ensures.marks }
 
 pub loop-middle-preserved : goal.loop-middle-preserved
 loop-middle-preserved c =

@@ -17,11 +17,11 @@ loop-list-preserved c =
     let list : c.as_slice.result.now ≡ list_at lists place =
     let read : c.list-item.result ≡ get_or lists place c.list-item.result = subst (λ (items : List (List ℕ)). c.list-item.result ≡ get_or items place c.list-item.result) c.as_slice-list-items.ensures c.list-item.is in
     c.as_slice.ensures ∙ get_or_read lists place c.list-item.result within read [] in
-    let wide : length row ≡ length lists = c.in_ok-of.ensures.length (λ number among. subst (λ n. number < n) (sym c.len.ensures) (c.requires place number (subst (λ (list : List ℕ). Contains list number) list among))) ∙ c.len.ensures in
+    let wide : ((class number : ℕ) → Contains (list_at lists class) number → number < length lists) → length row ≡ length lists = λ below. c.in_ok-of.ensures.length (λ number among. subst (λ n. number < n) (sym c.len.ensures) (below place number (subst (λ (list : List ℕ). Contains list number) list among))) ∙ c.len.ensures in
     record {
       as_many = ap length pushed ∙ length_push rows row ∙ ap (λ n. n + 1) c.loop-list.invariant.as_many;
-      wide = subst (λ (rows : List (List Bool)). (class : ℕ) → class < place + 1 → length (get_or rows class []) ≡ length lists) (sym pushed)
-          (row_more (λ class row. length row ≡ length lists) rows row place c.loop-list.invariant.as_many c.loop-list.invariant.wide wide);
+      wide = λ below. subst (λ (rows : List (List Bool)). (class : ℕ) → class < place + 1 → length (get_or rows class []) ≡ length lists) (sym pushed)
+          (row_more (λ class row. length row ≡ length lists) rows row place c.loop-list.invariant.as_many (c.loop-list.invariant.wide below) (wide below));
       marks = λ class other less. subst (λ (rows : List (List Bool)). marked rows class other ≡ list_any (λ number. number == other) (list_at lists class)) (sym pushed)
           (row_more (λ class row. has row other ≡ list_any (λ number. number == other) (list_at lists class)) rows row place c.loop-list.invariant.as_many (λ class less. c.loop-list.invariant.marks class other less)
           (c.in_ok-of.ensures.marked other ∙ ap (list_any (λ number. number == other)) list) class less);
