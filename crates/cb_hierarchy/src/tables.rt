@@ -2,19 +2,39 @@
 ghost use Rattle.std.specs.Prelude.{◌≡◌, ◌<◌, length, map, slice_get, IfOk, Some};
 ghost use Rattle.cb_hierarchy.specs.Members.{AreMembers, field_of, method_of};
 
-use crate::{Field, Fields, Method, Methods};
+use crate::index::{Index, Member};
+use crate::{Declared, Field, Fields, Method, Methods};
 use cb_plain::OutOfMemory;
-use std::alloc::{AllocError, Global};
+use std::alloc::Global;
 use std::marker::Model;
+
+impl Member for Method {
+    ghost declared = { λ method. method.declared };
+
+    fn declared(&self) -> Declared {
+        self.declared
+    }
+}
+
+impl Member for Field {
+    ghost declared = { λ field. field.declared };
+
+    fn declared(&self) -> Declared {
+        self.declared
+    }
+}
 
 /// Methods by their numbers, which are found by class and signature too. Contracts see it as the list of methods.
 #[derive(Debug, Drop)]
 pub struct MethodTable {
     methods: Methods,
+    index: Index,
 }
 
 impl Model for MethodTable {
     ghost use Rattle.std.specs.Prelude.{List, map};
+    ghost use Rattle.std.specs.HashMap.{get};
+    ghost use Rattle.cb_hierarchy.specs.Indexed.{IsIndexOf, same_member};
     ghost use Rattle.cb_hierarchy.specs.Members.{AreMembers};
     ghost use Rattle.cb_hierarchy.specs.declared.member.Method.{Method as Declaration};
 
@@ -22,7 +42,8 @@ impl Model for MethodTable {
 
     ghost view = { λ table. table.methods };
 
-    ghost invariant = { λ table. AreMembers (map (λ method. method.declared) table.methods) };
+    ghost invariant = { λ table. AreMembers (map (λ method. method.declared) table.methods)
+        × IsIndexOf (map (λ method. method.declared) table.methods) (get same_member table.index.numbers) };
 }
 
 impl MethodTable {
@@ -31,7 +52,8 @@ impl MethodTable {
         requires { AreMembers (map (λ method. method.declared) methods) }
         ensures { IfOk result (λ table. table ≡ methods) }
     {
-        Err(AllocError)
+        let index = Index::of(alloc, methods.as_slice())?;
+        Ok(MethodTable { methods, index })
     }
 
     /// How many methods there are.
@@ -53,7 +75,7 @@ impl MethodTable {
     pub fn declared(&self, class: u32, signature: u32) -> Option<u32>
         ensures { result ≡ method_of self.now class signature }
     {
-        None
+        self.index.number(class, signature)
     }
 }
 
@@ -61,10 +83,13 @@ impl MethodTable {
 #[derive(Debug, Drop)]
 pub struct FieldTable {
     fields: Fields,
+    index: Index,
 }
 
 impl Model for FieldTable {
     ghost use Rattle.std.specs.Prelude.{List, map};
+    ghost use Rattle.std.specs.HashMap.{get};
+    ghost use Rattle.cb_hierarchy.specs.Indexed.{IsIndexOf, same_member};
     ghost use Rattle.cb_hierarchy.specs.Members.{AreMembers};
     ghost use Rattle.cb_hierarchy.specs.declared.member.Field.{Field as Declaration};
 
@@ -72,7 +97,8 @@ impl Model for FieldTable {
 
     ghost view = { λ table. table.fields };
 
-    ghost invariant = { λ table. AreMembers (map (λ field. field.declared) table.fields) };
+    ghost invariant = { λ table. AreMembers (map (λ field. field.declared) table.fields)
+        × IsIndexOf (map (λ field. field.declared) table.fields) (get same_member table.index.numbers) };
 }
 
 impl FieldTable {
@@ -81,7 +107,8 @@ impl FieldTable {
         requires { AreMembers (map (λ field. field.declared) fields) }
         ensures { IfOk result (λ table. table ≡ fields) }
     {
-        Err(AllocError)
+        let index = Index::of(alloc, fields.as_slice())?;
+        Ok(FieldTable { fields, index })
     }
 
     /// How many fields there are.
@@ -103,6 +130,6 @@ impl FieldTable {
     pub fn declared(&self, class: u32, signature: u32) -> Option<u32>
         ensures { result ≡ field_of self.now class signature }
     {
-        None
+        self.index.number(class, signature)
     }
 }
