@@ -1,1 +1,3 @@
 pub mod IndexLaws
+pub mod SpecificLaws
+pub mod Turned

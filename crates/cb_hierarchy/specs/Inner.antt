@@ -8,12 +8,15 @@ use Rattle.cb_hierarchy.specs.Classes.{parents}
 abbrev pub list_at : List (List ℕ) → ℕ → List ℕ
 list_at lists number = get_or lists number []
 
--- all classes, each behind its parents
+-- all classes, each behind its parents. Each has a rank above those of its parents and below the number of classes
 pub record IsParentsFirst (classes : List Class) (order : List ℕ) : Type 0 where
   pub every : (class : ℕ) → class < length classes → Contains order class
   pub below : (class : ℕ) → Contains order class → class < length classes
   pub behind : (place class parent : ℕ) → slice_get order place ≡ Some class → Contains (parents classes class) parent
       → Contains (take place order) parent
+  pub rank : ℕ → ℕ
+  pub rising : (class parent : ℕ) → Contains (parents classes class) parent → rank parent < rank class
+  pub low : (class : ℕ) → class < length classes → rank class < length classes
 
 -- what a rule says of a class depends on what is said of its parents alone
 abbrev pub IsLocal : List Class → ((ℕ → List ℕ) → ℕ → List ℕ) → Type 0

@@ -2,6 +2,7 @@
 ghost use Rattle.std.specs.Prelude.{◌≡◌, ◌<◌, length, slice_get, IfOk, Some};
 ghost use Rattle.cb_hierarchy.specs.Above.{IsAcyclic};
 ghost use Rattle.cb_hierarchy.specs.Classes.{AreClasses};
+ghost use Rattle.cb_hierarchy.specs.Inner.{IsParentsFirst};
 ghost use Rattle.cb_hierarchy.specs.Orders.{is_subclass, lookup_order, upwards};
 
 use crate::{Class, Classes};
@@ -44,6 +45,22 @@ impl Hierarchy {
         ensures { result ≡ length self.now }
     {
         self.classes.len()
+    }
+
+    /// The classes by their numbers.
+    pub fn classes(&self) -> &Classes
+        ensures list { result.now ≡ self.now }
+        ensures classes { AreClasses self.now }
+        ensures acyclic { IsAcyclic self.now }
+    {
+        &self.classes
+    }
+
+    /// The classes, each behind its parents.
+    pub(crate) fn parents_first(&self) -> &[u32]
+        ensures { IsParentsFirst self.now result.now }
+    {
+        &[]
     }
 
     /// The class of a number.
