@@ -9,3 +9,4 @@ pub mod Members
 pub mod Orders
 pub mod Resolution
 pub mod Selection
+pub mod Specific

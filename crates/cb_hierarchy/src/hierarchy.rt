@@ -1,7 +1,7 @@
 // Classes of which none is above itself.
 ghost use Rattle.std.specs.Prelude.{◌≡◌, ◌<◌, length, slice_get, IfOk, Some};
 ghost use Rattle.cb_hierarchy.specs.Above.{IsAcyclic};
-ghost use Rattle.cb_hierarchy.specs.Classes.{AreClasses};
+ghost use Rattle.cb_hierarchy.specs.Classes.{AreClasses, is_interface};
 ghost use Rattle.cb_hierarchy.specs.Inner.{IsParentsFirst};
 ghost use Rattle.cb_hierarchy.specs.Orders.{is_subclass, lookup_order, upwards};
 
@@ -69,6 +69,16 @@ impl Hierarchy {
         ensures { slice_get self.now number ≡ Some result.now }
     {
         self.classes.get(number as usize)
+    }
+
+    /// Whether a number is that of an interface.
+    pub(crate) fn is_interface(&self, number: u32) -> bool
+        ensures { result ≡ is_interface self.now number }
+    {
+        match self.classes.as_slice().get(number as usize) {
+            Some(class) => class.is_interface,
+            None => false,
+        }
     }
 
     /// A class, its superclass, the superclass of that one, and so on.

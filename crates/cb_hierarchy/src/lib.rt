@@ -18,6 +18,7 @@ mod resolution;
 mod rule;
 mod selected;
 mod selection;
+mod specific;
 mod tables;
 #[cfg(test)]
 mod tests;

@@ -1,5 +1,5 @@
 // Methods and fields that are found by class and signature.
-ghost use Rattle.std.specs.Prelude.{◌≡◌, ◌<◌, length, map, slice_get, IfOk, Some};
+ghost use Rattle.std.specs.Prelude.{◌≡◌, ◌<◌, length, map, option_copied, slice_get, IfOk, Some};
 ghost use Rattle.cb_hierarchy.specs.Members.{AreMembers, field_of, method_of};
 
 use crate::index::{Index, Member};
@@ -69,6 +69,13 @@ impl MethodTable {
         ensures { slice_get self.now number ≡ Some result.now }
     {
         self.methods.get(number as usize)
+    }
+
+    /// The method of a number, if there is one.
+    pub(crate) fn get(&self, number: u32) -> Option<&Method>
+        ensures { option_copied result ≡ slice_get self.now number }
+    {
+        self.methods.as_slice().get(number as usize)
     }
 
     /// The number of the first method of a signature that a class declares, in constant expected time.
