@@ -54,3 +54,15 @@ module _ (classes : List Class) (order : List ℕ) (first : IsParentsFirst class
   pub all_made : (lists : List (List ℕ)) (class : ℕ) → AreMade rule first.rank (take (length order) order) lists → class < length classes → slice_get lists class ≡ Some (in_turns rule (length classes) class)
   all_made lists class made within =
       made class (length classes) (subst (λ taken. Contains taken class) (sym (take_all (length order) order (omega arith))) (first.every class within)) (first.low class within)
+
+  -- turns above a rank come to the same
+  settled : (one other class : ℕ) → first.rank class < one → first.rank class < other → in_turns rule one class ≡ in_turns rule other class
+  settled zero other class low low' = absurd (omega arith)
+  settled (suc one) zero class low low' = absurd (omega arith)
+  settled (suc one) (suc other) class low low' =
+      local class (in_turns rule one) (in_turns rule other)
+      (λ parent of. let less = first.rising class parent of in settled one other parent (omega (arith, less)) (omega (arith, less)))
+
+  -- one turn more than there are classes
+  pub enough : (class : ℕ) → class < length classes → rule (in_turns rule (length classes)) class ≡ in_turns rule (length classes) class
+  enough class within = let low = first.low class within in settled (suc (length classes)) (length classes) class (omega (arith, low)) low

@@ -1,8 +1,9 @@
 -- What this crate's own functions and proofs cite, and no public clause.
-use Rattle.std.specs.Prelude.{◌≡◌, ℕ, ◌<◌, List, [], length, take, slice_get, get_or, Some}
-use Rattle.std.specs.List.{Contains}
+use Rattle.std.specs.Prelude.{◌≡◌, ℕ, ◌<◌, Bool, false, ◌||◌, ◌&&◌, ◌==◌, List, [], length, take, slice_get, get_or, Some}
+use Rattle.std.specs.List.{Contains, list_any}
 use Rattle.cb_hierarchy.specs.declared.class.Class.{Class}
 use Rattle.cb_hierarchy.specs.Classes.{parents}
+use Rattle.cb_hierarchy.specs.Orders.{distinct}
 
 -- the list of a number, or none
 abbrev pub list_at : List (List ℕ) → ℕ → List ℕ
@@ -23,3 +24,20 @@ abbrev pub IsLocal : List Class → ((ℕ → List ℕ) → ℕ → List ℕ) �
 IsLocal classes rule =
     (class : ℕ) (one other : ℕ → List ℕ) → ((parent : ℕ) → Contains (parents classes class) parent → one parent ≡ other parent)
     → rule one class ≡ rule other class
+
+-- whether a number is marked
+abbrev pub has : List Bool → ℕ → Bool
+has marks number = get_or marks number false
+
+-- the marks of one row and of another
+abbrev pub AreJoined : List Bool → List Bool → List Bool → Type 0
+AreJoined one other marks = (number : ℕ) → has marks number ≡ (has one number || has other number)
+
+-- these marks, and that of one number more
+abbrev pub AreWith : List Bool → ℕ → List Bool → Type 0
+AreWith before added marks = (number : ℕ) → has marks number ≡ (has before number || (number == added))
+
+-- numbers once each, in the order in which they were taken, with their marks
+pub record AreDistinct (taken numbers : List ℕ) (marks : List Bool) : Type 0 where
+  pub once : numbers ≡ distinct taken
+  pub marked : (number : ℕ) → has marks number ≡ list_any (λ other. other == number) numbers

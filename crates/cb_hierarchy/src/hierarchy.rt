@@ -1,12 +1,12 @@
 // Classes of which none is above itself.
-ghost use Rattle.std.specs.Prelude.{◌≡◌, ◌<◌, length, slice_get, IfOk, Some};
+ghost use Rattle.std.specs.Prelude.{◌≡◌, ◌<◌, ◌==◌, ◌&&◌, not, length, slice_get, IfOk, Some};
 ghost use Rattle.cb_hierarchy.specs.Above.{IsAcyclic};
 ghost use Rattle.cb_hierarchy.specs.Classes.{AreClasses, is_interface};
 ghost use Rattle.cb_hierarchy.specs.Inner.{IsParentsFirst};
 ghost use Rattle.cb_hierarchy.specs.Orders.{is_subclass, lookup_order, upwards};
 
 use crate::{Class, Classes};
-use cb_plain::OutOfMemory;
+use cb_plain::{List, Numbers, OutOfMemory};
 use std::alloc::{AllocError, Global};
 use std::marker::Model;
 
@@ -14,10 +14,16 @@ use std::marker::Model;
 #[derive(Debug, Drop)]
 pub struct Hierarchy {
     classes: Classes,
+    order: Numbers,
+    ups: List<Numbers>,
+    orders: List<Numbers>,
+    below: List<List<bool>>,
 }
 
 impl Model for Hierarchy {
-    ghost use Rattle.std.specs.Prelude.{List};
+    ghost use Rattle.std.specs.Prelude.{List, ℕ, ◌≡◌, ◌<◌, length, slice_get, Some};
+    ghost use Rattle.cb_hierarchy.specs.Inner.{IsParentsFirst};
+    ghost use Rattle.cb_hierarchy.specs.Orders.{lookup_order, upwards};
     ghost use Rattle.cb_hierarchy.specs.Above.{IsAcyclic};
     ghost use Rattle.cb_hierarchy.specs.Classes.{AreClasses};
     ghost use Rattle.cb_hierarchy.specs.declared.class.Class.{Class as Declaration};
@@ -26,7 +32,9 @@ impl Model for Hierarchy {
 
     ghost view = { λ hierarchy. hierarchy.classes };
 
-    ghost invariant = { λ hierarchy. AreClasses hierarchy.classes × IsAcyclic hierarchy.classes };
+    ghost invariant = { λ hierarchy. AreClasses hierarchy.classes × IsAcyclic hierarchy.classes × IsParentsFirst hierarchy.classes hierarchy.order
+        × ((class : ℕ) → class < length hierarchy.classes → slice_get hierarchy.ups class ≡ Some (upwards hierarchy.classes class))
+        × ((class : ℕ) → class < length hierarchy.classes → slice_get hierarchy.orders class ≡ Some (lookup_order hierarchy.classes class)) };
 }
 
 impl Hierarchy {
@@ -49,18 +57,17 @@ impl Hierarchy {
 
     /// The classes by their numbers.
     pub fn classes(&self) -> &Classes
-        ensures list { result.now ≡ self.now }
-        ensures classes { AreClasses self.now }
-        ensures acyclic { IsAcyclic self.now }
+        ensures { result.now ≡ self.now }
     {
         &self.classes
     }
 
     /// The classes, each behind its parents.
     pub(crate) fn parents_first(&self) -> &[u32]
-        ensures { IsParentsFirst self.now result.now }
+        ensures order { IsParentsFirst self.now result.now }
+        ensures classes { AreClasses self.now }
     {
-        &[]
+        self.order.as_slice()
     }
 
     /// The class of a number.
@@ -86,7 +93,10 @@ impl Hierarchy {
         requires { number < length self.now }
         ensures { result.now ≡ upwards self.now number }
     {
-        &[]
+        match self.ups.as_slice().get(number as usize) {
+            Some(list) => list.as_slice(),
+            None => &[]
+        }
     }
 
     /// A class and all that is above it, in the order in which a member is looked up (JVMS §5.4.3.2).
@@ -94,7 +104,26 @@ impl Hierarchy {
         requires { number < length self.now }
         ensures { result.now ≡ lookup_order self.now number }
     {
-        &[]
+        match self.orders.as_slice().get(number as usize) {
+            Some(list) => list.as_slice(),
+            None => &[]
+        }
+    }
+
+    /// Whether a class is a proper subclass or subinterface of another one.
+    pub(crate) fn is_below(&self, number: u32, other: u32) -> bool
+        ensures { result ≡ (not (number == other) && is_subclass self.now number other) }
+    {
+        if number == other {
+            return false;
+        }
+        if number as usize >= self.classes.len() {
+            return false;
+        }
+        if other as usize >= self.classes.len() {
+            return false;
+        }
+        self.is_subclass(number, other)
     }
 
     /// Whether a class is another one or below it.
@@ -103,6 +132,11 @@ impl Hierarchy {
         requires other { other < length self.now }
         ensures { result ≡ is_subclass self.now number other }
     {
+        for it in self.lookup_order(number) {
+            if *it == other {
+                return true;
+            }
+        }
         false
     }
 }

@@ -1,6 +1,5 @@
 // The maximally-specific methods of superinterfaces.
-ghost use Rattle.std.specs.Prelude.{◌≡◌, ◌<◌, ◌∷◌, ◌++◌, [], ◌==◌, ◌&&◌, drop, filter, length, not, IfOk, OnOk};
-ghost use Rattle.cb_hierarchy.specs.Orders.{is_subclass as is_at_or_below};
+ghost use Rattle.std.specs.Prelude.{◌≡◌, ◌<◌, ◌∷◌, ◌++◌, [], drop, filter, length, not, IfOk, OnOk};
 ghost use Rattle.cb_hierarchy.specs.Resolution.{is_declared_below, is_inherited, method_is, most_specific, most_specific_of, superinterface_methods};
 ghost use Rattle.cb_hierarchy.specs.Specific.{inherited_of, is_specific};
 
@@ -39,7 +38,9 @@ pub(crate) fn most_specific_of(
 {
     let mut found = Numbers::new(alloc);
     for candidate in candidates {
-        if has_body(methods, *candidate) && is_specific(hierarchy, methods, candidates, *candidate) {
+        if has_body(methods, *candidate)
+            && is_specific(hierarchy, methods, candidates, *candidate)
+        {
             found.push(*candidate)?;
         }
     }
@@ -97,7 +98,12 @@ fn has_body(methods: &MethodTable, method: u32) -> bool
 }
 
 /// Whether none of these methods is declared in a subinterface of that of a method.
-fn is_specific(hierarchy: &Hierarchy, methods: &MethodTable, candidates: &[u32], method: u32) -> bool
+fn is_specific(
+    hierarchy: &Hierarchy,
+    methods: &MethodTable,
+    candidates: &[u32],
+    method: u32,
+) -> bool
     ensures { result ≡ is_specific hierarchy.now methods.now candidates.now method }
 {
     for other in candidates {
@@ -113,18 +119,7 @@ fn is_declared_below(hierarchy: &Hierarchy, methods: &MethodTable, one: u32, oth
     ensures { result ≡ is_declared_below hierarchy.now methods.now one other }
 {
     match (methods.get(one), methods.get(other)) {
-        (Some(one), Some(other)) => is_below(hierarchy, one.declared.class, other.declared.class),
+        (Some(one), Some(other)) => hierarchy.is_below(one.declared.class, other.declared.class),
         _ => false,
     }
-}
-
-/// Whether a class is a proper subclass or subinterface of another one.
-fn is_below(hierarchy: &Hierarchy, one: u32, other: u32) -> bool
-    ensures { result ≡ (not (one == other) && is_at_or_below hierarchy.now one other) }
-{
-    let count = hierarchy.classes().len();
-    one != other
-        && (one as usize) < count
-        && (other as usize) < count
-        && hierarchy.is_subclass(one, other)
 }
