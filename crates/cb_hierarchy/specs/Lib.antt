@@ -7,6 +7,7 @@ pub mod Inner
 pub mod Layout
 pub mod Members
 pub mod Orders
+pub mod Reaching
 pub mod Resolution
 pub mod Selection
 pub mod Specific

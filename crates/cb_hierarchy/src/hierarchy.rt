@@ -3,6 +3,7 @@ ghost use Rattle.std.specs.Prelude.{◌≡◌, ◌<◌, ◌==◌, ◌&&◌, not,
 ghost use Rattle.cb_hierarchy.specs.Above.{IsAcyclic};
 ghost use Rattle.cb_hierarchy.specs.Classes.{AreClasses, is_interface};
 ghost use Rattle.cb_hierarchy.specs.Inner.{IsParentsFirst};
+ghost use Rattle.cb_hierarchy.specs.Selection.{in_one_package};
 ghost use Rattle.cb_hierarchy.specs.Orders.{is_subclass, lookup_order, upwards};
 
 use crate::{Class, Classes};
@@ -85,6 +86,19 @@ impl Hierarchy {
         match self.classes.as_slice().get(number as usize) {
             Some(class) => class.is_interface,
             None => false,
+        }
+    }
+
+    /// Whether two numbers are those of classes of one run-time package.
+    pub(crate) fn in_one_package(&self, one: u32, other: u32) -> bool
+        ensures { result ≡ in_one_package self.now one other }
+    {
+        match (
+            self.classes.as_slice().get(one as usize),
+            self.classes.as_slice().get(other as usize),
+        ) {
+            (Some(one), Some(other)) => one.package == other.package,
+            _ => false,
         }
     }
 

@@ -9,11 +9,13 @@
 mod ancestors;
 mod bad;
 mod class;
+mod entry;
 mod hierarchy;
 mod index;
 mod initial;
 mod layout;
 mod member;
+mod reach;
 mod resolution;
 mod rule;
 mod selected;
