@@ -1,5 +1,6 @@
 pub mod IndexLaws
 pub mod Locals
 pub mod OrderLaws
+pub mod RowLaws
 pub mod SpecificLaws
 pub mod Turned

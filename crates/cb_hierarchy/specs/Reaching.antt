@@ -1,5 +1,5 @@
 -- How the table of selected methods is made class by class, which no public clause cites.
-use Rattle.std.specs.Prelude.{ℕ, Bool, true, false, List, [], ◌∷◌, not, filter, slice_get, Option, Some, None, option_and_then, ◌==◌, ◌&&◌, ◌||◌, if◌then◌else◌, Vec}
+use Rattle.std.specs.Prelude.{ℕ, Bool, true, false, List, [], ◌∷◌, not, filter, slice_get, Option, Some, None, length, ◌≡◌, ◌<◌, option_and_then, ◌==◌, ◌&&◌, ◌||◌, if◌then◌else◌, Vec}
 use Rattle.std.specs.declared.alloc.Global.{Global}
 use Rattle.cb_hierarchy.specs.declared.class.Class.{Class}
 use Rattle.cb_hierarchy.specs.declared.entry.Entry.{Entry}
@@ -119,3 +119,21 @@ entry_by classes methods rows superclass class resolved =
     entry_of methods
     (reach_own classes methods resolved (method_of methods class (signature_of methods resolved)) (reached_at rows superclass resolved))
     (entry_among (most_specific classes methods class (signature_of methods resolved)))
+
+-- the first items of a list, by their places
+abbrev pub AreFirst : {X : Type 0} → ℕ → (ℕ → X) → List X → Type 0
+AreFirst count expected items = (place : ℕ) → place < count → slice_get items place ≡ Some (expected place)
+
+abbrev pub IsRowBy : List Class → List Method → List (Vec Entry Global) → Option ℕ → ℕ → List Entry → Type 0
+IsRowBy classes methods rows superclass class row =
+    AreFirst (length methods) (entry_by classes methods rows superclass class) row
+
+-- what the superinterfaces of a class have, by signatures
+abbrev pub AreAmong : List Class → List Method → ℕ → List Entry → Type 0
+AreAmong classes methods class among =
+    AreFirst (length methods) (λ signature. entry_among (most_specific classes methods class signature)) among
+
+-- the row of a class is made
+abbrev pub IsMade : List Class → List Method → List (Vec Entry Global) → ℕ → Type 0
+IsMade classes methods rows class =
+    (resolved : ℕ) → resolved < length methods → entry_in rows class resolved ≡ Some (entry_for classes methods class resolved)

@@ -1,6 +1,7 @@
 // Methods and fields that are found by class and signature.
 ghost use Rattle.std.specs.Prelude.{◌≡◌, ◌<◌, length, map, option_copied, slice_get, IfOk, Some};
 ghost use Rattle.cb_hierarchy.specs.Members.{AreMembers, field_of, method_of};
+ghost use Rattle.cb_hierarchy.specs.Reaching.{signature_of};
 
 use crate::index::{Index, Member};
 use crate::{Declared, Field, Fields, Method, Methods};
@@ -69,6 +70,22 @@ impl MethodTable {
         ensures { slice_get self.now number ≡ Some result.now }
     {
         self.methods.get(number as usize)
+    }
+
+    /// How many methods there are.
+    pub(crate) fn count(&self) -> u32
+        ensures { result ≡ length self.now }
+    {
+        self.methods.len() as u32
+    }
+
+    /// The signature of the method of a number.
+    pub(crate) fn signature(&self, number: u32) -> u32
+        requires { number < length self.now }
+        ensures value { result ≡ signature_of self.now number }
+        ensures small { result < length self.now }
+    {
+        self.methods.get(number as usize).declared.signature
     }
 
     /// The method of a number, if there is one.
