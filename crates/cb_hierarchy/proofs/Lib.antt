@@ -1,6 +1,10 @@
 pub mod Closing
+pub mod IndexLaws
 pub mod Locals
 pub mod Named
 pub mod Once
+pub mod OrderLaws
 pub mod Ranked
+pub mod RowLaws
+pub mod SpecificLaws
 pub mod Turned

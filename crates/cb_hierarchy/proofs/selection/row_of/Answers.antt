@@ -1,0 +1,29 @@
+use Rattle.std.proofs.Common.{◌≡◌, ◌∙◌, ◌+◌, ◌++◌, ◌∷◌, [], ap, ap₂, arith, length, subst, sym}
+use Rattle.std.proofs.lemmas.List.{length_push}
+use Rattle.std.proofs.lemmas.Option.{get_or_from_slice_get}
+use Rattle.cb_hierarchy.specs.Members.{method_of}
+use Rattle.cb_hierarchy.specs.Reaching.{AreFirst, entry_among, entry_by, entry_of, reach_own, reached_at}
+use Rattle.cb_hierarchy.specs.Resolution.{most_specific}
+use Rattle.cb_hierarchy.proofs.RowLaws.{pushed}
+use Rattle.cb_hierarchy.proofs.selection.row_of.Goals as goal
+
+pub loop-resolved-preserved : goal.loop-resolved-preserved
+loop-resolved-preserved c =
+    let classes = c.args.hierarchy.now in
+    let methods = c.args.methods.now in
+    let class = c.args.class in
+    let resolved = c.loop-resolved.resolved in
+    let signature = c.signature-signature.result in
+    let among : c.index.result.now ≡ entry_among (most_specific classes methods class signature) =
+    c.index.ensures ∙ get_or_from_slice_get c.in_ok-among.among.items signature _ c.index.result.now (c.in_ok-among.ensures.each signature c.signature-signature.ensures.small) in
+    let reached : c.reach_own-reached.result ≡ reach_own classes methods resolved (method_of methods class signature) (reached_at c.args.rows.now c.args.superclass resolved) =
+    c.reach_own-reached.ensures ∙ ap₂ (reach_own classes methods resolved) c.declared-own.ensures c.reached_at-above.ensures in
+    let entry : c.entry_of.result ≡ entry_by classes methods c.args.rows.now c.args.superclass class resolved =
+    c.entry_of.ensures ∙ ap₂ (entry_of methods) reached among
+    ∙ ap (λ signature. entry_of methods (reach_own classes methods resolved (method_of methods class signature) (reached_at c.args.rows.now c.args.superclass resolved)) (entry_among (most_specific classes methods class signature)))
+    c.signature-signature.ensures.value in
+    let items : c.push.new.self.items ≡ c.loop-resolved.row.items ++ c.entry_of.result ∷ [] = c.in_ok-push.ensures.items in (
+      ap length items ∙ length_push c.loop-resolved.row.items c.entry_of.result ∙ ap (λ count. count + 1) c.loop-resolved.invariant.0,
+      subst (AreFirst (resolved + 1) (entry_by classes methods c.args.rows.now c.args.superclass class)) (sym items)
+          (pushed resolved (entry_by classes methods c.args.rows.now c.args.superclass class) c.loop-resolved.row.items c.entry_of.result c.loop-resolved.invariant.0 c.loop-resolved.invariant.1 entry),
+    )
