@@ -2,6 +2,7 @@ pub mod Above
 pub mod Bad
 pub mod Classes
 pub mod Initial
+pub mod Finals
 pub mod Indexed
 pub mod Inner
 pub mod Kept
