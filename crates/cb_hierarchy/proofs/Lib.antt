@@ -1,7 +1,11 @@
+pub mod Closing
 pub mod IndexLaws
 pub mod Locals
+pub mod Named
+pub mod Once
 pub mod OrderLaws
 pub mod OverrideTables
+pub mod Ranked
 pub mod ReachLaws
 pub mod RowLaws
 pub mod SpecificLaws

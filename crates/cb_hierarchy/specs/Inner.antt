@@ -29,6 +29,10 @@ IsLocal classes rule =
 abbrev pub has : List Bool → ℕ → Bool
 has marks number = get_or marks number false
 
+-- just the numbers of a list are marked
+abbrev pub MarksList : List ℕ → List Bool → Type 0
+MarksList numbers marks = (number : ℕ) → has marks number ≡ list_any (λ other. other == number) numbers
+
 -- the marks of one row and of another
 abbrev pub AreJoined : List Bool → List Bool → List Bool → Type 0
 AreJoined one other marks = (number : ℕ) → has marks number ≡ (has one number || has other number)
@@ -40,4 +44,4 @@ AreWith before added marks = (number : ℕ) → has marks number ≡ (has before
 -- numbers once each, in the order in which they were taken, with their marks
 pub record AreDistinct (taken numbers : List ℕ) (marks : List Bool) : Type 0 where
   pub once : numbers ≡ distinct taken
-  pub marked : (number : ℕ) → has marks number ≡ list_any (λ other. other == number) numbers
+  pub marked : MarksList numbers marks

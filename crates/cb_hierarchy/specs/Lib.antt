@@ -4,10 +4,12 @@ pub mod Classes
 pub mod Initial
 pub mod Indexed
 pub mod Inner
+pub mod Kept
 pub mod Layout
 pub mod Members
 pub mod Orders
 pub mod Reaching
 pub mod Resolution
+pub mod Rows
 pub mod Selection
 pub mod Specific

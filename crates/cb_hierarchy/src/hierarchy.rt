@@ -3,12 +3,17 @@ ghost use Rattle.std.specs.Prelude.{◌≡◌, ◌<◌, ◌==◌, ◌&&◌, not,
 ghost use Rattle.cb_hierarchy.specs.Above.{IsAcyclic};
 ghost use Rattle.cb_hierarchy.specs.Classes.{AreClasses, is_interface};
 ghost use Rattle.cb_hierarchy.specs.Inner.{IsParentsFirst};
-ghost use Rattle.cb_hierarchy.specs.Selection.{in_one_package};
 ghost use Rattle.cb_hierarchy.specs.Orders.{is_subclass, lookup_order, upwards};
+ghost use Rattle.cb_hierarchy.specs.Selection.{in_one_package};
 
+use crate::ancestors::{Ancestors, rows_of};
+use crate::marks::Marks;
+use crate::orders::{Lookup, Upwards};
+use crate::parents_first::parents_first;
+use crate::rule::lists_by;
 use crate::{Class, Classes};
 use cb_plain::{List, Numbers, OutOfMemory};
-use std::alloc::{AllocError, Global};
+use std::alloc::Global;
 use std::marker::Model;
 
 /// Classes of which none is above itself. Contracts see it as the list of classes.
@@ -16,37 +21,46 @@ use std::marker::Model;
 pub struct Hierarchy {
     classes: Classes,
     order: Numbers,
-    ups: List<Numbers>,
-    orders: List<Numbers>,
-    below: List<List<bool>>,
+    upward_lists: List<Numbers>,
+    lookup_lists: List<Numbers>,
+    lookup_rows: Vec<Marks>,
 }
 
 impl Model for Hierarchy {
-    ghost use Rattle.std.specs.Prelude.{List, ℕ, ◌≡◌, ◌<◌, length, slice_get, Some};
-    ghost use Rattle.cb_hierarchy.specs.Inner.{IsParentsFirst};
-    ghost use Rattle.cb_hierarchy.specs.Orders.{lookup_order, upwards};
-    ghost use Rattle.cb_hierarchy.specs.Above.{IsAcyclic};
-    ghost use Rattle.cb_hierarchy.specs.Classes.{AreClasses};
+    ghost use Rattle.std.specs.Prelude.{List};
     ghost use Rattle.cb_hierarchy.specs.declared.class.Class.{Class as Declaration};
 
     ghost Value = { List Declaration };
 
     ghost view = { λ hierarchy. hierarchy.classes };
 
-    ghost invariant = { λ hierarchy. AreClasses hierarchy.classes × IsAcyclic hierarchy.classes × IsParentsFirst hierarchy.classes hierarchy.order
-        × ((class : ℕ) → class < length hierarchy.classes → slice_get hierarchy.ups class ≡ Some (upwards hierarchy.classes class))
-        × ((class : ℕ) → class < length hierarchy.classes → slice_get hierarchy.orders class ≡ Some (lookup_order hierarchy.classes class)) };
+    ghost use Rattle.cb_hierarchy.specs.Kept.{AreKept};
+
+    ghost invariant = { λ hierarchy. AreKept hierarchy.classes hierarchy.order hierarchy.upward_lists hierarchy.lookup_lists hierarchy.lookup_rows.items };
 }
 
 impl Hierarchy {
     /// The hierarchy of classes. `OutOfMemory` where no memory was to be had. Takes time and memory in the square of the number
-    /// of classes.
+    /// of classes, and time in its cube at the worst, where each class is above nearly half of the others.
     pub fn of(alloc: Global, classes: Classes) -> Result<Self, OutOfMemory>
         requires classes { AreClasses classes }
         requires acyclic { IsAcyclic classes }
         ensures { IfOk result (λ hierarchy. hierarchy ≡ classes) }
     {
-        Err(AllocError)
+        let ancestors = Ancestors::of_parents(alloc, &classes)?;
+        let order = parents_first(alloc, &classes, &ancestors)?;
+        let upwards = Upwards { classes: &classes };
+        let upward_lists = lists_by(alloc, &classes, order.as_slice(), &upwards)?;
+        let lookup = Lookup { classes: &classes };
+        let lookup_lists = lists_by(alloc, &classes, order.as_slice(), &lookup)?;
+        let lookup_rows = rows_of(alloc, &lookup_lists)?;
+        Ok(Hierarchy {
+            classes,
+            order,
+            upward_lists,
+            lookup_lists,
+            lookup_rows,
+        })
     }
 
     /// How many classes there are.
@@ -107,10 +121,7 @@ impl Hierarchy {
         requires { number < length self.now }
         ensures { result.now ≡ upwards self.now number }
     {
-        match self.ups.as_slice().get(number as usize) {
-            Some(list) => list.as_slice(),
-            None => &[]
-        }
+        self.upward_lists.get(number as usize).as_slice()
     }
 
     /// A class and all that is above it, in the order in which a member is looked up (JVMS §5.4.3.2).
@@ -118,10 +129,7 @@ impl Hierarchy {
         requires { number < length self.now }
         ensures { result.now ≡ lookup_order self.now number }
     {
-        match self.orders.as_slice().get(number as usize) {
-            Some(list) => list.as_slice(),
-            None => &[]
-        }
+        self.lookup_lists.get(number as usize).as_slice()
     }
 
     /// Whether a class is a proper subclass or subinterface of another one.
@@ -146,11 +154,6 @@ impl Hierarchy {
         requires other { other < length self.now }
         ensures { result ≡ is_subclass self.now number other }
     {
-        for it in self.lookup_order(number) {
-            if *it == other {
-                return true;
-            }
-        }
-        false
+        self.lookup_rows[number as usize].has(other)
     }
 }

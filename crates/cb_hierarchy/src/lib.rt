@@ -9,12 +9,17 @@
 mod ancestors;
 mod bad;
 mod class;
+mod distinct;
 mod entry;
 mod hierarchy;
 mod index;
 mod initial;
 mod layout;
+mod marks;
 mod member;
+mod orders;
+mod parents;
+mod parents_first;
 mod reach;
 mod resolution;
 mod rule;

@@ -14,4 +14,4 @@ pub returns-then-other-len : goal.returns-then-other-len
 returns-then-other-len c =
     let count : c.len.result ≡ length c.args.self.now = c.len.ensures ∙ ap length c.self.view_is in
     let again : c.len-2.result ≡ length c.args.self.now = c.len-2.ensures ∙ ap length c.self.view_is in
-    sym (below_none _ _ (never_above c.args.self.now c.args.number c.args.other (subst AreClasses c.self.view_is c.self.invariant.0) (omega arith) (omega arith)))
+    sym (below_none _ _ (never_above c.args.self.now c.args.number c.args.other (subst AreClasses c.self.view_is c.self.invariant.known) (omega arith) (omega arith)))
