@@ -5,7 +5,9 @@ pub mod Locals
 pub mod Named
 pub mod Once
 pub mod OrderLaws
+pub mod OverrideTables
 pub mod Ranked
+pub mod ReachLaws
 pub mod RowLaws
 pub mod SpecificLaws
 pub mod Turned

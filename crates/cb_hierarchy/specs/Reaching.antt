@@ -93,7 +93,7 @@ entry_of methods None among = among
 entry_of methods (Some reached) among = Upwards reached.method (method_is methods (λ own. own.is_abstract) reached.method) reached.is_open
 
 -- the signature of a method
-abbrev signature_in : Option Method → ℕ
+abbrev pub signature_in : Option Method → ℕ
 signature_in None = 0
 signature_in (Some method) = method.declared.signature
 
