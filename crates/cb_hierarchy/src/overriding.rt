@@ -45,7 +45,7 @@ fn finals(alloc: Global, methods: &MethodTable) -> Result<Vec<Numbers>, OutOfMem
     Ok(lists)
 }
 
-/// Whether two classes are of one run-time package, or a method is seen in another one.
+/// Whether a method of a visibility can be overridden by methods of a class, where `holder` declares it (JVMS §5.4.5).
 fn is_seen(classes: &Classes, visibility: Visibility, holder: u32, class: u32) -> bool
     ensures { result ≡ is_seen classes.now visibility holder class }
 {

@@ -27,10 +27,10 @@ loop-number-preserved c =
     elim c.if-overrides_final.branch [
       | then-overrides_final+in_ok-add w ↦
           subst (AreOver classes methods (k + 1)) (sym w.marks-is)
-          (over_more classes methods rows c.in_ok-superclasses.ensures lists c.in_ok-lists.ensures.lists k w.method.result.now c.loop-number.marks w.add.new.self w.method.ensures (sym told ∙ w.if-overrides_final.true) w.in_ok-add.ensures.added c.loop-number.invariant)
+          (over_more classes methods rows c.in_ok-superclasses.ensures.marks lists c.in_ok-lists.ensures.lists k w.method.result.now c.loop-number.marks w.add.new.self w.method.ensures (sym told ∙ w.if-overrides_final.true) w.in_ok-add.ensures.added c.loop-number.invariant)
       | else-overrides_final w ↦
           subst (AreOver classes methods (k + 1)) (sym w.marks-is)
-          (over_same classes methods rows c.in_ok-superclasses.ensures lists c.in_ok-lists.ensures.lists k c.loop-number.marks (sym told ∙ w.if-overrides_final.false) c.loop-number.invariant)
+          (over_same classes methods rows c.in_ok-superclasses.ensures.marks lists c.in_ok-lists.ensures.lists k c.loop-number.marks (sym told ∙ w.if-overrides_final.false) c.loop-number.invariant)
     ]
 
 pub returns : goal.returns
