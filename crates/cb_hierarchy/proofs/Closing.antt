@@ -1,12 +1,15 @@
--- What is above a class, by rows that are closed under one class after another.
-use Rattle.std.proofs.Common.{◌≡◌, ℕ, zero, suc, ◌+◌, ◌<◌, ◌≢◌, ◌⊎◌, Bool, true, false, ◌||◌, ◌&&◌, ◌==◌, eqb, List, [], ◌∷◌, ◌++◌, length, get_or, refl, sym, ap, subst, ◌∙◌, inl, inr, arith}
-use Rattle.std.specs.List.{Contains, list_any}
-use Rattle.std.proofs.lemmas.Bool.{and_from, and_parts, cases_Bool, cases_eq, eq-eqb, eqb-true, false≢true, or_cases, or_left, or_right}
-use Rattle.std.proofs.lemmas.List.{get_or_append_left, get_or_push}
-use Rattle.std.proofs.lemmas.List.Elements.{Contains-append_right}
+-- What is above a class, by the parents of one number after another.
+use Rattle.std.proofs.Common.{◌≡◌, ℕ, zero, suc, ◌+◌, ◌<◌, ◌≤◌, ◌⊎◌, Bool, true, false, ◌||◌, ◌==◌, eqb, List, [], ◌∷◌, ◌++◌, length, take, get_or, refl, sym, ap, subst, ◌∙◌, inl, inr, arith}
+use Rattle.std.specs.List.{Contains, IsDistinct, flat_map, list_any}
+use Rattle.std.proofs.lemmas.Bool.{cases_Bool, cases_eq, cases_lt, eq-eqb, eqb-true, false≢true, or_left, or_right}
+use Rattle.std.proofs.lemmas.List.{append-nil, flat_map_more, get_or_append_left, get_or_past, get_or_push, length-append, take-append-le, take_all, take_more}
+use Rattle.std.proofs.lemmas.List.Elements.{Contains-append_cases, Contains-append_left, Contains-append_right, Contains-get_or}
+use Rattle.std.proofs.lemmas.Map.Steps.{length-le_from_distinct_below}
 use Rattle.cb_hierarchy.specs.Above.{Direct, IsAbove, Through}
-use Rattle.cb_hierarchy.specs.Inner.{list_at}
-use Rattle.cb_hierarchy.specs.Rows.{AreThrough, MarkAbove, MarkLists, marked}
+use Rattle.cb_hierarchy.specs.Inner.{AreDistinct, list_at}
+use Rattle.cb_hierarchy.specs.Orders.{distinct}
+use Rattle.cb_hierarchy.specs.Rows.{ListsAbove, MarkAbove, MarkLists}
+use Rattle.cb_hierarchy.proofs.Once.{any_distinct, distinct_is, distinct_later}
 
 -- one that passes a test
 pub any_found : (test : ℕ → Bool) (xs : List ℕ) → list_any test xs ≡ true → (x : ℕ) × Contains xs x × (test x ≡ true)
@@ -43,76 +46,133 @@ pub marks_along : (one other : ℕ → List ℕ) (rows : List (List Bool)) → (
 marks_along one other rows same marks class above =
     (λ is. above_along one other same class above ((marks class above).0 is), λ is. (marks class above).1 (above_along other one (λ class. sym (same class)) class above is))
 
--- rows that are closed under the classes below a number
-pub record AreClosed (parents : ℕ → List ℕ) (below : ℕ) (rows : List (List Bool)) : Type 0 where
-  pub direct : (class other : ℕ) → Contains (parents class) other → marked rows class other ≡ true
-  pub sound : (class other : ℕ) → marked rows class other ≡ true → IsAbove parents class other
-  pub through : (middle class other : ℕ) → middle < below → marked rows class middle ≡ true → marked rows middle other ≡ true → marked rows class other ≡ true
+-- above what is named, and a number that names another is there
+above_next : (parents : ℕ → List ℕ) (one two three : ℕ) → IsAbove parents one two → Contains (parents two) three → IsAbove parents one three
+above_next parents one two three above among = above_above parents one two three above (Direct two three among)
 
-pub closed_none : (lists : List (List ℕ)) (rows : List (List Bool)) → MarkLists lists rows → AreClosed (list_at lists) 0 rows
-closed_none lists rows marks = record {
-  direct = λ class other among. marks class other ∙ any_contains (list_at lists class) other among;
-  sound = λ class other is. Direct class other (contains_any (list_at lists class) other (sym (marks class other) ∙ is));
-  through = λ middle class other less one two. absurd (omega (arith, less));
+above_below : (parents : ℕ → List ℕ) (count : ℕ) → ((class parent : ℕ) → Contains (parents class) parent → parent < count) → (class other : ℕ) → IsAbove parents class other → other < count
+above_below parents count below class other (Direct from to among) = below class other among
+above_below parents count below class other (Through from parent to among rest) = above_below parents count below parent other rest
+
+-- the lists of several numbers
+flat_map_found : (f : ℕ → List ℕ) (ks : List ℕ) (n : ℕ) → Contains (flat_map f ks) n → (k : ℕ) × Contains ks k × Contains (f k) n
+flat_map_found f [] n among = absurd (omega (arith, among.1))
+flat_map_found f (k ∷ ks) n among = go (Contains-append_cases (f k) (flat_map f ks) n among) (flat_map_found f ks n) where
+  go : Contains (f k) n ⊎ Contains (flat_map f ks) n → (Contains (flat_map f ks) n → (k : ℕ) × Contains ks k × Contains (f k) n) → (k' : ℕ) × Contains (k ∷ ks) k' × Contains (f k') n
+  go (inl here) rest = (k, (0, omega arith, refl), here)
+  go (inr later) rest = let found = rest later in (found.0, Contains-append_right (k ∷ []) ks found.0 found.1, found.2)
+
+flat_map_holds : (f : ℕ → List ℕ) (ks : List ℕ) (k n : ℕ) → Contains ks k → Contains (f k) n → Contains (flat_map f ks) n
+flat_map_holds f [] k n among of = absurd (omega (arith, among.1))
+flat_map_holds f (x ∷ ks) k n (zero, within, is) of = Contains-append_left (f x) (flat_map f ks) n (subst (λ k. Contains (f k) n) (sym is) of)
+flat_map_holds f (x ∷ ks) k n (suc i, within, is) of = Contains-append_right (f x) (flat_map f ks) n (flat_map_holds f ks k n (i, omega (arith, within), is) of)
+
+-- what stands in a list without doubles
+once_found : (numbers taken : List ℕ) (n : ℕ) → numbers ≡ distinct taken → Contains numbers n → Contains taken n
+once_found numbers taken n once among =
+    contains_any taken n (sym (any_distinct n taken) ∙ ap (list_any (λ k. k == n)) (sym once) ∙ any_contains numbers n among)
+
+once_holds : (numbers taken : List ℕ) (n : ℕ) → numbers ≡ distinct taken → Contains taken n → Contains numbers n
+once_holds numbers taken n once among =
+    contains_any numbers n (ap (list_any (λ k. k == n)) once ∙ any_distinct n taken ∙ any_contains taken n among)
+
+-- numbers above a class, of which so many have given their parents
+pub record AreReached (parents : ℕ → List ℕ) (class next : ℕ) (numbers : List ℕ) (marks : List Bool) : Type 0 where
+  pub distinct : AreDistinct (parents class ++ flat_map parents (take next numbers)) numbers marks
+  pub sound : (n : ℕ) → Contains numbers n → IsAbove parents class n
+
+pub reached_none : (parents : ℕ → List ℕ) (class : ℕ) (numbers : List ℕ) (marks : List Bool) → AreDistinct (parents class) numbers marks → AreReached parents class 0 numbers marks
+reached_none parents class numbers marks are = record {
+  distinct = subst (λ (taken : List ℕ). AreDistinct taken numbers marks) (sym (append-nil (parents class))) are;
+  sound = λ n among. Direct class n (once_found numbers (parents class) n are.once among);
 }
 
-module _ (parents : ℕ → List ℕ) (k : ℕ) (rows rows' : List (List Bool)) (are : AreClosed parents k rows) (step : AreThrough k rows rows') where
-  kept : (class other : ℕ) → marked rows class other ≡ true → marked rows' class other ≡ true
-  kept class other is = step class other ∙ or_left (marked rows class other) (marked rows class k && marked rows k other) is
+-- the parents of one number more
+pub reached_more : (parents : ℕ → List ℕ) (class next number : ℕ) (numbers numbers' : List ℕ) (marks marks' : List Bool) → next < length numbers → number ≡ get_or numbers next 0 → AreReached parents class next numbers marks → AreDistinct (parents class ++ flat_map parents (take next numbers) ++ parents number) numbers' marks' → AreReached parents class (next + 1) numbers' marks'
+reached_more parents class next number numbers numbers' marks marks' within is are new =
+    let before = parents class ++ flat_map parents (take next numbers) in
+    let later = distinct_later before (parents number) in
+    let longer : numbers' ≡ numbers ++ later.0 = new.once ∙ later.1 ∙ ap (λ (list : List ℕ). list ++ later.0) (sym are.distinct.once) in
+    let front : take (next + 1) numbers' ≡ take next numbers ++ number ∷ [] =
+    ap (take (next + 1)) longer ∙ take-append-le (next + 1) numbers later.0 (omega arith) ∙ take_more numbers next 0 within ∙ ap (λ n. take next numbers ++ n ∷ []) (sym is) in
+    let here : Contains numbers number = subst (Contains numbers) (sym is) (Contains-get_or numbers next 0 within) in
+    record {
+      distinct = subst (λ (taken : List ℕ). AreDistinct taken numbers' marks') (flat_map_more parents (parents class) (take next numbers) number ∙ ap (λ (list : List ℕ). parents class ++ flat_map parents list) (sym front)) new;
+      sound = λ n among. elim (Contains-append_cases before (parents number) n (once_found numbers' (before ++ parents number) n new.once among)) [
+        | inl first ↦ are.sound n (once_holds numbers before n are.distinct.once first)
+        | inr last ↦ above_next parents class number n (are.sound number here) last
+      ];
+    }
 
-  reached : (class other : ℕ) → marked rows class k ≡ true → marked rows k other ≡ true → marked rows' class other ≡ true
-  reached class other one two = step class other ∙ or_right (marked rows class other) (marked rows class k && marked rows k other) (and_from (marked rows class k) (marked rows k other) one two)
+pub reached_longer : (parents : ℕ → List ℕ) (class next number : ℕ) (numbers numbers' : List ℕ) (marks marks' : List Bool) → AreReached parents class next numbers marks → AreDistinct (parents class ++ flat_map parents (take next numbers) ++ parents number) numbers' marks' → length numbers ≤ length numbers'
+reached_longer parents class next number numbers numbers' marks marks' are new =
+    let later = distinct_later (parents class ++ flat_map parents (take next numbers)) (parents number) in
+    let longer : numbers' ≡ numbers ++ later.0 = new.once ∙ later.1 ∙ ap (λ (list : List ℕ). list ++ later.0) (sym are.distinct.once) in
+    omega (arith, ap length longer, length-append numbers later.0)
 
-  cases : (class other : ℕ) → marked rows' class other ≡ true → (marked rows class other ≡ true) ⊎ ((marked rows class k ≡ true) × (marked rows k other ≡ true))
-  cases class other is =
-      elim (or_cases (marked rows class other) (marked rows class k && marked rows k other) (sym (step class other) ∙ is)) [
-        | inl before ↦ inl before
-        | inr by ↦ inr (and_parts (marked rows class k) (marked rows k other) by)
-      ]
+pub reached_below : (parents : ℕ → List ℕ) (class next count place : ℕ) (numbers : List ℕ) (marks : List Bool) → ((class parent : ℕ) → Contains (parents class) parent → parent < count) → AreReached parents class next numbers marks → place < length numbers → get_or numbers place 0 < count
+reached_below parents class next count place numbers marks below are within =
+    above_below parents count below class (get_or numbers place 0) (are.sound (get_or numbers place 0) (Contains-get_or numbers place 0 within))
 
-  to_middle : (class : ℕ) → marked rows' class k ≡ true → marked rows class k ≡ true
-  to_middle class is = elim (cases class k is) [ inl before ↦ before | inr by ↦ by.0 ]
+-- no more numbers than there are
+pub reached_few : (parents : ℕ → List ℕ) (class next count : ℕ) (numbers : List ℕ) (marks : List Bool) → ((class parent : ℕ) → Contains (parents class) parent → parent < count) → AreReached parents class next numbers marks → length numbers ≤ count
+reached_few parents class next count numbers marks below are =
+    length-le_from_distinct_below numbers count
+    (subst (IsDistinct eqb) (sym are.distinct.once) (distinct_is (parents class ++ flat_map parents (take next numbers))))
+    (λ q is. let found = any_found (eqb q) numbers is in subst (λ n. n < count) (sym (eqb-true q found.0 found.2)) (above_below parents count below class found.0 (are.sound found.0 found.1)))
 
-  from_middle : (other : ℕ) → marked rows' k other ≡ true → marked rows k other ≡ true
-  from_middle other is = elim (cases k other is) [ inl before ↦ before | inr by ↦ by.1 ]
+-- all of them
+module _ (parents : ℕ → List ℕ) (class : ℕ) (numbers : List ℕ) (once : numbers ≡ distinct (parents class ++ flat_map parents numbers)) where
+  first_held : (other : ℕ) → Contains (parents class) other → Contains numbers other
+  first_held other among = once_holds numbers (parents class ++ flat_map parents numbers) other once (Contains-append_left (parents class) (flat_map parents numbers) other among)
 
-  lower : (middle class other : ℕ) → middle < k → marked rows' class middle ≡ true → marked rows' middle other ≡ true → marked rows' class other ≡ true
-  lower middle class other less one two =
-      elim (cases class middle one) [
-        | inl before ↦ elim (cases middle other two) [
-          | inl next ↦ kept class other (are.through middle class other less before next)
-          | inr by ↦ reached class other (are.through middle class k less before by.0) by.1
-        ]
-        | inr by ↦ elim (cases middle other two) [
-          | inl next ↦ reached class other by.0 (are.through middle k other less by.1 next)
-          | inr again ↦ reached class other by.0 again.1
-        ]
-      ]
+  next_held : (k other : ℕ) → Contains numbers k → Contains (parents k) other → Contains numbers other
+  next_held k other here among =
+      once_holds numbers (parents class ++ flat_map parents numbers) other once (Contains-append_right (parents class) (flat_map parents numbers) other (flat_map_holds parents numbers k other here among))
 
-  pub closed_more : AreClosed parents (k + 1) rows'
-  closed_more = record {
-    direct = λ class other among. kept class other (are.direct class other among);
-    sound = λ class other is. elim (cases class other is) [
-      | inl before ↦ are.sound class other before
-      | inr by ↦ above_above parents class k other (are.sound class k by.0) (are.sound k other by.1)
-    ];
-    through = λ middle class other less one two. elim (cases_eq middle k) [
-      | inl same ↦ reached class other (to_middle class (subst (λ m. marked rows' class m ≡ true) same one)) (from_middle other (subst (λ m. marked rows' m other ≡ true) same two))
-      | inr apart ↦ lower middle class other (omega arith) one two
-    ];
-  }
+above_held : (parents : ℕ → List ℕ) (class : ℕ) (numbers : List ℕ) → numbers ≡ distinct (parents class ++ flat_map parents numbers) → (k other : ℕ) → Contains numbers k → IsAbove parents k other → Contains numbers other
+above_held parents class numbers once k other here (Direct from to among) = next_held parents class numbers once k other here among
+above_held parents class numbers once k other here (Through from parent to among rest) =
+    above_held parents class numbers once parent other (next_held parents class numbers once k parent here among) rest
 
--- closed under all of them
-all_through : (parents : ℕ → List ℕ) (count : ℕ) (rows : List (List Bool)) → ((class parent : ℕ) → Contains (parents class) parent → parent < count) → AreClosed parents count rows → (class other : ℕ) → IsAbove parents class other → marked rows class other ≡ true
-all_through parents count rows below are class other (Direct from parent among) = are.direct class other among
-all_through parents count rows below are class other (Through from parent to among rest) =
-    are.through parent class other (below class parent among) (are.direct class parent among) (all_through parents count rows below are parent other rest)
+all_held : (parents : ℕ → List ℕ) (class : ℕ) (numbers : List ℕ) → numbers ≡ distinct (parents class ++ flat_map parents numbers) → (other : ℕ) → IsAbove parents class other → Contains numbers other
+all_held parents class numbers once other (Direct from to among) = first_held parents class numbers once other among
+all_held parents class numbers once other (Through from parent to among rest) = above_held parents class numbers once parent other (first_held parents class numbers once parent among) rest
 
-pub closed_all : (parents : ℕ → List ℕ) (count : ℕ) (rows : List (List Bool)) → ((class parent : ℕ) → Contains (parents class) parent → parent < count) → AreClosed parents count rows → MarkAbove parents rows
-closed_all parents count rows below are class other = (are.sound class other, all_through parents count rows below are class other)
+pub reached_all : (parents : ℕ → List ℕ) (class next : ℕ) (numbers : List ℕ) (marks : List Bool) → length numbers ≤ next → AreReached parents class next numbers marks → ListsAbove parents class numbers
+reached_all parents class next numbers marks past are other =
+    let once : numbers ≡ distinct (parents class ++ flat_map parents numbers) = are.distinct.once ∙ ap (λ (list : List ℕ). distinct (parents class ++ flat_map parents list)) (take_all next numbers past) in
+    (are.sound other, all_held parents class numbers once other)
+
+-- what names another is there
+named_within : (lists : List (List ℕ)) (class parent : ℕ) → Contains (list_at lists class) parent → class < length lists
+named_within lists class parent among = elim (cases_lt class (length lists)) [
+  | inl within ↦ within
+  | inr past ↦ absurd (omega (arith, (subst (λ (list : List ℕ). Contains list parent) (get_or_past lists class [] past) among).1))
+]
+
+above_within : (lists : List (List ℕ)) (class other : ℕ) → IsAbove (list_at lists) class other → class < length lists
+above_within lists class other (Direct from to among) = named_within lists class other among
+above_within lists class other (Through from parent to among rest) = named_within lists class parent among
+
+module _ (lists above : List (List ℕ)) (as_many : length above ≡ length lists) (are : (class : ℕ) → class < length lists → ListsAbove (list_at lists) class (list_at above class)) where
+  pub lists_below : ((class number : ℕ) → Contains (list_at lists class) number → number < length lists) → (class number : ℕ) → Contains (list_at above class) number → number < length above
+  lists_below below class number among =
+      let within = named_within above class number among in
+      omega (arith, as_many, above_below (list_at lists) (length lists) below class number ((are class (omega (arith, as_many, within)) number).0 among))
+
+  -- rows that mark these lists
+  pub marks_above : (rows : List (List Bool)) → MarkLists above rows → MarkAbove (list_at lists) rows
+  marks_above rows marks class other = (
+    λ is.
+        let among = contains_any (list_at above class) other (sym (marks class other) ∙ is) in
+        let within = named_within above class other among in
+        (are class (omega (arith, as_many, within)) other).0 among,
+    λ is. marks class other ∙ any_contains (list_at above class) other ((are class (above_within lists class other is) other).1 is),
+  )
 
 -- a row more at the end
-pub row_more : (P : ℕ → List Bool → Type 0) (rows : List (List Bool)) (row : List Bool) (i : ℕ) → length rows ≡ i → ((class : ℕ) → class < i → P class (get_or rows class [])) → P i row → (class : ℕ) → class < i + 1 → P class (get_or (rows ++ row ∷ []) class [])
+pub row_more : {X : Type 0} (P : ℕ → List X → Type 0) (rows : List (List X)) (row : List X) (i : ℕ) → length rows ≡ i → ((class : ℕ) → class < i → P class (get_or rows class [])) → P i row → (class : ℕ) → class < i + 1 → P class (get_or (rows ++ row ∷ []) class [])
 row_more P rows row i as_many before last class less = elim (cases_eq class i) [
   | inl same ↦ subst (λ n. P n (get_or (rows ++ row ∷ []) n [])) (sym same) (subst (P i) (sym (get_or_push rows row [] i as_many)) last)
   | inr apart ↦ subst (P class) (sym (get_or_append_left rows (row ∷ []) [] class (omega arith))) (before class (omega arith))

@@ -33,10 +33,6 @@ has marks number = get_or marks number false
 abbrev pub MarksList : List ℕ → List Bool → Type 0
 MarksList numbers marks = (number : ℕ) → has marks number ≡ list_any (λ other. other == number) numbers
 
--- the marks of one row and of another
-abbrev pub AreJoined : List Bool → List Bool → List Bool → Type 0
-AreJoined one other marks = (number : ℕ) → has marks number ≡ (has one number || has other number)
-
 -- these marks, and that of one number more
 abbrev pub AreWith : List Bool → ℕ → List Bool → Type 0
 AreWith before added marks = (number : ℕ) → has marks number ≡ (has before number || (number == added))

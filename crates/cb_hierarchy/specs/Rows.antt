@@ -25,10 +25,9 @@ pub record AreSquare (count : ℕ) (rows : List (List Bool)) : Type 0 where
 abbrev pub MarkLists : List (List ℕ) → List (List Bool) → Type 0
 MarkLists lists rows = (class other : ℕ) → marked rows class other ≡ list_any (λ number. number == other) (list_at lists class)
 
--- the same rows, and what a class reaches in them through another one
-abbrev pub AreThrough : ℕ → List (List Bool) → List (List Bool) → Type 0
-AreThrough middle before rows =
-    (class other : ℕ) → marked rows class other ≡ (marked before class other || (marked before class middle && marked before middle other))
+-- a list has just what is above a class
+abbrev pub ListsAbove : (ℕ → List ℕ) → ℕ → List ℕ → Type 0
+ListsAbove parents class numbers = (other : ℕ) → Contains numbers other ↔ IsAbove parents class other
 
 -- each row marks what is above its class
 abbrev pub MarkAbove : (ℕ → List ℕ) → List (List Bool) → Type 0

@@ -1,11 +1,12 @@
 // What is above each class.
-ghost use Rattle.std.specs.Prelude.{◌≡◌, ◌^◌, ◌<◌, ◌||◌, ◌&&◌, ℕ, length, map, IfOk, OnOk, vec_len};
+ghost use Rattle.std.specs.Prelude.{◌≡◌, ◌^◌, ◌<◌, ℕ, length, map, IfOk, OnOk, vec_len};
 ghost use Rattle.std.specs.List.{Contains};
 ghost use Rattle.cb_hierarchy.specs.Classes.{AreClasses, parents, superclass};
-ghost use Rattle.cb_hierarchy.specs.Inner.{has, list_at};
-ghost use Rattle.cb_hierarchy.specs.Rows.{AreSquare, AreThrough, MarkAbove, MarkLists, how_many, marked};
+ghost use Rattle.cb_hierarchy.specs.Inner.{list_at};
+ghost use Rattle.cb_hierarchy.specs.Rows.{AreSquare, ListsAbove, MarkAbove, MarkLists, how_many, marked};
 
 use crate::Classes;
+use crate::distinct::Distinct;
 use crate::marks::Marks;
 use crate::parents::{parent_lists, superclass_lists};
 use cb_plain::{List, Numbers, OutOfMemory};
@@ -81,41 +82,33 @@ pub(crate) fn rows_of(alloc: Global, lists: &List<Numbers>) -> Result<Vec<Marks>
     Ok(rows)
 }
 
-/// Marks in a row what another row marks, where the first marks the class of the other.
-fn reach_through(row: &mut Marks, middle: u32, through: &Marks)
-    requires { length through.now ≡ length row.old }
-    ensures length { length row.new ≡ length row.old }
-    ensures marks { (other : ℕ) → has row.new other ≡ (has row.old other || (has row.old middle && has through.now other)) }
+/// What is above a class, where these are the lists of parents. Takes time in the parents of what is above it.
+fn reached(alloc: Global, lists: &List<Numbers>, class: u32) -> Result<Numbers, OutOfMemory>
+    requires class { class < length lists.now }
+    requires below { (class number : ℕ) → Contains (list_at lists.now class) number → number < length lists.now }
+    ensures { IfOk result (ListsAbove (list_at lists.now) class) }
 {
-    if row.has(middle) {
-        row.join(through);
+    let mut found = Distinct::new(alloc)?;
+    found.append(lists.get(class as usize).as_slice())?;
+    let mut next = 0;
+    while next < found.numbers.len() {
+        let parents = lists.get(*found.numbers.get(next) as usize);
+        found.append(parents.as_slice())?;
+        next += 1;
     }
+    Ok(found.numbers)
 }
 
-/// Marks in each row what its class reaches through one class.
-fn go_through(alloc: Global, rows: &mut Vec<Marks>, middle: u32) -> Result<(), OutOfMemory>
-    requires square { AreSquare (vec_len rows.old) rows.old.items }
-    requires middle { middle < vec_len rows.old }
-    ensures square { OnOk result (AreSquare (vec_len rows.old) rows.new.items) }
-    ensures through { OnOk result (AreThrough middle rows.old.items rows.new.items) }
-{
-    let through = rows[middle as usize].copy(alloc)?;
-    for i in 0..rows.len() {
-        reach_through(&mut rows[i], middle, &through);
-    }
-    Ok(())
-}
-
-/// A row for each list of parents, which marks what is above its class (Warshall 1962).
+/// A row for each list of parents, which marks what is above its class.
 fn closed(alloc: Global, lists: &List<Numbers>) -> Result<Vec<Marks>, OutOfMemory>
     requires few { length lists.now < 2 ^ 32 }
     requires below { (class number : ℕ) → Contains (list_at lists.now class) number → number < length lists.now }
     ensures square { IfOk result (λ rows. AreSquare (length lists.now) rows.items) }
     ensures marks { IfOk result (λ rows. MarkAbove (list_at lists.now) rows.items) }
 {
-    let mut rows = rows_of(alloc, lists)?;
-    for middle in 0..lists.len() as u32 {
-        go_through(alloc, &mut rows, middle)?;
+    let mut above = List::new(alloc);
+    for class in 0..lists.len() as u32 {
+        above.push(reached(alloc, lists, class)?)?;
     }
-    Ok(rows)
+    rows_of(alloc, &above)
 }

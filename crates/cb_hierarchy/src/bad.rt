@@ -68,8 +68,8 @@ fn is_bad(classes: &Classes, above: &Ancestors, overriding: &Marks, number: u32)
 
 /// The first class that can't be in a hierarchy: one that is above itself, whose superclass is an interface or final, one of
 /// whose superinterfaces is a class, or which overrides a final method (JVMS §5.3.5, §4.10). `OutOfMemory` where no memory was
-/// to be had. Takes time in the methods, times the final ones of their signatures, and in the cube of the number of classes at
-/// the worst, where each is above nearly half of the others.
+/// to be had. Takes time in the methods, times the final ones of their signatures, and for each class in the parents of what is
+/// above it, and memory in the square of the number of classes.
 pub fn first_bad(
     alloc: Global,
     classes: &Classes,

@@ -41,7 +41,7 @@ impl Model for Hierarchy {
 
 impl Hierarchy {
     /// The hierarchy of classes. `OutOfMemory` where no memory was to be had. Takes time and memory in the square of the number
-    /// of classes, and time in its cube at the worst, where each class is above nearly half of the others.
+    /// of classes, and for each class in the parents of what is above it.
     pub fn of(alloc: Global, classes: Classes) -> Result<Self, OutOfMemory>
         requires classes { AreClasses classes }
         requires acyclic { IsAcyclic classes }

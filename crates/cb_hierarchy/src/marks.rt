@@ -1,7 +1,7 @@
 // Sets of numbers.
 ghost use Rattle.std.specs.Prelude.{◌≡◌, ◌<◌, ℕ, false, true, length, replicate, slice_set, count_by, IfOk, OnOk};
 ghost use Rattle.std.specs.List.{Contains};
-ghost use Rattle.cb_hierarchy.specs.Inner.{AreJoined, AreWith, MarksList, has};
+ghost use Rattle.cb_hierarchy.specs.Inner.{AreWith, MarksList, has};
 
 use cb_plain::OutOfMemory;
 use std::alloc::Global;
@@ -40,14 +40,6 @@ impl Marks {
             marks.add(*number)?;
         }
         Ok(marks)
-    }
-
-    /// The same marks once more.
-    pub(crate) fn copy(&self, alloc: Global) -> Result<Self, OutOfMemory>
-        ensures { IfOk result (λ marks. marks ≡ self.now) }
-    {
-        let marks = Vec::from_slice(alloc, self.marks.as_slice())?;
-        Ok(Marks { marks })
     }
 
     /// How many marks there are.
@@ -92,18 +84,5 @@ impl Marks {
         }
         self.marks[number as usize] = true;
         Ok(())
-    }
-
-    /// Marks what others of the same length mark.
-    pub(crate) fn join(&mut self, other: &Marks)
-        requires { length other.now ≡ length self.old }
-        ensures length { length self.new ≡ length self.old }
-        ensures joined { AreJoined self.old other.now self.new }
-    {
-        for (i, mark) in other.marks.iter().enumerate() {
-            if *mark {
-                self.marks[i] = true;
-            }
-        }
     }
 }

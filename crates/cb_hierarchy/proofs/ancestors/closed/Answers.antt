@@ -1,22 +1,40 @@
-use Rattle.std.proofs.Common.{◌≡◌, ℕ, ◌<◌, List, length, sym, subst, ap, ◌∙◌, arith}
-use Rattle.cb_hierarchy.proofs.Closing.{AreClosed, closed_all, closed_more, closed_none}
+use Rattle.std.proofs.Common.{◌≡◌, ℕ, ◌+◌, ◌<◌, ◌++◌, ◌∷◌, Bool, List, [], length, get_or, sym, subst, ap, ◌∙◌, arith}
+use Rattle.std.specs.List.{Contains}
+use Rattle.std.proofs.lemmas.List.{length_push}
+use Rattle.std.proofs.lemmas.Result.{IfOk-weaker}
 use Rattle.cb_hierarchy.specs.Inner.{list_at}
-use Rattle.cb_hierarchy.specs.Rows.{AreSquare}
+use Rattle.cb_hierarchy.specs.Rows.{AreSquare, ListsAbove, MarkAbove, MarkLists}
+use Rattle.cb_hierarchy.proofs.Closing.{lists_below, marks_above, row_more}
 use Rattle.cb_hierarchy.proofs.ancestors.closed.Goals as goal
 
-pub loop-middle-init : goal.loop-middle-init
-loop-middle-init c =
-    record { square = c.in_ok-rows.ensures.square c.requires.below; closed = closed_none c.args.lists.now c.in_ok-rows.rows.items c.in_ok-rows.ensures.marks }
-
-pub loop-middle-preserved : goal.loop-middle-preserved
-loop-middle-preserved c =
-    let same : c.loop-middle.rows.len ≡ length c.args.lists.now = omega (arith, c.loop-middle.rows.ok.0, c.loop-middle.invariant.square.as_many) in
+pub loop-class-preserved : goal.loop-class-preserved
+loop-class-preserved c =
+    let lists = c.args.lists.now in
+    let class = c.loop-class.class in
+    let above = c.loop-class.above in
+    let list = c.in_ok-reached.field-0 in
     record {
-      square = subst (λ n. AreSquare n c.go_through.new.rows.items) same c.in_ok-go_through.ensures.square;
-      closed = closed_more (list_at c.args.lists.now) c.loop-middle.middle c.loop-middle.rows.items c.go_through.new.rows.items c.loop-middle.invariant.closed c.in_ok-go_through.ensures.through;
+      as_many = ap length c.in_ok-push.ensures.ok ∙ length_push above list ∙ ap (λ n. n + 1) c.loop-class.invariant.as_many;
+      lists = subst (λ (above : List (List ℕ)). (k : ℕ) → k < class + 1 → ListsAbove (list_at lists) k (list_at above k)) (sym c.in_ok-push.ensures.ok)
+          (row_more (ListsAbove (list_at lists)) above list class c.loop-class.invariant.as_many c.loop-class.invariant.lists c.in_ok-reached.ensures);
     }
+
+pub returns-clause-square : goal.returns-clause-square
+returns-clause-square c =
+    let lists = c.args.lists.now in
+    let above = c.loop-class.above in
+    let all : c.loop-class.class ≡ length lists = omega arith in
+    let as_many : length above ≡ length lists = c.loop-class.invariant.as_many ∙ all in
+    let are = subst (λ n. (k : ℕ) → k < n → ListsAbove (list_at lists) k (list_at above k)) all c.loop-class.invariant.lists in
+    IfOk-weaker c.rows_of.result (λ (rows : _). ((class number : ℕ) → Contains (list_at above class) number → number < length above) → AreSquare (length above) rows.items) (λ (rows : _). AreSquare (length lists) rows.items)
+    (λ rows square. subst (λ n. AreSquare n rows.items) as_many (square (lists_below lists above as_many are c.requires.below))) c.rows_of.ensures.square
 
 pub returns-clause-marks : goal.returns-clause-marks
 returns-clause-marks c =
-    let all : c.loop-middle.middle ≡ length c.args.lists.now = omega arith in
-    closed_all (list_at c.args.lists.now) (length c.args.lists.now) c.loop-middle.rows.items c.requires.below (subst (λ n. AreClosed (list_at c.args.lists.now) n c.loop-middle.rows.items) all c.loop-middle.invariant.closed)
+    let lists = c.args.lists.now in
+    let above = c.loop-class.above in
+    let all : c.loop-class.class ≡ length lists = omega arith in
+    let as_many : length above ≡ length lists = c.loop-class.invariant.as_many ∙ all in
+    let are = subst (λ n. (k : ℕ) → k < n → ListsAbove (list_at lists) k (list_at above k)) all c.loop-class.invariant.lists in
+    IfOk-weaker c.rows_of.result (λ (rows : _). MarkLists above rows.items) (λ (rows : _). MarkAbove (list_at lists) rows.items)
+    (λ rows marks. marks_above lists above as_many are rows.items marks) c.rows_of.ensures.marks
