@@ -1,5 +1,6 @@
 pub mod Closing
 pub mod IndexLaws
+pub mod LayoutLaws
 pub mod Locals
 pub mod Named
 pub mod Once
