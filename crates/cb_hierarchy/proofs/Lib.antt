@@ -1,5 +1,6 @@
 pub mod Closing
 pub mod IndexLaws
+pub mod InitialLaws
 pub mod LayoutLaws
 pub mod Locals
 pub mod Named

@@ -1,5 +1,6 @@
 pub mod Above
 pub mod Bad
+pub mod Beginning
 pub mod Classes
 pub mod Initial
 pub mod Indexed
