@@ -1,30 +1,32 @@
 -- What is above a class, by rows that are closed under one class after another.
 use Rattle.std.proofs.Common.{◌≡◌, ℕ, zero, suc, ◌+◌, ◌<◌, ◌≢◌, ◌⊎◌, Bool, true, false, ◌||◌, ◌&&◌, ◌==◌, eqb, List, [], ◌∷◌, ◌++◌, length, get_or, refl, sym, ap, subst, ◌∙◌, inl, inr, arith}
 use Rattle.std.specs.List.{Contains, list_any}
-use Rattle.std.proofs.lemmas.Bool.{and_from, and_parts, cases_eq, false≢true, or_cases, or_left, or_right}
-use Rattle.std.proofs.lemmas.Bool.Decides.{eqb_tells}
+use Rattle.std.proofs.lemmas.Bool.{and_from, and_parts, cases_Bool, cases_eq, eq-eqb, eqb-true, false≢true, or_cases, or_left, or_right}
 use Rattle.std.proofs.lemmas.List.{get_or_append_left, get_or_push}
 use Rattle.std.proofs.lemmas.List.Elements.{Contains-append_right}
 use Rattle.cb_hierarchy.specs.Above.{Direct, IsAbove, Through}
 use Rattle.cb_hierarchy.specs.Inner.{list_at}
 use Rattle.cb_hierarchy.specs.Rows.{AreThrough, MarkAbove, MarkLists, marked}
 
+-- one that passes a test
+pub any_found : (test : ℕ → Bool) (xs : List ℕ) → list_any test xs ≡ true → (x : ℕ) × Contains xs x × (test x ≡ true)
+any_found test [] is = absurd (false≢true is)
+any_found test (y ∷ ys) is = go (cases_Bool (test y)) (any_found test ys) where
+  go : (test y ≡ true) ⊎ (test y ≡ false) → (list_any test ys ≡ true → (x : ℕ) × Contains ys x × (test x ≡ true)) → (x : ℕ) × Contains (y ∷ ys) x × (test x ≡ true)
+  go (inl here) rest = (y, (0, omega arith, refl), here)
+  go (inr not_here) rest = let found = rest (sym (ap (λ b. b || list_any test ys) not_here) ∙ is) in (found.0, Contains-append_right (y ∷ []) ys found.0 found.1, found.2)
+
+pub any_here : (test : ℕ → Bool) (xs : List ℕ) (x : ℕ) → Contains xs x → test x ≡ true → list_any test xs ≡ true
+any_here test [] x among is = absurd (omega (arith, among.1))
+any_here test (y ∷ ys) x (zero, within, here) is = or_left (test y) (list_any test ys) (ap test here ∙ is)
+any_here test (y ∷ ys) x (suc k, within, here) is = or_right (test y) (list_any test ys) (any_here test ys x (k, omega (arith, within), here) is)
+
 -- membership, by a test
 pub contains_any : (xs : List ℕ) (x : ℕ) → list_any (λ n. n == x) xs ≡ true → Contains xs x
-contains_any [] x is = absurd (false≢true is)
-contains_any (y ∷ ys) x is = go (or_cases (eqb y x) (list_any (λ n. n == x) ys) is) (contains_any ys x) (eqb_tells y x) where
-  go : (eqb y x ≡ true) ⊎ (list_any (λ n. n == x) ys ≡ true) → (list_any (λ n. n == x) ys ≡ true → Contains ys x) → ((eqb y x ≡ true) × (y ≡ x)) ⊎ ((eqb y x ≡ false) × (y ≢ x)) → Contains (y ∷ ys) x
-  go found rest (inl here) = (0, omega arith, here.1)
-  go (inl at) rest (inr here) = absurd (false≢true (sym here.0 ∙ at))
-  go (inr later) rest (inr here) = Contains-append_right (y ∷ []) ys x (rest later)
+contains_any xs x is = let found = any_found (λ n. n == x) xs is in subst (Contains xs) (eqb-true found.0 x found.2) found.1
 
 pub any_contains : (xs : List ℕ) (x : ℕ) → Contains xs x → list_any (λ n. n == x) xs ≡ true
-any_contains [] x among = absurd (omega (arith, among.1))
-any_contains (y ∷ ys) x (zero, within, is) = or_left (eqb y x) (list_any (λ n. n == x) ys) (go (eqb_tells y x)) where
-  go : ((eqb y x ≡ true) × (y ≡ x)) ⊎ ((eqb y x ≡ false) × (y ≢ x)) → eqb y x ≡ true
-  go (inl here) = here.0
-  go (inr here) = absurd (here.1 is)
-any_contains (y ∷ ys) x (suc k, within, is) = or_right (eqb y x) (list_any (λ n. n == x) ys) (any_contains ys x (k, omega (arith, within), is))
+any_contains xs x among = any_here (λ n. n == x) xs x among (eq-eqb x x refl)
 
 -- above what is above
 above_above : (parents : ℕ → List ℕ) (one two three : ℕ) → IsAbove parents one two → IsAbove parents two three → IsAbove parents one three

@@ -41,7 +41,8 @@ impl Ancestors {
     /// The superclasses of each class.
     pub(crate) fn of_superclasses(alloc: Global, classes: &Classes) -> Result<Self, OutOfMemory>
         requires { AreClasses classes.now }
-        ensures { IfOk result (λ ancestors. MarkAbove (superclass classes.now) ancestors) }
+        ensures square { IfOk result (λ ancestors. AreSquare (length classes.now) ancestors) }
+        ensures marks { IfOk result (λ ancestors. MarkAbove (superclass classes.now) ancestors) }
     {
         let lists = superclass_lists(alloc, classes)?;
         let rows = closed(alloc, &lists)?;

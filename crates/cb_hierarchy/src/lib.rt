@@ -18,6 +18,7 @@ mod layout;
 mod marks;
 mod member;
 mod orders;
+mod overriding;
 mod parents;
 mod parents_first;
 mod reach;

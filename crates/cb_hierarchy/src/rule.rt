@@ -35,7 +35,7 @@ pub(crate) fn append(list: &mut Numbers, more: &[u32]) -> Result<(), OutOfMemory
 }
 
 /// So many lists without numbers.
-fn empty_lists(alloc: Global, count: usize) -> Result<Vec<Numbers>, OutOfMemory>
+pub(crate) fn empty_lists(alloc: Global, count: usize) -> Result<Vec<Numbers>, OutOfMemory>
     ensures { IfOk result (λ lists. lists.items ≡ replicate count []) }
 {
     let mut lists = Vec::new(alloc);

@@ -10,7 +10,7 @@ pub closed-requires-clause-below : goal.closed-requires-clause-below
 closed-requires-clause-below c =
     subst (λ (lists : List (List ℕ)). (class number : ℕ) → Contains (list_at lists class) number → number < length lists) (sym c.in_ok-lists.ensures) (superclass_named_below c.args.classes.now c.requires)
 
-pub returns : goal.returns
-returns c =
+pub returns-clause-marks : goal.returns-clause-marks
+returns-clause-marks c =
     marks_along (list_at c.in_ok-lists.lists) (superclass c.args.classes.now) c.in_ok-rows.rows.items
     (λ class. ap (λ (lists : List (List ℕ)). list_at lists class) c.in_ok-lists.ensures ∙ at_superclass_named c.args.classes.now class) c.in_ok-rows.ensures.marks
