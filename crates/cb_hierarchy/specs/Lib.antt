@@ -3,6 +3,7 @@ pub mod Bad
 pub mod Beginning
 pub mod Classes
 pub mod Initial
+pub mod Examples
 pub mod Finals
 pub mod Indexed
 pub mod Inner
