@@ -1,6 +1,8 @@
 pub mod Badly
 pub mod Closing
 pub mod IndexLaws
+pub mod InitialLaws
+pub mod LayoutLaws
 pub mod Locals
 pub mod Named
 pub mod Once

@@ -1,7 +1,9 @@
 pub mod Above
 pub mod Bad
+pub mod Beginning
 pub mod Classes
 pub mod Initial
+pub mod Examples
 pub mod Finals
 pub mod Indexed
 pub mod Inner

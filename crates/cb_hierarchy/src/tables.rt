@@ -150,6 +150,13 @@ impl FieldTable {
         self.fields.get(number as usize)
     }
 
+    /// How many fields there are.
+    pub(crate) fn count(&self) -> u32
+        ensures { result ≡ length self.now }
+    {
+        self.fields.len() as u32
+    }
+
     /// The number of the first field of a signature that a class declares, in constant expected time.
     pub fn declared(&self, class: u32, signature: u32) -> Option<u32>
         ensures { result ≡ field_of self.now class signature }
