@@ -1,3 +1,4 @@
+pub mod AmongLaws
 pub mod Badly
 pub mod Closing
 pub mod IndexLaws

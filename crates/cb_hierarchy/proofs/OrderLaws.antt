@@ -13,11 +13,11 @@ use Rattle.cb_hierarchy.specs.Orders.{distinct, in_turns, is_subclass, lookup_or
 neither : (a b : Bool) → a ≡ false → b ≡ false → (a || b) ≡ false
 neither a b is also = ap₂ (λ a b. a || b) is also
 
-first_not : (a b : Bool) → (a || b) ≡ false → a ≡ false
+pub first_not : (a b : Bool) → (a || b) ≡ false → a ≡ false
 first_not true b is = is
 first_not false b is = refl
 
-second_not : (a b : Bool) → (a || b) ≡ false → b ≡ false
+pub second_not : (a b : Bool) → (a || b) ≡ false → b ≡ false
 second_not true b is = absurd (true≢false is)
 second_not false b is = is
 

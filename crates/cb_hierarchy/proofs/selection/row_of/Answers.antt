@@ -2,8 +2,11 @@ use Rattle.std.proofs.Common.{◌≡◌, ◌∙◌, ◌+◌, ◌++◌, ◌∷◌
 use Rattle.std.proofs.lemmas.List.{length_push}
 use Rattle.std.proofs.lemmas.Option.{get_or_from_slice_get}
 use Rattle.cb_hierarchy.specs.Members.{method_of}
-use Rattle.cb_hierarchy.specs.Reaching.{AreFirst, entry_among, entry_by, entry_of, reach_own, reached_at}
+use Rattle.cb_hierarchy.specs.Reaching.{AreFirst, among_if, entry_among, entry_by, entry_of, reach_own, reached_at}
 use Rattle.cb_hierarchy.specs.Resolution.{most_specific}
+use Rattle.std.specs.Prelude.{unwrap_or}
+use Rattle.cb_hierarchy.specs.declared.entry.Entry.TheVariants.{Absent}
+use Rattle.cb_hierarchy.proofs.AmongLaws.{unwrapped}
 use Rattle.cb_hierarchy.proofs.RowLaws.{pushed}
 use Rattle.cb_hierarchy.proofs.selection.row_of.Goals as goal
 
@@ -14,8 +17,10 @@ loop-resolved-preserved c =
     let class = c.args.class in
     let resolved = c.loop-resolved.resolved in
     let signature = c.signature-signature.result in
-    let among : c.index.result.now ≡ entry_among (most_specific classes methods class signature) =
-    c.index.ensures ∙ get_or_from_slice_get c.in_ok-among.among.items signature _ c.index.result.now (c.in_ok-among.ensures.each signature c.signature-signature.ensures.small) in
+    let cell : c.index.result.now ≡ among_if classes methods class methods signature =
+    c.index.ensures ∙ get_or_from_slice_get c.in_ok-among.among.items signature _ c.index.result.now (c.in_ok-among.ensures signature c.signature-signature.ensures.small) in
+    let among : c.unwrap_or.result ≡ entry_among (most_specific classes methods class signature) =
+    c.unwrap_or.ensures ∙ ap (λ found. unwrap_or found Absent) cell ∙ unwrapped classes methods class signature in
     let reached : c.reach_own-reached.result ≡ reach_own classes methods resolved (method_of methods class signature) (reached_at c.args.rows.now c.args.superclass resolved) =
     c.reach_own-reached.ensures ∙ ap₂ (reach_own classes methods resolved) c.declared-own.ensures c.reached_at-above.ensures in
     let entry : c.entry_of.result ≡ entry_by classes methods c.args.rows.now c.args.superclass class resolved =
