@@ -21,7 +21,7 @@ use Rattle.cb_hierarchy.specs.Resolution.{all_superinterfaces, is_inherited, met
 use Rattle.cb_hierarchy.proofs.OrderLaws.{first_not, second_not}
 use Rattle.cb_hierarchy.proofs.RowLaws.{slice_get_other, slice_get_same, there}
 
-apart_test : (a b : ℕ) → a ≢ b → (a == b) ≡ false
+pub apart_test : (a b : ℕ) → a ≢ b → (a == b) ≡ false
 apart_test a b apart = grind (arith, nat_tests)
 
 either_false : (a : Bool) → (a || false) ≡ a

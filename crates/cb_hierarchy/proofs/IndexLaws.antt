@@ -37,11 +37,11 @@ place_of-push members member class signature n is =
 same : (one other : Declared) → same_member one other ≡ true → one ≡ other
 same one other is = λ i. record { class = eqb-true one.class other.class (first_so _ _ is) i; signature = eqb-true one.signature other.signature (second_so _ _ is) i }
 
-or_none : {X : Type 0} (found : Option X) → option_or found None ≡ found
+pub or_none : {X : Type 0} (found : Option X) → option_or found None ≡ found
 or_none None = refl
 or_none (Some item) = refl
 
-or_some : {X : Type 0} (found other : Option X) → is_some found ≡ true → option_or found other ≡ found
+pub or_some : {X : Type 0} (found other : Option X) → is_some found ≡ true → option_or found other ≡ found
 or_some None other is = absurd (true≢false (sym is))
 or_some (Some item) other is = refl
 

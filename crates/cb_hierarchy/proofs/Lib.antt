@@ -9,6 +9,7 @@ pub mod Named
 pub mod Once
 pub mod OrderLaws
 pub mod OverrideTables
+pub mod OwnLaws
 pub mod Ranked
 pub mod ReachLaws
 pub mod RowLaws
