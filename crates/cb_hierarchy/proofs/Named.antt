@@ -28,6 +28,10 @@ module _ (classes : List Class) (number : ℕ) (class : Class) (is : slice_get c
   superclass_among parent some =
       Contains-append_left (superclass classes number) (superinterfaces classes number) parent (subst (λ list. Contains list parent) (sym (one_superclass parent some)) (0, omega arith, refl))
 
+  pub superclass_below : (parent : ℕ) → Contains (superclass_named class) parent → Contains (parents classes number) parent
+  superclass_below parent among =
+      Contains-append_left (superclass classes number) (superinterfaces classes number) parent (subst (λ list. Contains list parent) (sym superclass_is) among)
+
   pub superinterface_among : (parent : ℕ) → Contains class.interfaces parent → Contains (parents classes number) parent
   superinterface_among parent among =
       Contains-append_right (superclass classes number) (superinterfaces classes number) parent (subst (λ list. Contains list parent) (sym superinterfaces_are) among)

@@ -4,10 +4,11 @@ ghost use Rattle.std.specs.List.{Contains, flat_map};
 ghost use Rattle.cb_hierarchy.specs.Classes.{AreClasses};
 ghost use Rattle.cb_hierarchy.specs.Inner.{AreDistinct, list_at};
 ghost use Rattle.cb_hierarchy.specs.Orders.{lookup_order_by, upwards_by};
+ghost use Rattle.cb_hierarchy.specs.Rows.{superclass_named};
 
-use crate::Classes;
 use crate::distinct::Distinct;
 use crate::rule::{Rule, append};
+use crate::{Class, Classes};
 use cb_plain::{Numbers, OutOfMemory};
 use std::alloc::Global;
 
@@ -49,6 +50,22 @@ pub(crate) fn append_lists(
     Ok(())
 }
 
+/// Adds the list of the superclass of a class, if it has one.
+fn append_superclass(
+    found: &mut Distinct,
+    class: &Class,
+    lists: &[Numbers],
+) -> Result<(), OutOfMemory>
+    requires { (number : ℕ) → Contains (superclass_named class.now) number → number < length lists.now }
+    ensures { (taken : List ℕ) → AreDistinct taken found.old.numbers found.old.marks
+        → OnOk result (AreDistinct (taken ++ flat_map (list_at lists.now) (superclass_named class.now)) found.new.numbers found.new.marks) }
+{
+    if let Some(parent) = class.superclass {
+        found.append(lists[parent as usize].as_slice())?;
+    }
+    Ok(())
+}
+
 /// A class, the lists of its superinterfaces, and that of its superclass, each number once.
 #[derive(Clone, Copy, Debug)]
 pub(crate) struct Lookup<'a> {
@@ -65,9 +82,7 @@ impl<'a> Rule for Lookup<'a> {
         found.push(number)?;
         let class = self.classes.get(number as usize);
         append_lists(&mut found, class.interfaces.as_slice(), lists)?;
-        if let Some(parent) = class.superclass {
-            found.append(lists[parent as usize].as_slice())?;
-        }
+        append_superclass(&mut found, class, lists)?;
         Ok(found.numbers)
     }
 }
