@@ -25,6 +25,8 @@ mod parents_first;
 mod reach;
 mod resolution;
 mod rule;
+#[cfg(test)]
+mod samples;
 mod selected;
 mod selection;
 mod specific;
