@@ -1,5 +1,5 @@
 -- What the superinterfaces of a class have, method by method.
-use Rattle.std.proofs.Common.{◌≡◌, ◌≢◌, ◌∙◌, ◌⊎◌, inl, inr, ap, ap₂, arith, eq-eqb, refl, subst, sym, true≢false, zero, suc, ℕ, Bool, true, false, cond, not, ◌+◌, ◌<◌, ◌&&◌, ◌||◌, ◌==◌, List, [], ◌∷◌, ◌++◌, drop, filter, length, map, set, take, get_or, get_or-set_same, length-set, Option, Some, None}
+use Rattle.std.proofs.Common.{◌≡◌, ◌≢◌, ◌∙◌, inl, inr, ap, ap₂, arith, eq-eqb, refl, subst, sym, true≢false, ℕ, Bool, true, false, cond, not, ◌+◌, ◌<◌, ◌&&◌, ◌||◌, ◌==◌, List, [], ◌∷◌, ◌++◌, drop, filter, length, map, set, take, get_or, Option, Some, None}
 use Rattle.std.specs.Prelude.{is_some, slice_get, unwrap_or}
 use Rattle.std.specs.List.{flat_map, list_any, position_from}
 use Rattle.std.proofs.lemmas.Bool.{cases_eq, eqb-true}
@@ -7,7 +7,7 @@ use Rattle.std.proofs.lemmas.Bool.Decides.{nat_tests}
 use Rattle.std.proofs.lemmas.Iterator.Adapters.{position_from-zero}
 use Rattle.std.proofs.lemmas.List.{take_more}
 use Rattle.std.proofs.lemmas.List.Folds.{list_any-append}
-use Rattle.std.proofs.lemmas.Option.{get_or_from_slice_get, slice_get-get_or, slice_get_within}
+use Rattle.std.proofs.lemmas.Option.{get_or_from_slice_get, slice_get_within}
 use Rattle.cb_hierarchy.specs.declared.class.Class.{Class}
 use Rattle.cb_hierarchy.specs.declared.entry.Entry.{Entry}
 use Rattle.cb_hierarchy.specs.declared.entry.Entry.TheVariants.{Absent}
@@ -17,7 +17,7 @@ use Rattle.cb_hierarchy.specs.Classes.{is_interface, listed}
 use Rattle.cb_hierarchy.specs.Members.{method_of}
 use Rattle.cb_hierarchy.specs.Orders.{is_subclass, lookup_order}
 use Rattle.cb_hierarchy.specs.Reaching.{AreFirst, above_class, among_if, entry_among, is_above, is_declared_above, signature_in, signature_of}
-use Rattle.cb_hierarchy.specs.Resolution.{all_superinterfaces, is_inherited, method_is, most_specific, most_specific_of, superinterface_methods}
+use Rattle.cb_hierarchy.specs.Resolution.{is_inherited, method_is, most_specific, most_specific_of, superinterface_methods}
 use Rattle.cb_hierarchy.proofs.OrderLaws.{first_not, second_not}
 use Rattle.cb_hierarchy.proofs.RowLaws.{slice_get_other, slice_get_same, there}
 

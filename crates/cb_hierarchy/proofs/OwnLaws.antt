@@ -1,5 +1,5 @@
 -- The methods that a class declares, method by method.
-use Rattle.std.proofs.Common.{◌≡◌, ◌≢◌, ◌∙◌, ◌⊎◌, inl, inr, ap, ap₂, arith, eq-eqb, refl, subst, sym, true≢false, ℕ, Bool, true, false, cond, ◌+◌, ◌<◌, ◌&&◌, ◌==◌, List, length, map, set, take, get_or, Option, Some, None}
+use Rattle.std.proofs.Common.{◌≡◌, ◌∙◌, inl, inr, ap, ap₂, arith, eq-eqb, refl, subst, sym, true≢false, ℕ, Bool, true, false, cond, ◌+◌, ◌<◌, ◌&&◌, ◌==◌, List, length, map, set, take, get_or, Option, Some, None}
 use Rattle.std.specs.Option.{option_or}
 use Rattle.std.specs.Prelude.{is_some, slice_get}
 use Rattle.std.proofs.lemmas.Bool.{cases_eq}

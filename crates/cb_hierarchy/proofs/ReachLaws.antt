@@ -1,10 +1,10 @@
 -- What is reached upwards is what overrides.
-use Rattle.std.proofs.Common.{◌≡◌, ◌≢◌, ◌∙◌, ◌⊎◌, inl, inr, ap, ap₂, arith, refl, subst, sym, true≢false, suc, zero, ◌≤◌, get_or, get_or-set_same, length-set, map, set, take, ◌+◌, ℕ, Bool, true, false, cond, not, ◌<◌, ◌&&◌, ◌||◌, ◌==◌, List, [], ◌∷◌, ◌++◌, length, Option, Some, None, option_map}
-use Rattle.std.specs.Prelude.{filter, is_some, option_and_then, slice_get}
+use Rattle.std.proofs.Common.{◌≡◌, ◌≢◌, ◌∙◌, inl, inr, ap, ap₂, arith, refl, subst, sym, ◌≤◌, get_or, map, set, take, ◌+◌, ℕ, Bool, true, false, cond, not, ◌<◌, ◌&&◌, ◌||◌, ◌==◌, List, [], ◌∷◌, ◌++◌, length, Option, Some, None, option_map}
+use Rattle.std.specs.Prelude.{filter, option_and_then, slice_get}
 use Rattle.std.proofs.lemmas.Bool.{cases_eq, eqb-true}
 use Rattle.std.proofs.lemmas.List.{append-nil, get_or_default, take_all, take_more}
 use Rattle.std.proofs.lemmas.List.Elements.{Contains-append_left, Contains-push_cases, filter-append}
-use Rattle.std.proofs.lemmas.Option.{get_or_from_slice_get, slice_get-get_or, slice_get-map, slice_get_within}
+use Rattle.std.proofs.lemmas.Option.{slice_get-get_or, slice_get-map, slice_get_within}
 use Rattle.cb_hierarchy.specs.declared.class.Class.{Class}
 use Rattle.std.specs.Prelude.{Vec}
 use Rattle.std.specs.List.{Contains, flat_map}
@@ -17,10 +17,10 @@ use Rattle.cb_hierarchy.specs.declared.selected.Selected.TheVariants as chosen
 use Rattle.cb_hierarchy.specs.Classes.{is_interface, listed, parents, superclass, superinterfaces}
 use Rattle.cb_hierarchy.specs.Inner.{IsParentsFirst}
 use Rattle.cb_hierarchy.specs.Members.{method_of}
-use Rattle.cb_hierarchy.specs.Orders.{in_turns, upwards, upwards_by}
+use Rattle.cb_hierarchy.specs.Orders.{upwards, upwards_by}
 use Rattle.cb_hierarchy.specs.Reaching.{IsMade, IsRowBy, can_override, entry_by, entry_in, entry_among, entry_for, entry_of, entry_selected, is_of_interface, opens, reach, reach_class, reach_interface, reach_more, reach_own, reached_at, reached_in, signature_in, signature_of}
 use Rattle.cb_hierarchy.specs.Resolution.{is_private, method_is, most_specific}
-use Rattle.cb_hierarchy.specs.Selection.{declared_upwards, entry_at, first_or, found, found_among, implementing, of_method, overrides_above, overriding, seen, selected}
+use Rattle.cb_hierarchy.specs.Selection.{declared_upwards, entry_at, first_or, implementing, of_method, overrides_above, overriding, seen, selected}
 use Rattle.cb_hierarchy.proofs.Locals.{upwards_local}
 use Rattle.cb_hierarchy.proofs.OverrideTables.{between_them, itself_there}
 use Rattle.cb_hierarchy.proofs.RowLaws.{slice_get_other, slice_get_same, there}

@@ -1,5 +1,5 @@
 -- How the table of selected methods is made class by class, which no public clause cites.
-use Rattle.std.specs.Prelude.{ℕ, Bool, true, false, List, [], ◌∷◌, not, filter, slice_get, Option, Some, None, length, ◌≡◌, ◌<◌, option_and_then, ◌==◌, ◌&&◌, ◌||◌, if◌then◌else◌, Vec}
+use Rattle.std.specs.Prelude.{ℕ, Bool, true, false, List, [], ◌∷◌, not, slice_get, Option, Some, None, length, ◌≡◌, ◌<◌, option_and_then, ◌==◌, ◌&&◌, ◌||◌, if◌then◌else◌, Vec}
 use Rattle.std.specs.declared.alloc.Global.{Global}
 use Rattle.std.specs.List.{list_any}
 use Rattle.cb_hierarchy.specs.declared.class.Class.{Class}
@@ -11,7 +11,7 @@ use Rattle.cb_hierarchy.specs.declared.member.Visibility.{Visibility}
 use Rattle.cb_hierarchy.specs.declared.member.Visibility.TheVariants.{Public, Protected, Package, Private}
 use Rattle.cb_hierarchy.specs.declared.selected.Selected.{Selected}
 use Rattle.cb_hierarchy.specs.declared.selected.Selected.TheVariants as chosen
-use Rattle.cb_hierarchy.specs.Classes.{is_interface, listed}
+use Rattle.cb_hierarchy.specs.Classes.{is_interface}
 use Rattle.cb_hierarchy.specs.Members.{method_of}
 use Rattle.cb_hierarchy.specs.Orders.{is_subclass}
 use Rattle.cb_hierarchy.specs.Resolution.{is_private, method_is, most_specific}

@@ -1,4 +1,4 @@
-use Rattle.std.proofs.Common.{◌≡◌, ◌∙◌, ◌+◌, ◌<◌, Some, ap, arith, length, length-set, not, subst, sym, take}
+use Rattle.std.proofs.Common.{◌∙◌, ◌+◌, ◌<◌, Some, ap, arith, length, length-set, not, subst, sym, take}
 use Rattle.cb_hierarchy.specs.Reaching.{AreFirst, among_if}
 use Rattle.cb_hierarchy.proofs.AmongLaws.{known, not_above, put}
 use Rattle.cb_hierarchy.proofs.selection.all_among.Goals as goal

@@ -1,4 +1,4 @@
-use Rattle.std.proofs.Common.{◌≡◌, ◌∙◌, ◌+◌, ◌<◌, Some, ap, arith, length, length-set, not, subst, sym, take}
+use Rattle.std.proofs.Common.{◌∙◌, ◌+◌, ◌<◌, Some, ap, arith, length, length-set, not, subst, sym, take}
 use Rattle.cb_hierarchy.specs.Members.{method_of}
 use Rattle.cb_hierarchy.specs.Reaching.{AreFirst}
 use Rattle.cb_hierarchy.proofs.OwnLaws.{known_own, not_own, put_own}
