@@ -1,5 +1,5 @@
 -- Which method is run where one is invoked on an object (JVMS §5.4.5; §6.5 invokevirtual, invokeinterface).
-use Rattle.std.specs.Prelude.{ℕ, Bool, true, false, List, [], ◌∷◌, ◌++◌, not, filter, slice_get, Option, Some, None, option_and_then, ◌==◌, ◌&&◌, ◌||◌, if◌then◌else◌}
+use Rattle.std.specs.Prelude.{ℕ, Bool, true, false, List, [], ◌∷◌, not, filter, slice_get, Option, Some, None, option_and_then, ◌==◌, ◌&&◌, ◌||◌, if◌then◌else◌}
 use Rattle.std.specs.List.{flat_map}
 use Rattle.cb_hierarchy.specs.declared.class.Class.{Class}
 use Rattle.cb_hierarchy.specs.declared.member.Method.{Method}
@@ -13,7 +13,7 @@ use Rattle.cb_hierarchy.specs.Orders.{upwards}
 use Rattle.cb_hierarchy.specs.Resolution.{is_private, method_is, most_specific}
 
 -- whether two classes are of one run-time package
-abbrev packages : Option Class → Option Class → Bool
+abbrev pub packages : Option Class → Option Class → Bool
 packages (Some one) (Some other) = one.package == other.package
 packages one other = false
 
@@ -29,7 +29,7 @@ is_seen classes Private holder class = false
 
 -- whether a method overrides one of a superclass without another between: it isn't private, and the other can be overridden by
 -- methods of its class (§5.4.5)
-abbrev seen : List Class → Option Method → Option Method → Bool
+abbrev pub seen : List Class → Option Method → Option Method → Bool
 seen classes (Some one) (Some other) = not (is_private one.visibility) && is_seen classes other.visibility other.declared.class one.declared.class
 seen classes one other = false
 
@@ -76,12 +76,12 @@ found_among (method ∷ []) = chosen.Method method
 found_among (method ∷ others) = chosen.Several
 
 -- the first method upwards, or else the one of the superinterfaces
-abbrev first_or : List Method → Option ℕ → List ℕ → Selected
+abbrev pub first_or : List Method → Option ℕ → List ℕ → Selected
 first_or methods (Some method) others = found methods method
 first_or methods None others = found_among others
 
 -- the method that is selected on an object of a class, where this method was resolved
-abbrev of_method : List Class → List Method → ℕ → ℕ → Option Method → Selected
+abbrev pub of_method : List Class → List Method → ℕ → ℕ → Option Method → Selected
 of_method classes methods class resolved None = chosen.Abstract
 of_method classes methods class resolved (Some method) =
     first_or methods

@@ -9,15 +9,27 @@
 mod ancestors;
 mod bad;
 mod class;
+mod distinct;
+mod entry;
 mod hierarchy;
 mod index;
 mod initial;
+mod law;
 mod layout;
+mod marks;
 mod member;
+mod orders;
+mod overriding;
+mod parents;
+mod parents_first;
+mod reach;
 mod resolution;
 mod rule;
+#[cfg(test)]
+mod samples;
 mod selected;
 mod selection;
+mod specific;
 mod tables;
 #[cfg(test)]
 mod tests;
@@ -26,6 +38,7 @@ pub use bad::first_bad;
 pub use class::{Class, Classes};
 pub use hierarchy::Hierarchy;
 pub use initial::initialised_before;
+pub use law::{class_selections, initial_classes, interface_selections, resolutions};
 pub use layout::layouts;
 pub use member::{Declared, Field, Fields, Method, Methods, Visibility};
 pub use resolution::{resolved_field, resolved_method};

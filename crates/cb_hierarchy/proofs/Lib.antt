@@ -1,0 +1,17 @@
+pub mod AmongLaws
+pub mod Badly
+pub mod Closing
+pub mod IndexLaws
+pub mod InitialLaws
+pub mod LayoutLaws
+pub mod Locals
+pub mod Named
+pub mod Once
+pub mod OrderLaws
+pub mod OverrideTables
+pub mod OwnLaws
+pub mod Ranked
+pub mod ReachLaws
+pub mod RowLaws
+pub mod SpecificLaws
+pub mod Turned
