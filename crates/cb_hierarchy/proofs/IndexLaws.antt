@@ -1,6 +1,6 @@
 -- The index of one more member.
-use Rattle.std.proofs.Common.{◌≡◌, ◌∙◌, ap, ap₂, refl, sym, subst, arith, true≢false, ℕ, Bool, true, false, cond, ◌&&◌, ◌==◌, ◌+◌, ◌<◌, List, [], ◌∷◌, ◌++◌, Option, Some, None, length, map, nat_eq, take, get_or}
-use Rattle.std.specs.List.{position, position_from, position_or_len}
+use Rattle.std.proofs.Common.{◌≡◌, ◌∙◌, ap, refl, sym, arith, true≢false, ℕ, Bool, true, false, cond, ◌&&◌, ◌==◌, ◌+◌, ◌<◌, List, [], ◌∷◌, ◌++◌, Option, Some, None, length, map, take, get_or}
+use Rattle.std.specs.List.{position_from}
 use Rattle.std.specs.Option.{option_or, is_some}
 use Rattle.std.proofs.lemmas.Iterator.Adapters.{position_from-zero}
 use Rattle.std.proofs.lemmas.List.{length-map, length-take-le, take_more, map-append}
@@ -37,11 +37,11 @@ place_of-push members member class signature n is =
 same : (one other : Declared) → same_member one other ≡ true → one ≡ other
 same one other is = λ i. record { class = eqb-true one.class other.class (first_so _ _ is) i; signature = eqb-true one.signature other.signature (second_so _ _ is) i }
 
-or_none : {X : Type 0} (found : Option X) → option_or found None ≡ found
+pub or_none : {X : Type 0} (found : Option X) → option_or found None ≡ found
 or_none None = refl
 or_none (Some item) = refl
 
-or_some : {X : Type 0} (found other : Option X) → is_some found ≡ true → option_or found other ≡ found
+pub or_some : {X : Type 0} (found other : Option X) → is_some found ≡ true → option_or found other ≡ found
 or_some None other is = absurd (true≢false (sym is))
 or_some (Some item) other is = refl
 

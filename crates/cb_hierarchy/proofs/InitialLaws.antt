@@ -1,7 +1,7 @@
 -- What is initialised before a class.
-use Rattle.std.proofs.Common.{◌≡◌, ◌∙◌, ap, arith, refl, sym, zero, suc, ℕ, Bool, true, false, cond, not, ◌+◌, ◌<◌, ◌&&◌, ◌||◌, ◌==◌, List, [], ◌∷◌, ◌++◌, filter, length, map, nat_eq, option_map, take, Some}
+use Rattle.std.proofs.Common.{◌≡◌, ◌∙◌, ap, refl, sym, ℕ, Bool, true, false, cond, not, ◌+◌, ◌<◌, ◌&&◌, ◌||◌, ◌==◌, List, [], ◌∷◌, ◌++◌, filter, length, map, nat_eq, option_map, take, Some}
 use Rattle.std.specs.Prelude.{slice_get}
-use Rattle.std.specs.List.{Contains, flat_map, list_any}
+use Rattle.std.specs.List.{Contains, flat_map}
 use Rattle.std.proofs.lemmas.List.{take_more}
 use Rattle.std.proofs.lemmas.List.Folds.{list_any-append}
 use Rattle.std.proofs.lemmas.Option.{get_or_from_slice_get, slice_get-map, slice_get_within}
@@ -13,6 +13,7 @@ use Rattle.cb_hierarchy.specs.Initial.{declares_body, enumerated, enumerated_by,
 use Rattle.cb_hierarchy.specs.Inner.{IsLocal, list_at}
 use Rattle.cb_hierarchy.specs.Orders.{distinct}
 use Rattle.cb_hierarchy.proofs.Locals.{of_superinterfaces, flat_map_agrees}
+use Rattle.cb_hierarchy.proofs.RowLaws.{there}
 use Rattle.cb_hierarchy.proofs.Named.{superclass_is, superinterface_among, superinterfaces_are}
 
 -- one method more
@@ -81,11 +82,6 @@ before_is classes methods declares lists class own is agree made =
   where
     interface : is_interface classes class ≡ own.is_interface
     interface = rw is refl
-
-there : {X : Type 0} (items : List X) (place : ℕ) → place < length items → (item : X) × (slice_get items place ≡ Some item)
-there [] place within = absurd (omega (arith, within))
-there (first ∷ items) zero within = (first, refl)
-there (first ∷ items) (suc place) within = there items place (omega (arith, within))
 
 -- and of all classes
 pub all_is : (classes : List Class) (methods : List Method) (declares : ℕ → Bool) (lists all : List (List ℕ)) → AreClasses classes → all ≡ map (before_by declares (list_at lists)) classes

@@ -1,3 +1,4 @@
+pub mod AmongLaws
 pub mod Badly
 pub mod Closing
 pub mod IndexLaws
@@ -8,6 +9,7 @@ pub mod Named
 pub mod Once
 pub mod OrderLaws
 pub mod OverrideTables
+pub mod OwnLaws
 pub mod Ranked
 pub mod ReachLaws
 pub mod RowLaws

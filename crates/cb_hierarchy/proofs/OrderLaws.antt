@@ -1,5 +1,5 @@
 -- What isn't in the order of lookup.
-use Rattle.std.proofs.Common.{◌≡◌, ◌∙◌, ap, ap₂, refl, sym, arith, true≢false, ℕ, zero, suc, Bool, true, false, ◌==◌, ◌&&◌, ◌||◌, not, ◌<◌, ◌≤◌, List, [], ◌∷◌, ◌++◌, cond, None, filter, length}
+use Rattle.std.proofs.Common.{◌≡◌, ◌∙◌, ap₂, refl, arith, true≢false, ℕ, zero, suc, Bool, true, false, ◌==◌, ◌&&◌, ◌||◌, not, ◌<◌, ◌≤◌, List, [], ◌∷◌, ◌++◌, cond, None, filter, length}
 use Rattle.std.specs.List.{Contains, flat_map, list_any}
 use Rattle.std.proofs.lemmas.Bool.Decides.{nat_tests}
 use Rattle.std.proofs.lemmas.List.Elements.{Contains-append_left, Contains-append_right}
@@ -7,17 +7,17 @@ use Rattle.std.proofs.lemmas.List.Folds.{list_any-append}
 use Rattle.std.specs.Prelude.{slice_get}
 use Rattle.std.proofs.lemmas.Option.{slice_get_past}
 use Rattle.cb_hierarchy.specs.declared.class.Class.{Class}
-use Rattle.cb_hierarchy.specs.Classes.{AreClasses, parents, superclass, superinterfaces}
+use Rattle.cb_hierarchy.specs.Classes.{AreClasses, superclass, superinterfaces}
 use Rattle.cb_hierarchy.specs.Orders.{distinct, in_turns, is_subclass, lookup_order_by}
 
 neither : (a b : Bool) → a ≡ false → b ≡ false → (a || b) ≡ false
 neither a b is also = ap₂ (λ a b. a || b) is also
 
-first_not : (a b : Bool) → (a || b) ≡ false → a ≡ false
+pub first_not : (a b : Bool) → (a || b) ≡ false → a ≡ false
 first_not true b is = is
 first_not false b is = refl
 
-second_not : (a b : Bool) → (a || b) ≡ false → b ≡ false
+pub second_not : (a b : Bool) → (a || b) ≡ false → b ≡ false
 second_not true b is = absurd (true≢false is)
 second_not false b is = is
 

@@ -1,5 +1,5 @@
 -- An order of classes by how many are above each.
-use Rattle.std.proofs.Common.{◌≡◌, ℕ, zero, suc, ◌+◌, ◌-◌, ◌<◌, ◌≤◌, ◌≢◌, ◌⊎◌, Bool, true, false, cond, List, [], ◌∷◌, ◌++◌, length, map, take, get_or, Some, refl, sym, ap, subst, ◌∙◌, inl, inr, arith, length-append, length-take}
+use Rattle.std.proofs.Common.{◌≡◌, ℕ, zero, suc, ◌+◌, ◌-◌, ◌<◌, ◌≤◌, ◌≢◌, Bool, true, false, cond, List, [], ◌∷◌, ◌++◌, length, map, take, get_or, Some, refl, sym, ap, subst, ◌∙◌, inl, inr, arith, length-append, length-take}
 use Rattle.std.specs.Prelude.{slice_get}
 use Rattle.std.specs.List.{Contains}
 use Rattle.std.proofs.lemmas.Bool.{cases_eq, cases_lt, false≢true, false_from_ne_true}
@@ -8,7 +8,7 @@ use Rattle.std.proofs.lemmas.List.Elements.{Contains-append_cases, Contains-appe
 use Rattle.std.proofs.lemmas.List.Sums.{count_by-le-length, sum_by-cons}
 use Rattle.std.proofs.lemmas.Option.{get_or_from_slice_get, slice_get-get_or, slice_get_within}
 use Rattle.cb_hierarchy.specs.declared.class.Class.{Class}
-use Rattle.cb_hierarchy.specs.Above.{Direct, IsAbove, IsAcyclic, Through}
+use Rattle.cb_hierarchy.specs.Above.{Direct, IsAcyclic, Through}
 use Rattle.cb_hierarchy.specs.Classes.{AreClasses, parents}
 use Rattle.cb_hierarchy.specs.Inner.{IsParentsFirst, has}
 use Rattle.cb_hierarchy.specs.Rows.{AreOfRank, AreSquare, MarkAbove, how_many, marked}

@@ -1,10 +1,10 @@
 -- What is reached upwards is what overrides.
-use Rattle.std.proofs.Common.{◌≡◌, ◌≢◌, ◌∙◌, ◌⊎◌, inl, inr, ap, ap₂, arith, refl, subst, sym, true≢false, suc, zero, ◌≤◌, get_or, get_or-set_same, length-set, map, set, take, ◌+◌, ℕ, Bool, true, false, cond, not, ◌<◌, ◌&&◌, ◌||◌, ◌==◌, List, [], ◌∷◌, ◌++◌, length, Option, Some, None, option_map}
-use Rattle.std.specs.Prelude.{filter, is_some, option_and_then, slice_get}
+use Rattle.std.proofs.Common.{◌≡◌, ◌≢◌, ◌∙◌, inl, inr, ap, ap₂, arith, refl, subst, sym, ◌≤◌, get_or, map, set, take, ◌+◌, ℕ, Bool, true, false, cond, not, ◌<◌, ◌&&◌, ◌||◌, ◌==◌, List, [], ◌∷◌, ◌++◌, length, Option, Some, None, option_map}
+use Rattle.std.specs.Prelude.{filter, option_and_then, slice_get}
 use Rattle.std.proofs.lemmas.Bool.{cases_eq, eqb-true}
 use Rattle.std.proofs.lemmas.List.{append-nil, get_or_default, take_all, take_more}
 use Rattle.std.proofs.lemmas.List.Elements.{Contains-append_left, Contains-push_cases, filter-append}
-use Rattle.std.proofs.lemmas.Option.{get_or_from_slice_get, slice_get-get_or, slice_get-map, slice_get_within}
+use Rattle.std.proofs.lemmas.Option.{slice_get-get_or, slice_get-map, slice_get_within}
 use Rattle.cb_hierarchy.specs.declared.class.Class.{Class}
 use Rattle.std.specs.Prelude.{Vec}
 use Rattle.std.specs.List.{Contains, flat_map}
@@ -17,24 +17,14 @@ use Rattle.cb_hierarchy.specs.declared.selected.Selected.TheVariants as chosen
 use Rattle.cb_hierarchy.specs.Classes.{is_interface, listed, parents, superclass, superinterfaces}
 use Rattle.cb_hierarchy.specs.Inner.{IsParentsFirst}
 use Rattle.cb_hierarchy.specs.Members.{method_of}
-use Rattle.cb_hierarchy.specs.Orders.{in_turns, upwards, upwards_by}
+use Rattle.cb_hierarchy.specs.Orders.{upwards, upwards_by}
 use Rattle.cb_hierarchy.specs.Reaching.{IsMade, IsRowBy, can_override, entry_by, entry_in, entry_among, entry_for, entry_of, entry_selected, is_of_interface, opens, reach, reach_class, reach_interface, reach_more, reach_own, reached_at, reached_in, signature_in, signature_of}
 use Rattle.cb_hierarchy.specs.Resolution.{is_private, method_is, most_specific}
-use Rattle.cb_hierarchy.specs.Selection.{declared_upwards, entry_at, first_or, found, found_among, implementing, of_method, overrides_above, overriding, seen, selected}
+use Rattle.cb_hierarchy.specs.Selection.{declared_upwards, entry_at, first_or, implementing, of_method, overrides_above, overriding, seen, selected}
 use Rattle.cb_hierarchy.proofs.Locals.{upwards_local}
 use Rattle.cb_hierarchy.proofs.OverrideTables.{between_them, itself_there}
+use Rattle.cb_hierarchy.proofs.RowLaws.{slice_get_other, slice_get_same, there}
 use Rattle.cb_hierarchy.proofs.Turned.{enough}
-
-slice_get_same : {X : Type 0} (items : List X) (place : ℕ) (item : X) → place < length items → slice_get (set items place item) place ≡ Some item
-slice_get_same items place item within =
-    slice_get-get_or (set items place item) place item (omega (arith, length-set items place item)) ∙ ap Some (get_or-set_same items place item item within)
-
-slice_get_other : {X : Type 0} (items : List X) (place other : ℕ) (item : X) → other ≢ place → slice_get (set items place item) other ≡ slice_get items other
-slice_get_other [] place other item apart = refl
-slice_get_other (first ∷ items) zero zero item apart = absurd (apart refl)
-slice_get_other (first ∷ items) zero (suc other) item apart = refl
-slice_get_other (first ∷ items) (suc place) zero item apart = refl
-slice_get_other (first ∷ items) (suc place) (suc other) item apart = slice_get_other items place other item (λ same. apart (ap suc same))
 
 and_false : (a : Bool) → ((a && false) || false) ≡ false
 and_false true = refl
@@ -243,11 +233,6 @@ row_more classes methods order first place class own rows row within at is many 
 pub class_within : (classes : List Class) (order : List ℕ) → IsParentsFirst classes order → (place : ℕ) → place < length order → get_or order place 0 < length classes
 class_within classes order first place within = first.below (get_or order place 0) (place, within, get_or_default order place (get_or order place 0) 0 within)
 
-there : {X : Type 0} (items : List X) (place : ℕ) → place < length items → slice_get items place ≡ None → ⊥
-there [] place within none = omega (arith, within)
-there (first ∷ items) zero within none = true≢false (ap is_some none)
-there (first ∷ items) (suc place) within none = there items place (omega (arith, within)) none
-
 -- the whole table
 pub table_is : (classes : List Class) (methods : List Method) (order : List ℕ) → IsParentsFirst classes order → (place : ℕ) (rows : List (Vec Entry Global)) → length order ≤ place
     → ((done : ℕ) → Contains (take place order) done → IsMade classes methods rows done) → (class method : ℕ) → class < length classes → method < length methods
@@ -255,8 +240,4 @@ pub table_is : (classes : List Class) (methods : List Method) (order : List ℕ)
 table_is classes methods order first place rows all made class method within below =
     shown rows class method
     ∙ ap (option_map entry_selected) (made class (subst (λ taken. Contains taken class) (sym (take_all place order all)) (first.every class within)) method below)
-    ∙ go (slice_get methods method) refl
-  where
-    go : (found : Option Method) → slice_get methods method ≡ found → Some (entry_selected (entry_for classes methods class method)) ≡ Some (selected classes methods class method)
-    go None is = absurd (there methods method below is)
-    go (Some found) is = ap Some (sym (selected_is classes methods method class found is))
+    ∙ ap Some (sym (selected_is classes methods method class (there methods method below).0 (there methods method below).1))

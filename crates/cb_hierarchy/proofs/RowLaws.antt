@@ -1,5 +1,5 @@
 -- Rows that are made entry by entry.
-use Rattle.std.proofs.Common.{◌≡◌, ◌∙◌, ap, refl, sym, subst, arith, ℕ, zero, suc, ◌+◌, ◌<◌, ◌≤◌, ◌⊎◌, inl, inr, List, [], ◌∷◌, ◌++◌, Some, length, map, get_or}
+use Rattle.std.proofs.Common.{◌≡◌, ◌≢◌, ◌∙◌, ap, refl, sym, subst, arith, ℕ, zero, suc, ◌+◌, ◌<◌, inl, inr, List, [], ◌∷◌, ◌++◌, Some, length, map, set, get_or, get_or-set_same, length-set}
 use Rattle.std.specs.Prelude.{slice_get, unwrap_or}
 use Rattle.std.specs.List.{AllByRecursion}
 use Rattle.std.proofs.lemmas.Bool.{cases_eq}
@@ -25,3 +25,21 @@ signature_below declared [] limit place item all is = absurd (let h : place < 0 
 signature_below declared (first ∷ items) limit zero item all is =
     subst (λ member. member.signature < limit) (ap (λ found. declared (unwrap_or found item)) is) all.0
 signature_below declared (first ∷ items) limit (suc place) item all is = signature_below declared items limit place item all.1 is
+
+-- an item within
+pub there : {X : Type 0} (items : List X) (place : ℕ) → place < length items → (item : X) × (slice_get items place ≡ Some item)
+there [] place within = absurd (omega (arith, within))
+there (first ∷ items) zero within = (first, refl)
+there (first ∷ items) (suc place) within = there items place (omega (arith, within))
+
+-- what a list has after a write
+pub slice_get_same : {X : Type 0} (items : List X) (place : ℕ) (item : X) → place < length items → slice_get (set items place item) place ≡ Some item
+slice_get_same items place item within =
+    slice_get-get_or (set items place item) place item (omega (arith, length-set items place item)) ∙ ap Some (get_or-set_same items place item item within)
+
+pub slice_get_other : {X : Type 0} (items : List X) (place other : ℕ) (item : X) → other ≢ place → slice_get (set items place item) other ≡ slice_get items other
+slice_get_other [] place other item apart = refl
+slice_get_other (first ∷ items) zero zero item apart = absurd (apart refl)
+slice_get_other (first ∷ items) zero (suc other) item apart = refl
+slice_get_other (first ∷ items) (suc place) zero item apart = refl
+slice_get_other (first ∷ items) (suc place) (suc other) item apart = slice_get_other items place other item (λ same. apart (ap suc same))

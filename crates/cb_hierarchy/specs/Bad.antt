@@ -1,5 +1,5 @@
 -- The classes that can't be in a hierarchy (JVMS §5.3.5, §4.10).
-use Rattle.std.specs.Prelude.{◌≡◌, ℕ, ◌<◌, Bool, true, false, List, length, not, slice_get, Option, Some, None, ◌&&◌}
+use Rattle.std.specs.Prelude.{◌≡◌, ℕ, ◌<◌, true, false, List, length, slice_get, Option, Some, None}
 use Rattle.std.specs.List.{Contains}
 use Rattle.cb_hierarchy.specs.declared.class.Class.{Class}
 use Rattle.cb_hierarchy.specs.declared.member.Method.{Method}

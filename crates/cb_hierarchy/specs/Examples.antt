@@ -1,5 +1,5 @@
 -- Small hierarchies, written out. Class 0 is Object, and every method and field has the signature 0 where no other is said.
-use Rattle.std.specs.Prelude.{ℕ, Bool, true, false, List, [], ◌∷◌, Option, Some, None}
+use Rattle.std.specs.Prelude.{ℕ, Bool, true, false, List, [], ◌∷◌, Some, None}
 use Rattle.cb_hierarchy.specs.declared.class.Class.{Class}
 use Rattle.cb_hierarchy.specs.declared.member.Field.{Field}
 use Rattle.cb_hierarchy.specs.declared.member.Method.{Method}

@@ -1,5 +1,5 @@
 -- What this crate's own functions and proofs cite, and no public clause.
-use Rattle.std.specs.Prelude.{◌≡◌, ℕ, ◌<◌, Bool, false, ◌||◌, ◌&&◌, ◌==◌, List, [], length, take, slice_get, get_or, Some}
+use Rattle.std.specs.Prelude.{◌≡◌, ℕ, ◌<◌, Bool, false, ◌||◌, ◌==◌, List, [], length, take, slice_get, get_or, Some}
 use Rattle.std.specs.List.{Contains, list_any}
 use Rattle.cb_hierarchy.specs.declared.class.Class.{Class}
 use Rattle.cb_hierarchy.specs.Classes.{parents}

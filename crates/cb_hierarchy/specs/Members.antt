@@ -1,5 +1,5 @@
 -- Methods and fields by their numbers. A signature is the number of a name with a descriptor.
-use Rattle.std.specs.Prelude.{ℕ, ◌<◌, ◌^◌, Bool, List, length, map, slice_get, Option, ◌==◌, ◌&&◌}
+use Rattle.std.specs.Prelude.{ℕ, ◌<◌, ◌^◌, List, length, map, Option, ◌==◌, ◌&&◌}
 use Rattle.std.specs.List.{AllByRecursion, position}
 use Rattle.cb_hierarchy.specs.declared.member.Declared.{Declared}
 use Rattle.cb_hierarchy.specs.declared.member.Field.{Field}

@@ -1,6 +1,7 @@
 -- How the table of selected methods is made class by class, which no public clause cites.
-use Rattle.std.specs.Prelude.{ℕ, Bool, true, false, List, [], ◌∷◌, not, filter, slice_get, Option, Some, None, length, ◌≡◌, ◌<◌, option_and_then, ◌==◌, ◌&&◌, ◌||◌, if◌then◌else◌, Vec}
+use Rattle.std.specs.Prelude.{ℕ, Bool, true, false, List, [], ◌∷◌, not, slice_get, Option, Some, None, length, ◌≡◌, ◌<◌, option_and_then, ◌==◌, ◌&&◌, ◌||◌, if◌then◌else◌, Vec}
 use Rattle.std.specs.declared.alloc.Global.{Global}
+use Rattle.std.specs.List.{list_any}
 use Rattle.cb_hierarchy.specs.declared.class.Class.{Class}
 use Rattle.cb_hierarchy.specs.declared.entry.Entry.{Entry}
 use Rattle.cb_hierarchy.specs.declared.entry.Entry.TheVariants.{Upwards, Inherited, Absent, Several}
@@ -10,8 +11,9 @@ use Rattle.cb_hierarchy.specs.declared.member.Visibility.{Visibility}
 use Rattle.cb_hierarchy.specs.declared.member.Visibility.TheVariants.{Public, Protected, Package, Private}
 use Rattle.cb_hierarchy.specs.declared.selected.Selected.{Selected}
 use Rattle.cb_hierarchy.specs.declared.selected.Selected.TheVariants as chosen
-use Rattle.cb_hierarchy.specs.Classes.{is_interface, listed}
+use Rattle.cb_hierarchy.specs.Classes.{is_interface}
 use Rattle.cb_hierarchy.specs.Members.{method_of}
+use Rattle.cb_hierarchy.specs.Orders.{is_subclass}
 use Rattle.cb_hierarchy.specs.Resolution.{is_private, method_is, most_specific}
 use Rattle.cb_hierarchy.specs.Selection.{declared_upwards, in_one_package, seen}
 
@@ -128,10 +130,23 @@ abbrev pub IsRowBy : List Class → List Method → List (Vec Entry Global) → 
 IsRowBy classes methods rows superclass class row =
     AreFirst (length methods) (entry_by classes methods rows superclass class) row
 
--- what the superinterfaces of a class have, by signatures
-abbrev pub AreAmong : List Class → List Method → ℕ → List Entry → Type 0
-AreAmong classes methods class among =
-    AreFirst (length methods) (λ signature. entry_among (most_specific classes methods class signature)) among
+-- whether a method is declared by an interface above a class
+abbrev pub above_class : List Class → ℕ → Method → Bool
+above_class classes class method = is_interface classes method.declared.class && is_subclass classes class method.declared.class
+
+abbrev pub is_above : List Class → List Method → ℕ → ℕ → Bool
+is_above classes methods class = method_is methods (above_class classes class)
+
+-- what the superinterfaces of a class have of a signature, if one of them declares one of these methods
+abbrev pub is_declared_above : List Class → ℕ → List Method → ℕ → Bool
+is_declared_above classes class declared signature = list_any (λ method. (method.declared.signature == signature) && above_class classes class method) declared
+
+abbrev pub among_if : List Class → List Method → ℕ → List Method → ℕ → Option Entry
+among_if classes methods class declared signature =
+    if is_declared_above classes class declared signature then Some (entry_among (most_specific classes methods class signature)) else None
+
+abbrev pub AreAmong : List Class → List Method → ℕ → List (Option Entry) → Type 0
+AreAmong classes methods class among = AreFirst (length methods) (among_if classes methods class methods) among
 
 -- the row of a class is made
 abbrev pub IsMade : List Class → List Method → List (Vec Entry Global) → ℕ → Type 0

@@ -7,7 +7,7 @@ use Rattle.cb_hierarchy.specs.declared.class.Class.{Class}
 use Rattle.cb_hierarchy.specs.declared.member.Field.{Field}
 use Rattle.cb_hierarchy.specs.declared.member.Method.{Method}
 use Rattle.cb_hierarchy.specs.declared.member.Visibility.{Visibility}
-use Rattle.cb_hierarchy.specs.declared.member.Visibility.TheVariants.{Public, Protected, Package, Private}
+use Rattle.cb_hierarchy.specs.declared.member.Visibility.TheVariants.{Public, Private}
 use Rattle.cb_hierarchy.specs.Classes.{is_interface, listed}
 use Rattle.cb_hierarchy.specs.Members.{field_of, method_of}
 use Rattle.cb_hierarchy.specs.Orders.{is_subclass, lookup_order, upwards}

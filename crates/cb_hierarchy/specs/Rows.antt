@@ -1,5 +1,5 @@
 -- Rows of marks, which say for each class what is above it.
-use Rattle.std.specs.Prelude.{◌≡◌, ◌↔◌, ℕ, ◌<◌, Bool, ◌||◌, ◌&&◌, ◌==◌, List, [], ◌++◌, length, count_by, get_or, IsTrue}
+use Rattle.std.specs.Prelude.{◌≡◌, ◌↔◌, ℕ, ◌<◌, Bool, ◌==◌, List, [], ◌++◌, length, count_by, get_or, IsTrue}
 use Rattle.std.specs.List.{Contains, list_any}
 use Rattle.cb_hierarchy.specs.declared.class.Class.{Class}
 use Rattle.cb_hierarchy.specs.Above.{IsAbove}

@@ -1,5 +1,5 @@
 -- Which method is run where one is invoked on an object (JVMS §5.4.5; §6.5 invokevirtual, invokeinterface).
-use Rattle.std.specs.Prelude.{ℕ, Bool, true, false, List, [], ◌∷◌, ◌++◌, not, filter, slice_get, Option, Some, None, option_and_then, ◌==◌, ◌&&◌, ◌||◌, if◌then◌else◌}
+use Rattle.std.specs.Prelude.{ℕ, Bool, true, false, List, [], ◌∷◌, not, filter, slice_get, Option, Some, None, option_and_then, ◌==◌, ◌&&◌, ◌||◌, if◌then◌else◌}
 use Rattle.std.specs.List.{flat_map}
 use Rattle.cb_hierarchy.specs.declared.class.Class.{Class}
 use Rattle.cb_hierarchy.specs.declared.member.Method.{Method}

@@ -1,8 +1,8 @@
 // Which method is run where one is invoked on an object.
-ghost use Rattle.std.specs.Prelude.{◌≡◌, ◌<◌, ℕ, length, vec_len, IfOk, IsSome, Some};
+ghost use Rattle.std.specs.Prelude.{◌≡◌, ◌<◌, ◌==◌, ℕ, length, vec_len, IfOk, IsSome, Some};
 ghost use Rattle.cb_hierarchy.specs.Members.{method_of};
-ghost use Rattle.cb_hierarchy.specs.Reaching.{AreAmong, IsRowBy, entry_among, entry_of, reach_own, reached_at};
-ghost use Rattle.cb_hierarchy.specs.Resolution.{most_specific};
+ghost use Rattle.cb_hierarchy.specs.Reaching.{AreAmong, AreFirst, IsRowBy, entry_among, entry_of, is_above, reach_own, reached_at};
+ghost use Rattle.cb_hierarchy.specs.Resolution.{method_is, most_specific};
 ghost use Rattle.cb_hierarchy.specs.Selection.{entry_at, selected};
 
 use crate::entry::{Entry, Reached};
@@ -90,14 +90,18 @@ fn row_of(
     requires { class < length hierarchy.now }
     ensures { IfOk result (λ row. IsRowBy hierarchy.now methods.now rows.now superclass class row.items) }
 {
+    let own = own_methods(alloc, methods, class)?;
     let among = all_among(alloc, hierarchy, methods, class)?;
     let mut row = Vec::with_capacity(alloc, methods.len())?;
     for resolved in 0..methods.count() {
         let signature = methods.signature(resolved);
-        let own = methods.declared(class, signature);
         let above = reached_at(rows, superclass, resolved);
-        let reached = reach_own(hierarchy, methods, resolved, own, above);
-        row.push(entry_of(methods, reached, among[signature as usize]))?;
+        let reached = reach_own(hierarchy, methods, resolved, own[signature as usize], above);
+        row.push(entry_of(
+            methods,
+            reached,
+            among[signature as usize].unwrap_or(Entry::Absent),
+        ))?;
     }
     Ok(row)
 }
@@ -110,23 +114,68 @@ fn reached_at(rows: &[Vec<Entry>], superclass: Option<u32>, resolved: u32) -> Op
     row.get(resolved as usize)?.reached()
 }
 
-/// What the superinterfaces of a class have, by signatures.
+/// The methods that a class declares, the first of each signature, by signatures.
+fn own_methods(
+    alloc: Global,
+    methods: &MethodTable,
+    class: u32,
+) -> Result<Vec<Option<u32>>, OutOfMemory>
+    ensures { IfOk result (λ own. AreFirst (length methods.now) (method_of methods.now class) own.items) }
+{
+    let mut own = vec![in alloc; None; methods.len()]?;
+    for number in 0..methods.count() {
+        let signature = methods.signature(number);
+        if is_of(methods, number, class) && own[signature as usize].is_none() {
+            own[signature as usize] = Some(number);
+        }
+    }
+    Ok(own)
+}
+
+/// Whether a class declares a method.
+fn is_of(methods: &MethodTable, method: u32, class: u32) -> bool
+    ensures { result ≡ method_is methods.now (λ method. method.declared.class == class) method }
+{
+    match methods.get(method) {
+        Some(method) => method.declared.class == class,
+        None => false,
+    }
+}
+
+/// What the superinterfaces of a class have, by signatures: nothing is made where none of them declares a method of the
+/// signature.
 fn all_among(
     alloc: Global,
     hierarchy: &Hierarchy,
     methods: &MethodTable,
     class: u32,
-) -> Result<Vec<Entry>, OutOfMemory>
+) -> Result<Vec<Option<Entry>>, OutOfMemory>
     requires { class < length hierarchy.now }
-    ensures length { IfOk result (λ among. vec_len among ≡ length methods.now) }
-    ensures each { IfOk result (λ among. AreAmong hierarchy.now methods.now class among.items) }
+    ensures { IfOk result (λ among. AreAmong hierarchy.now methods.now class among.items) }
 {
-    let mut among = Vec::with_capacity(alloc, methods.len())?;
-    for signature in 0..methods.count() {
-        let entry = entry_among(alloc, hierarchy, methods, class, signature)?;
-        among.push(entry)?;
+    let mut among = vec![in alloc; None; methods.len()]?;
+    for number in 0..methods.count() {
+        let signature = methods.signature(number);
+        if among[signature as usize].is_none() && is_above(hierarchy, methods, class, number) {
+            let entry = entry_among(alloc, hierarchy, methods, class, signature)?;
+            among[signature as usize] = Some(entry);
+        }
     }
     Ok(among)
+}
+
+/// Whether a method is declared by an interface that is above a class.
+fn is_above(hierarchy: &Hierarchy, methods: &MethodTable, class: u32, method: u32) -> bool
+    requires { class < length hierarchy.now }
+    ensures { result ≡ is_above hierarchy.now methods.now class method }
+{
+    match methods.get(method) {
+        Some(method) => {
+            let interface = method.declared.class;
+            hierarchy.is_interface(interface) && hierarchy.is_subclass(class, interface)
+        }
+        None => false,
+    }
 }
 
 /// What the superinterfaces of a class have of a signature.

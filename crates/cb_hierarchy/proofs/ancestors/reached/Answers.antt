@@ -1,4 +1,4 @@
-use Rattle.std.proofs.Common.{◌≡◌, ℕ, ◌+◌, ◌<◌, ◌≤◌, ◌++◌, List, [], length, get_or, take, sym, subst, ap, ◌∙◌, arith}
+use Rattle.std.proofs.Common.{◌≡◌, ℕ, ◌<◌, ◌++◌, List, [], length, get_or, take, sym, subst, ◌∙◌, arith}
 use Rattle.std.specs.List.{flat_map}
 use Rattle.std.proofs.lemmas.Option.{get_or_from_slice_get}
 use Rattle.cb_hierarchy.specs.Inner.{AreDistinct, list_at}

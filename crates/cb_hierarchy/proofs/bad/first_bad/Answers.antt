@@ -1,4 +1,4 @@
-use Rattle.std.proofs.Common.{◌≡◌, ℕ, ◌<◌, Bool, false, List, length, sym, subst, ap, ◌∙◌, arith}
+use Rattle.std.proofs.Common.{◌≡◌, ℕ, ◌<◌, Bool, false, List, sym, ap, ◌∙◌, arith}
 use Rattle.cb_hierarchy.proofs.Badly.{bad_found, not_bad}
 use Rattle.cb_hierarchy.specs.Finals.{is_bad}
 use Rattle.cb_hierarchy.proofs.bad.first_bad.Goals as goal

@@ -1,4 +1,4 @@
-use Rattle.std.proofs.Common.{◌≡◌, ◌∙◌, ◌++◌, [], ℕ, List, ap, ap₂, cond, filter, nat_eq, subst, sym}
+use Rattle.std.proofs.Common.{◌∙◌, ◌++◌, [], ℕ, List, ap, ap₂, cond, filter, nat_eq, subst, sym}
 use Rattle.std.specs.HashSet.{contains}
 use Rattle.std.specs.List.{Contains, flat_map}
 use Rattle.cb_hierarchy.specs.Classes.{listed}

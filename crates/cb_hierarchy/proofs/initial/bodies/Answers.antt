@@ -1,4 +1,4 @@
-use Rattle.std.proofs.Common.{◌≡◌, ◌∙◌, ap, nat_eq, sym}
+use Rattle.std.proofs.Common.{◌∙◌, ap, nat_eq}
 use Rattle.std.specs.HashSet.{contains}
 use Rattle.cb_hierarchy.proofs.InitialLaws.{with_body, without_body}
 use Rattle.cb_hierarchy.proofs.initial.bodies.Goals as goal

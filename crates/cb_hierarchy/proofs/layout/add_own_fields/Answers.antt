@@ -1,4 +1,4 @@
-use Rattle.std.proofs.Common.{◌≡◌, ◌∙◌, ◌++◌, ◌∷◌, [], ap, cond, sym}
+use Rattle.std.proofs.Common.{◌∙◌, ◌++◌, ◌∷◌, [], ap, cond, sym}
 use Rattle.std.proofs.lemmas.List.{append-nil}
 use Rattle.cb_hierarchy.proofs.LayoutLaws.{added}
 use Rattle.cb_hierarchy.proofs.layout.add_own_fields.Goals as goal

@@ -1,4 +1,4 @@
-use Rattle.std.proofs.Common.{◌≡◌, ℕ, ◌++◌, List, take}
+use Rattle.std.proofs.Common.{ℕ, ◌++◌, List, take}
 use Rattle.std.specs.List.{flat_map}
 use Rattle.cb_hierarchy.specs.Inner.{AreDistinct, list_at}
 use Rattle.cb_hierarchy.proofs.orders.append_lists.Given as goal

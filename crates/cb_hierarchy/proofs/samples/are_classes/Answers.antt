@@ -1,8 +1,7 @@
-use Rattle.std.proofs.Common.{◌≡◌, ℕ, ◌+◌, ◌<◌, ◌≤◌, ◌^◌, List, [], length, map, get_or, sym, subst, ap, ◌∙◌, inl, inr, arith}
+use Rattle.std.proofs.Common.{◌≡◌, ℕ, ◌<◌, List, [], length, map, sym, subst, ap, ◌∙◌, inl, inr, arith}
 use Rattle.std.specs.List.{Contains}
 use Rattle.std.proofs.lemmas.Bool.{cases_eq}
 use Rattle.std.proofs.lemmas.List.{get_or_read, length-map}
-use Rattle.cb_hierarchy.specs.Classes.{AreClasses, parents}
 use Rattle.cb_hierarchy.specs.Inner.{list_at}
 use Rattle.cb_hierarchy.specs.Rows.{all_named}
 use Rattle.cb_hierarchy.proofs.Named.{at_all_named, names_another}

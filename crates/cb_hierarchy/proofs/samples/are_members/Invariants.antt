@@ -1,4 +1,4 @@
-use Rattle.std.proofs.Common.{ℕ, ◌<◌, length, map, take}
+use Rattle.std.proofs.Common.{◌<◌, length, map, take}
 use Rattle.std.specs.List.{AllByRecursion}
 use Rattle.cb_hierarchy.proofs.samples.are_members.Given as goal
 

@@ -1,4 +1,4 @@
-use Rattle.std.proofs.Common.{◌≡◌, ℕ, ◌++◌, List, take}
+use Rattle.std.proofs.Common.{ℕ, ◌++◌, List, take}
 use Rattle.cb_hierarchy.specs.Inner.{AreDistinct}
 use Rattle.cb_hierarchy.proofs.distinct.Distinct.append.Given as goal
 

@@ -1,4 +1,4 @@
-use Rattle.std.proofs.Common.{◌≡◌, sym, ◌∙◌}
+use Rattle.std.proofs.Common.{sym, ◌∙◌}
 use Rattle.cb_hierarchy.proofs.Once.{once_again, once_more}
 use Rattle.cb_hierarchy.proofs.distinct.Distinct.push.Goals as goal
 

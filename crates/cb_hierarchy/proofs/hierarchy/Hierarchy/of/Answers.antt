@@ -1,4 +1,4 @@
-use Rattle.std.proofs.Common.{◌≡◌, ◌==◌, [], ap, ◌∙◌}
+use Rattle.std.proofs.Common.{◌==◌, [], ap, ◌∙◌}
 use Rattle.std.specs.List.{list_any}
 use Rattle.std.proofs.lemmas.Option.{get_or_from_slice_get}
 use Rattle.cb_hierarchy.proofs.Locals.{lookup_local}

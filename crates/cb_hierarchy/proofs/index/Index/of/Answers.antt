@@ -1,4 +1,4 @@
-use Rattle.std.proofs.Common.{◌≡◌, ◌∙◌, ap, sym, subst, arith, map, take, ◌+◌, ◌++◌, ◌∷◌, []}
+use Rattle.std.proofs.Common.{◌∙◌, ap, sym, subst, arith, map, take, ◌++◌, ◌∷◌, []}
 use Rattle.std.specs.HashMap.{get}
 use Rattle.cb_hierarchy.specs.Indexed.{IsIndexOf, same_member}
 use Rattle.cb_hierarchy.proofs.IndexLaws.{inserted, kept, one_more, taken}

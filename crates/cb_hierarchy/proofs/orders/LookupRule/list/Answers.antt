@@ -1,7 +1,7 @@
-use Rattle.std.proofs.Common.{◌≡◌, ℕ, ◌<◌, List, [], ◌∷◌, ◌++◌, length, sym, ap, subst, ◌∙◌, arith}
+use Rattle.std.proofs.Common.{ℕ, List, [], ◌∷◌, ◌++◌, sym, ap, subst, ◌∙◌, arith}
 use Rattle.std.specs.List.{Contains, flat_map}
 use Rattle.cb_hierarchy.proofs.Named.{superclass_is, superclass_below, superinterface_among, superinterfaces_are}
-use Rattle.cb_hierarchy.specs.Classes.{superclass, superinterfaces}
+use Rattle.cb_hierarchy.specs.Classes.{superinterfaces}
 use Rattle.cb_hierarchy.specs.Inner.{list_at}
 use Rattle.cb_hierarchy.specs.Orders.{distinct}
 use Rattle.cb_hierarchy.specs.Rows.{superclass_named}

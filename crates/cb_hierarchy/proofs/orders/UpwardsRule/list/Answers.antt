@@ -1,4 +1,4 @@
-use Rattle.std.proofs.Common.{◌≡◌, ℕ, ◌<◌, List, [], ◌∷◌, ◌++◌, length, refl, sym, ap, ◌∙◌, arith}
+use Rattle.std.proofs.Common.{◌≡◌, ℕ, ◌<◌, List, [], ◌∷◌, ◌++◌, length, sym, ap, ◌∙◌, arith}
 use Rattle.cb_hierarchy.proofs.Named.{lists_of_none, lists_of_one, superclass_among}
 use Rattle.cb_hierarchy.specs.Inner.{list_at}
 use Rattle.cb_hierarchy.proofs.orders.UpwardsRule.list.Goals as goal
