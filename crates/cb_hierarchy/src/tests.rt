@@ -3,10 +3,10 @@ use crate::samples::{
     Row, bad, class, field, fields, final_method, hierarchy, interface, method, methods,
 };
 use crate::{
-    FieldTable, Hierarchy, MethodTable, Selected, Selection, Visibility, initialised_before,
-    layouts, resolved_field, resolved_method,
+    FieldTable, Hierarchy, Method, MethodTable, Selected, Selection, Visibility,
+    initialised_before, layouts, resolved_field, resolved_method,
 };
-use cb_plain::OutOfMemory;
+use cb_plain::{List, Numbers, OutOfMemory};
 use std::alloc::Global;
 
 const OBJECT: Row<'static> = Row {
@@ -60,165 +60,223 @@ fn four_fields(alloc: Global) -> Result<Option<FieldTable>, OutOfMemory> {
     fields(alloc, rows.as_slice())
 }
 
+fn is_bad(
+    alloc: Global,
+    rows: &[Row],
+    members: &[Method],
+    expected: Option<u32>,
+) -> Result<bool, OutOfMemory> {
+    match methods(alloc, members)? {
+        Some(methods) => Ok(bad(alloc, rows, &methods)? == expected),
+        None => Ok(false),
+    }
+}
+
+fn list_is(lists: &List<Numbers>, class: usize, expected: &[u32]) -> bool {
+    class < lists.len() && lists.get(class).as_slice() == expected
+}
+
+fn is_above(hierarchy: &Hierarchy, class: u32, up: &[u32], order: &[u32]) -> bool {
+    (class as usize) < hierarchy.len()
+        && hierarchy.upwards(class) == up
+        && hierarchy.lookup_order(class) == order
+}
+
+fn finds_method(
+    alloc: Global,
+    hierarchy: &Hierarchy,
+    methods: &MethodTable,
+    at: (u32, u32),
+    expected: Option<u32>,
+) -> Result<bool, OutOfMemory> {
+    let (class, signature) = at;
+    if class as usize >= hierarchy.len() {
+        return Ok(false);
+    }
+    Ok(resolved_method(alloc, hierarchy, methods, 0, class, signature)? == expected)
+}
+
+fn finds_field(
+    hierarchy: &Hierarchy,
+    fields: &FieldTable,
+    at: (u32, u32),
+    expected: Option<u32>,
+) -> bool {
+    let (class, signature) = at;
+    (class as usize) < hierarchy.len()
+        && resolved_field(hierarchy, fields, class, signature) == expected
+}
+
+fn selects(
+    alloc: Global,
+    hierarchy: &Hierarchy,
+    methods: &MethodTable,
+    at: (u32, u32),
+    expected: Selected,
+) -> Result<bool, OutOfMemory> {
+    let (class, method) = at;
+    let selection = Selection::of(alloc, hierarchy, methods)?;
+    if class as usize >= hierarchy.len() || method as usize >= methods.len() {
+        return Ok(false);
+    }
+    Ok(selection.select(class, method) == expected)
+}
+
+fn above_are_known(alloc: Global) -> Result<bool, OutOfMemory> {
+    let Some(methods) = five_methods(alloc)? else {
+        return Ok(false);
+    };
+    let Some(hierarchy) = seven(alloc, &methods)? else {
+        return Ok(false);
+    };
+    Ok(
+        hierarchy.len() == 7
+            && hierarchy.classes().len() == 7
+            && hierarchy.class(2).is_interface
+            && is_above(&hierarchy, 4, &[4, 3, 0], &[4, 2, 1, 0, 3])
+            && is_above(&hierarchy, 6, &[6, 0], &[6, 2, 1, 0, 5])
+            && hierarchy.is_subclass(4, 1)
+            && !hierarchy.is_subclass(3, 2),
+    )
+}
+
+fn methods_are_found(alloc: Global) -> Result<bool, OutOfMemory> {
+    let Some(methods) = five_methods(alloc)? else {
+        return Ok(false);
+    };
+    let Some(hierarchy) = seven(alloc, &methods)? else {
+        return Ok(false);
+    };
+    let cases = [
+        ((4, 0), Some(1)),
+        ((3, 0), Some(0)),
+        ((4, 1), Some(3)),
+        ((2, 1), Some(2)),
+        ((0, 0), None),
+    ];
+    for (at, expected) in cases.as_slice() {
+        if !finds_method(alloc, &hierarchy, &methods, *at, *expected)? {
+            return Ok(false);
+        }
+    }
+    Ok(methods.declared(3, 1) == Some(3) && methods.declared(4, 1) == None)
+}
+
+fn methods_are_chosen(alloc: Global) -> Result<bool, OutOfMemory> {
+    let Some(methods) = five_methods(alloc)? else {
+        return Ok(false);
+    };
+    let Some(hierarchy) = seven(alloc, &methods)? else {
+        return Ok(false);
+    };
+    let cases = [
+        ((4, 0), Selected::Method(1)),
+        ((3, 0), Selected::Method(0)),
+        ((4, 2), Selected::Method(3)),
+        ((6, 0), Selected::Several),
+        ((0, 0), Selected::Abstract),
+    ];
+    for (at, expected) in cases.as_slice() {
+        if !selects(alloc, &hierarchy, &methods, *at, *expected)? {
+            return Ok(false);
+        }
+    }
+    Ok(true)
+}
+
+fn fields_are_found(alloc: Global) -> Result<bool, OutOfMemory> {
+    let Some(methods) = five_methods(alloc)? else {
+        return Ok(false);
+    };
+    let Some(hierarchy) = seven(alloc, &methods)? else {
+        return Ok(false);
+    };
+    let Some(fields) = four_fields(alloc)? else {
+        return Ok(false);
+    };
+    let lists = layouts(alloc, &hierarchy, &fields)?;
+    Ok(
+        finds_field(&hierarchy, &fields, (4, 0), Some(0))
+            && finds_field(&hierarchy, &fields, (3, 0), Some(1))
+            && finds_field(&hierarchy, &fields, (0, 0), None)
+            && fields.declared(4, 1) == Some(3)
+            && fields.len() == 4
+            && list_is(&lists, 4, &[1, 2, 3])
+            && list_is(&lists, 1, &[]),
+    )
+}
+
+fn classes_are_ordered(alloc: Global) -> Result<bool, OutOfMemory> {
+    let Some(methods) = five_methods(alloc)? else {
+        return Ok(false);
+    };
+    let Some(hierarchy) = seven(alloc, &methods)? else {
+        return Ok(false);
+    };
+    let lists = initialised_before(alloc, &hierarchy, &methods)?;
+    Ok(
+        list_is(&lists, 4, &[3, 1, 2])
+            && list_is(&lists, 6, &[0, 1, 2, 5])
+            && list_is(&lists, 1, &[]),
+    )
+}
+
 #[test]
 fn a_hierarchy_answers_what_is_above_a_class(rt: HostRuntime) -> Result<(), OutOfMemory> {
-    let Some(methods) = methods(rt.alloc(), &[])? else {
-        panic!(rt; "methods");
-    };
-    let Some(hierarchy) = seven(rt.alloc(), &methods)? else {
-        panic!(rt; "hierarchy");
-    };
-    assert!(rt; hierarchy.len() == 7);
-    assert!(rt; hierarchy.classes().len() == 7);
-    assert!(rt; hierarchy.class(2).is_interface);
-    assert_eq!(rt; hierarchy.upwards(4), [4, 3, 0].as_slice());
-    assert_eq!(rt; hierarchy.lookup_order(4), [4, 2, 1, 0, 3].as_slice());
-    assert_eq!(rt; hierarchy.lookup_order(6), [6, 2, 1, 0, 5].as_slice());
-    assert!(rt; hierarchy.is_subclass(4, 1));
-    assert!(rt; !hierarchy.is_subclass(3, 2));
+    assert!(rt; above_are_known(rt.alloc())?);
     Ok(())
 }
 
 #[test]
-fn the_first_bad_class_is_found(rt: HostRuntime) -> Result<(), OutOfMemory> {
-    let alloc = rt.alloc();
-    let Some(none) = methods(alloc, &[])? else {
-        panic!(rt; "methods");
-    };
-    let above_itself = [OBJECT, class(2, &[]), class(1, &[])];
-    assert_eq!(rt; bad(alloc, above_itself.as_slice(), &none)?, Some(1));
-    let below_itself = [OBJECT, interface(&[2]), interface(&[3]), interface(&[2])];
-    assert_eq!(rt; bad(alloc, below_itself.as_slice(), &none)?, Some(2));
+fn a_class_above_itself_is_bad(rt: HostRuntime) -> Result<(), OutOfMemory> {
+    let by_classes = [OBJECT, class(2, &[]), class(1, &[])];
+    assert!(rt; is_bad(rt.alloc(), by_classes.as_slice(), &[], Some(1))?);
+    let by_interfaces = [OBJECT, interface(&[2]), interface(&[3]), interface(&[2])];
+    assert!(rt; is_bad(rt.alloc(), by_interfaces.as_slice(), &[], Some(2))?);
+    Ok(())
+}
+
+#[test]
+fn a_class_with_bad_parents_is_bad(rt: HostRuntime) -> Result<(), OutOfMemory> {
     let extends_interface = [OBJECT, interface(&[]), class(1, &[])];
-    assert_eq!(rt; bad(alloc, extends_interface.as_slice(), &none)?, Some(2));
+    assert!(rt; is_bad(rt.alloc(), extends_interface.as_slice(), &[], Some(2))?);
     let extends_final = [OBJECT, FINAL, class(1, &[])];
-    assert_eq!(rt; bad(alloc, extends_final.as_slice(), &none)?, Some(2));
+    assert!(rt; is_bad(rt.alloc(), extends_final.as_slice(), &[], Some(2))?);
     let implements_class = [OBJECT, class(0, &[]), class(0, &[1])];
-    assert_eq!(rt; bad(alloc, implements_class.as_slice(), &none)?, Some(2));
+    assert!(rt; is_bad(rt.alloc(), implements_class.as_slice(), &[], Some(2))?);
     Ok(())
 }
 
 #[test]
 fn a_class_that_overrides_a_final_method_is_bad(rt: HostRuntime) -> Result<(), OutOfMemory> {
-    let alloc = rt.alloc();
     let rows = [OBJECT, class(0, &[]), class(1, &[]), class(2, &[])];
-    let overriding = [final_method(1, 0, Visibility::Public), method(3, 0)];
-    let Some(methods) = methods(alloc, overriding.as_slice())? else {
-        panic!(rt; "methods");
-    };
-    assert_eq!(rt; bad(alloc, rows.as_slice(), &methods)?, Some(3));
-    Ok(())
-}
-
-#[test]
-fn a_final_private_method_is_not_overridden(rt: HostRuntime) -> Result<(), OutOfMemory> {
-    let alloc = rt.alloc();
-    let rows = [OBJECT, class(0, &[]), class(1, &[])];
-    let apart = [final_method(1, 0, Visibility::Private), method(2, 0)];
-    let Some(methods) = methods(alloc, apart.as_slice())? else {
-        panic!(rt; "methods");
-    };
-    assert_eq!(rt; bad(alloc, rows.as_slice(), &methods)?, None);
+    let public = [final_method(1, 0, Visibility::Public), method(3, 0)];
+    assert!(rt; is_bad(rt.alloc(), rows.as_slice(), public.as_slice(), Some(3))?);
+    let private = [final_method(1, 0, Visibility::Private), method(3, 0)];
+    assert!(rt; is_bad(rt.alloc(), rows.as_slice(), private.as_slice(), None)?);
     Ok(())
 }
 
 #[test]
 fn methods_are_resolved(rt: HostRuntime) -> Result<(), OutOfMemory> {
-    let alloc = rt.alloc();
-    let Some(methods) = five_methods(alloc)? else {
-        panic!(rt; "methods");
-    };
-    let Some(hierarchy) = seven(alloc, &methods)? else {
-        panic!(rt; "hierarchy");
-    };
-    assert!(rt; hierarchy.len() == 7);
-    assert!(rt; methods.len() == 5);
-    assert_eq!(rt; methods.method(3).declared.class, 3);
-    assert_eq!(rt; methods.declared(3, 1), Some(3));
-    assert_eq!(rt; methods.declared(4, 1), None);
-    assert_eq!(rt;
-        resolved_method(alloc, &hierarchy, &methods, 0, 4, 0)?,
-        Some(1)
-    );
-    assert_eq!(rt;
-        resolved_method(alloc, &hierarchy, &methods, 0, 3, 0)?,
-        Some(0)
-    );
-    assert_eq!(rt;
-        resolved_method(alloc, &hierarchy, &methods, 0, 4, 1)?,
-        Some(3)
-    );
-    assert_eq!(rt;
-        resolved_method(alloc, &hierarchy, &methods, 0, 2, 1)?,
-        Some(2)
-    );
-    assert_eq!(rt;
-        resolved_method(alloc, &hierarchy, &methods, 0, 0, 0)?,
-        None
-    );
-    Ok(())
-}
-
-#[test]
-fn fields_are_resolved_and_laid_out(rt: HostRuntime) -> Result<(), OutOfMemory> {
-    let alloc = rt.alloc();
-    let Some(methods) = methods(alloc, &[])? else {
-        panic!(rt; "methods");
-    };
-    let Some(hierarchy) = seven(alloc, &methods)? else {
-        panic!(rt; "hierarchy");
-    };
-    let Some(fields) = four_fields(alloc)? else {
-        panic!(rt; "fields");
-    };
-    assert!(rt; hierarchy.len() == 7);
-    assert!(rt; fields.len() == 4);
-    assert_eq!(rt; fields.field(3).declared.class, 4);
-    assert_eq!(rt; fields.declared(4, 1), Some(3));
-    assert_eq!(rt; resolved_field(&hierarchy, &fields, 4, 0), Some(0));
-    assert_eq!(rt; resolved_field(&hierarchy, &fields, 3, 0), Some(1));
-    assert_eq!(rt; resolved_field(&hierarchy, &fields, 0, 0), None);
-    let lists = layouts(alloc, &hierarchy, &fields)?;
-    assert!(rt; lists.len() == 7);
-    assert_eq!(rt; lists.get(4).as_slice(), [1, 2, 3].as_slice());
-    assert_eq!(rt; lists.get(1).as_slice(), [].as_slice());
+    assert!(rt; methods_are_found(rt.alloc())?);
     Ok(())
 }
 
 #[test]
 fn methods_are_selected(rt: HostRuntime) -> Result<(), OutOfMemory> {
-    let alloc = rt.alloc();
-    let Some(methods) = five_methods(alloc)? else {
-        panic!(rt; "methods");
-    };
-    let Some(hierarchy) = seven(alloc, &methods)? else {
-        panic!(rt; "hierarchy");
-    };
-    assert!(rt; hierarchy.len() == 7);
-    assert!(rt; methods.len() == 5);
-    let selection = Selection::of(alloc, &hierarchy, &methods)?;
-    assert_eq!(rt; selection.select(4, 0), Selected::Method(1));
-    assert_eq!(rt; selection.select(3, 0), Selected::Method(0));
-    assert_eq!(rt; selection.select(4, 2), Selected::Method(3));
-    assert_eq!(rt; selection.select(6, 0), Selected::Several);
-    assert_eq!(rt; selection.select(0, 0), Selected::Abstract);
+    assert!(rt; methods_are_chosen(rt.alloc())?);
+    Ok(())
+}
+
+#[test]
+fn fields_are_resolved_and_laid_out(rt: HostRuntime) -> Result<(), OutOfMemory> {
+    assert!(rt; fields_are_found(rt.alloc())?);
     Ok(())
 }
 
 #[test]
 fn classes_are_initialised_in_order(rt: HostRuntime) -> Result<(), OutOfMemory> {
-    let alloc = rt.alloc();
-    let Some(methods) = five_methods(alloc)? else {
-        panic!(rt; "methods");
-    };
-    let Some(hierarchy) = seven(alloc, &methods)? else {
-        panic!(rt; "hierarchy");
-    };
-    assert!(rt; hierarchy.len() == 7);
-    let lists = initialised_before(alloc, &hierarchy, &methods)?;
-    assert!(rt; lists.len() == 7);
-    assert_eq!(rt; lists.get(4).as_slice(), [3, 1, 2].as_slice());
-    assert_eq!(rt; lists.get(6).as_slice(), [0, 1, 2, 5].as_slice());
-    assert_eq!(rt; lists.get(1).as_slice(), [].as_slice());
+    assert!(rt; classes_are_ordered(rt.alloc())?);
     Ok(())
 }
