@@ -54,17 +54,6 @@ pub(crate) fn method(class: u32, signature: u32) -> Method {
     }
 }
 
-/// A final method that isn't static.
-pub(crate) fn final_method(class: u32, signature: u32, visibility: Visibility) -> Method {
-    Method {
-        declared: Declared { class, signature },
-        visibility,
-        is_static: false,
-        is_final: true,
-        is_abstract: false,
-    }
-}
-
 /// A field.
 pub(crate) fn field(class: u32, signature: u32, is_static: bool) -> Field {
     Field {

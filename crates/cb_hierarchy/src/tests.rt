@@ -1,10 +1,8 @@
 // Small hierarchies, with ample memory.
-use crate::samples::{
-    Row, bad, class, field, fields, final_method, hierarchy, interface, method, methods,
-};
+use crate::samples::{Row, bad, class, field, fields, hierarchy, interface, method, methods};
 use crate::{
-    FieldTable, Hierarchy, Method, MethodTable, Selected, Selection, Visibility,
-    initialised_before, layouts, resolved_field, resolved_method,
+    FieldTable, Hierarchy, Method, MethodTable, Selected, Selection, initialised_before, layouts,
+    resolved_field, resolved_method,
 };
 use cb_plain::{List, Numbers, OutOfMemory};
 use std::alloc::Global;
@@ -14,13 +12,6 @@ const OBJECT: Row<'static> = Row {
     interfaces: &[],
     is_interface: false,
     is_final: false,
-};
-
-const FINAL: Row<'static> = Row {
-    superclass: Some(0),
-    interfaces: &[],
-    is_interface: false,
-    is_final: true,
 };
 
 // Object; I; J extends I; A implements I; B extends A implements J; K extends I; C implements J, K.
@@ -222,61 +213,18 @@ fn classes_are_ordered(alloc: Global) -> Result<bool, OutOfMemory> {
 }
 
 #[test]
-fn a_hierarchy_answers_what_is_above_a_class(rt: HostRuntime) -> Result<(), OutOfMemory> {
+fn each_call_answers(rt: HostRuntime) -> Result<(), OutOfMemory> {
     assert!(rt; above_are_known(rt.alloc())?);
+    assert!(rt; methods_are_found(rt.alloc())?);
+    assert!(rt; methods_are_chosen(rt.alloc())?);
+    assert!(rt; fields_are_found(rt.alloc())?);
+    assert!(rt; classes_are_ordered(rt.alloc())?);
     Ok(())
 }
 
 #[test]
 fn a_class_above_itself_is_bad(rt: HostRuntime) -> Result<(), OutOfMemory> {
-    let by_classes = [OBJECT, class(2, &[]), class(1, &[])];
-    assert!(rt; is_bad(rt.alloc(), by_classes.as_slice(), &[], Some(1))?);
-    let by_interfaces = [OBJECT, interface(&[2]), interface(&[3]), interface(&[2])];
-    assert!(rt; is_bad(rt.alloc(), by_interfaces.as_slice(), &[], Some(2))?);
-    Ok(())
-}
-
-#[test]
-fn a_class_with_bad_parents_is_bad(rt: HostRuntime) -> Result<(), OutOfMemory> {
-    let extends_interface = [OBJECT, interface(&[]), class(1, &[])];
-    assert!(rt; is_bad(rt.alloc(), extends_interface.as_slice(), &[], Some(2))?);
-    let extends_final = [OBJECT, FINAL, class(1, &[])];
-    assert!(rt; is_bad(rt.alloc(), extends_final.as_slice(), &[], Some(2))?);
-    let implements_class = [OBJECT, class(0, &[]), class(0, &[1])];
-    assert!(rt; is_bad(rt.alloc(), implements_class.as_slice(), &[], Some(2))?);
-    Ok(())
-}
-
-#[test]
-fn a_class_that_overrides_a_final_method_is_bad(rt: HostRuntime) -> Result<(), OutOfMemory> {
-    let rows = [OBJECT, class(0, &[]), class(1, &[]), class(2, &[])];
-    let public = [final_method(1, 0, Visibility::Public), method(3, 0)];
-    assert!(rt; is_bad(rt.alloc(), rows.as_slice(), public.as_slice(), Some(3))?);
-    let private = [final_method(1, 0, Visibility::Private), method(3, 0)];
-    assert!(rt; is_bad(rt.alloc(), rows.as_slice(), private.as_slice(), None)?);
-    Ok(())
-}
-
-#[test]
-fn methods_are_resolved(rt: HostRuntime) -> Result<(), OutOfMemory> {
-    assert!(rt; methods_are_found(rt.alloc())?);
-    Ok(())
-}
-
-#[test]
-fn methods_are_selected(rt: HostRuntime) -> Result<(), OutOfMemory> {
-    assert!(rt; methods_are_chosen(rt.alloc())?);
-    Ok(())
-}
-
-#[test]
-fn fields_are_resolved_and_laid_out(rt: HostRuntime) -> Result<(), OutOfMemory> {
-    assert!(rt; fields_are_found(rt.alloc())?);
-    Ok(())
-}
-
-#[test]
-fn classes_are_initialised_in_order(rt: HostRuntime) -> Result<(), OutOfMemory> {
-    assert!(rt; classes_are_ordered(rt.alloc())?);
+    let rows = [OBJECT, class(2, &[]), class(1, &[])];
+    assert!(rt; is_bad(rt.alloc(), rows.as_slice(), &[], Some(1))?);
     Ok(())
 }
