@@ -54,6 +54,14 @@ pub(crate) fn method(class: u32, signature: u32) -> Method {
     }
 }
 
+/// A field.
+pub(crate) fn field(class: u32, signature: u32, is_static: bool) -> Field {
+    Field {
+        declared: Declared { class, signature },
+        is_static,
+    }
+}
+
 /// The classes of a table.
 pub(crate) fn classes(alloc: Global, rows: &[Row]) -> Result<Classes, OutOfMemory> {
     let mut classes = Classes::new(alloc);
