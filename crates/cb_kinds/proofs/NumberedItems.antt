@@ -43,12 +43,14 @@ module _ {A B : Type 0} (Is : List (List ℕ) → A → Type 0) (read : List (Li
   all_same texts more [] are = refl
   all_same texts more (item ∷ items) are = λ i. same texts more item are.0 i ∷ all_same texts more items are.1 i
 
-  all_last : (P : A → Type 0) (items : List A) (item : A) → AllByRecursion P items → P item → AllByRecursion P (items ++ item ∷ [])
-  all_last P [] item are is = (is, tt)
-  all_last P (first ∷ items) item are is = (are.0, all_last P items item are.1 is)
+-- and for one item more
+all_last : {A : Type 0} (P : A → Type 0) (items : List A) (item : A) → AllByRecursion P items → P item → AllByRecursion P (items ++ item ∷ [])
+all_last P [] item are is = (is, tt)
+all_last P (first ∷ items) item are is = (are.0, all_last P items item are.1 is)
 
-  numbered_last : (texts : List (List ℕ)) (items : List A) (item : A) → AreNumbered Is texts items → Is texts item → AreNumbered Is texts (items ++ item ∷ [])
-  numbered_last texts items item numbered is = record { once = numbered.once; are = all_last (Is texts) items item numbered.are is }
+numbered_last : {A : Type 0} (Is : List (List ℕ) → A → Type 0) (texts : List (List ℕ)) (items : List A) (item : A) → AreNumbered Is texts items → Is texts item
+    → AreNumbered Is texts (items ++ item ∷ [])
+numbered_last Is texts items item numbered is = record { once = numbered.once; are = all_last (Is texts) items item numbered.are is }
 
 -- a number that a text has says it
 is_number : (texts : List (List ℕ)) (text : List ℕ) (number : ℕ) → number_of texts text ≡ Some number → IsNumber texts number
@@ -159,7 +161,7 @@ pairs_still texts more after items is numbered =
 pub text_last : (texts : List (List ℕ)) (items : List ℕ) (text : List ℕ) (number : ℕ) → AreNumbered IsNumber texts items → number_of texts text ≡ Some number
     → AreNumbered IsNumber texts (items ++ number ∷ []) × (map (text_of texts) (items ++ number ∷ []) ≡ map (text_of texts) items ++ text ∷ [])
 text_last texts items text number numbered is = (
-  numbered_last IsNumber text_of still_number same_text_of texts items number numbered (is_number texts text number is),
+  numbered_last IsNumber texts items number numbered (is_number texts text number is),
   map-append (text_of texts) items (number ∷ []) ∙ ap (λ text. map (text_of texts) items ++ text ∷ []) (says texts text number is),
 )
 
@@ -171,6 +173,6 @@ pub pair_last : (texts : List (List ℕ)) (items : List (ℕ × ℕ)) (name desc
     → number_of texts name ≡ Some pair.0 → number_of texts descriptor ≡ Some pair.1
     → AreNumbered IsPair texts (items ++ pair ∷ []) × (map (pair_of texts) (items ++ pair ∷ []) ≡ map (pair_of texts) items ++ (name, descriptor) ∷ [])
 pair_last texts items name descriptor pair numbered is also = (
-  numbered_last IsPair pair_of still_pair same_pair_of texts items pair numbered (is_number texts name pair.0 is, is_number texts descriptor pair.1 also),
+  numbered_last IsPair texts items pair numbered (is_number texts name pair.0 is, is_number texts descriptor pair.1 also),
   map-append (pair_of texts) items (pair ∷ []) ∙ (λ i. map (pair_of texts) items ++ (says texts name pair.0 is i, says texts descriptor pair.1 also i) ∷ []),
 )

@@ -81,6 +81,30 @@ fn the_first_of_equal_texts_counts(rt: HostRuntime) -> Result<(), Fail> {
     Ok(())
 }
 
+/// Adds a pair whose bytes are its codes.
+fn add(
+    alloc: Global,
+    pairs: &mut PairNumbers,
+    name: &[u8],
+    descriptor: &[u8],
+) -> Result<(), AllocError> {
+    let name = units(alloc, name)?;
+    let descriptor = units(alloc, descriptor)?;
+    pairs.push(&name, &descriptor)
+}
+
+/// The number of a pair whose bytes are its codes.
+fn number(
+    alloc: Global,
+    pairs: &PairNumbers,
+    name: &[u8],
+    descriptor: &[u8],
+) -> Result<Option<u32>, AllocError> {
+    let name = units(alloc, name)?;
+    let descriptor = units(alloc, descriptor)?;
+    Ok(pairs.number(&name, &descriptor))
+}
+
 #[test]
 fn the_first_of_equal_pairs_counts(rt: HostRuntime) -> Result<(), Fail> {
     let mut pairs = PairNumbers::new(rt.alloc());
@@ -90,23 +114,18 @@ fn the_first_of_equal_pairs_counts(rt: HostRuntime) -> Result<(), Fail> {
         (b"b", b"()V"),
         (b"a", b"()I"),
     ] {
-        let name = units(rt.alloc(), name)?;
-        let descriptor = units(rt.alloc(), descriptor)?;
-        pairs.push(&name, &descriptor)?;
+        add(rt.alloc(), &mut pairs, name, descriptor)?;
     }
-    assert_eq!(rt; pairs.len(), 4);
-    for (name, descriptor, number) in [
+    for (name, descriptor, want) in [
         (b"a".as_slice(), b"()V".as_slice(), Some(0)),
         (b"b", b"()V", Some(2)),
         (b"a", b"()I", Some(3)),
         (b"b", b"()I", None),
-        (b"()V", b"a", None),
     ] {
-        let units_of_name = units(rt.alloc(), name)?;
-        let units_of_descriptor = units(rt.alloc(), descriptor)?;
-        let found = pairs.number(&units_of_name, &units_of_descriptor);
-        assert_eq!(rt; found, number, "at {name:?} {descriptor:?}");
+        let found = number(rt.alloc(), &pairs, name, descriptor)?;
+        assert_eq!(rt; found, want, "at {name:?} {descriptor:?}");
     }
+    assert_eq!(rt; pairs.len(), 4);
     Ok(())
 }
 
