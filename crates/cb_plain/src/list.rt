@@ -17,6 +17,9 @@ pub struct List<T> {
 /// A list of numbers.
 pub type Numbers = List<u32>;
 
+/// A list of marks.
+pub type Marks = List<bool>;
+
 impl<T> Model for List<T> {
     ghost use Rattle.std.specs.Prelude.{List as Items};
 

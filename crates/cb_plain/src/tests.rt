@@ -1,5 +1,5 @@
-// A list with ample memory.
-use crate::{Numbers, OutOfMemory};
+// Lists and names with ample memory.
+use crate::{Marks, Name, Names, Numbers, OutOfMemory, Shape, Shapes, Value};
 
 #[test]
 fn a_list_has_its_items_in_the_order_of_their_pushes(rt: HostRuntime) -> Result<(), OutOfMemory> {
@@ -17,5 +17,20 @@ fn a_list_has_its_items_in_the_order_of_their_pushes(rt: HostRuntime) -> Result<
         again.push(*item)?;
     }
     assert_eq!(rt; again.as_slice(), [7, 5, 7].as_slice());
+    Ok(())
+}
+
+#[test]
+fn names_values_and_shapes_are_what_they_are_made_of(rt: HostRuntime) -> Result<(), OutOfMemory> {
+    let mut names = Names::new(rt.alloc());
+    names.push(Name::of(rt.alloc(), "a/é")?)?;
+    assert_eq!(rt; names.get(0).text(), "a/é");
+    let mut marks = Marks::new(rt.alloc());
+    marks.push(true)?;
+    let mut shapes = Shapes::new(rt.alloc());
+    shapes.push(Shape::Fields(marks))?;
+    shapes.push(Shape::Elements(false))?;
+    assert!(rt; matches!(shapes.get(1), Shape::Elements(false)));
+    assert!(rt; Value::Ref(0) != Value::Long(0));
     Ok(())
 }
