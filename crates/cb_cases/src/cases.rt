@@ -1,6 +1,7 @@
 // The cases of the text.
-use crate::command::do_command;
+use crate::command::{do_command, link_main};
 use crate::content::{Named, change};
+use crate::linked::LinkedProgram;
 use crate::repeat::{Repeat, filled};
 use crate::setup::Setup;
 use crate::trouble::Trouble;
@@ -32,6 +33,8 @@ pub(crate) struct Cases {
     setup: Setup,
     /// Whether a case has begun that has run nothing.
     is_open: bool,
+    /// The program that the last case linked.
+    program: Option<Box<LinkedProgram>>,
     /// Where the bytes of the last lines belong.
     target: Target,
     /// These bytes.
@@ -56,6 +59,7 @@ impl Cases {
             named: BTreeMap::new(alloc),
             setup: Setup::new(alloc),
             is_open: false,
+            program: None,
             target: Target::Nothing,
             bytes: Vec::new(alloc),
             repeat: None,
@@ -202,6 +206,7 @@ impl Cases {
                 self.setup.begin_again();
                 self.begin(rest)
             }
+            "ask" => self.ask(rest),
             _ if self.is_open => self.obey_in_case(keyword, rest),
             _ => Err(Trouble::OutsideOfCase),
         }
@@ -234,6 +239,10 @@ impl Cases {
             "input" if rest.is_empty() => self.target = Target::Input,
             "folder" | "input" | "out" | "err" => self.setup.set_calls(keyword, rest)?,
             "word" => self.setup.add_word(rest)?,
+            "link" => {
+                self.program = link_main(self.alloc, &mut self.setup, &mut self.report, rest)?;
+                self.is_open = false;
+            }
             _ => {
                 let alloc = self.alloc;
                 do_command(alloc, &mut self.setup, &mut self.report, keyword, rest)?;
@@ -243,10 +252,19 @@ impl Cases {
         Ok(())
     }
 
+    /// Does what a line asks of the program that the case has linked.
+    fn ask(&mut self, line: &str) -> Result<(), Trouble> {
+        match &self.program {
+            Some(program) => program.answer(self.alloc, &mut self.report, line),
+            None => Err(Trouble::NothingLinked),
+        }
+    }
+
     /// Begins a case with a title.
     fn begin(&mut self, title: &str) -> Result<(), Trouble> {
         let was_open = self.is_open;
         self.is_open = true;
+        self.program = None;
         if self.cases > 0 {
             self.report.push('\n')?;
         }

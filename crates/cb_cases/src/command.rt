@@ -1,17 +1,17 @@
 // The commands of cases.
-use crate::number::number_of;
+use crate::linked::LinkedProgram;
+use crate::number::{narrow, number_of};
 use crate::printing::push_bytes;
+use crate::program_names::units_of;
 use crate::setup::Setup;
 use crate::trouble::Trouble;
 use cb_asm::list;
 use cb_classfile::{ClassFile, unsupported};
 use cb_core::core_classes;
-use cb_io::text_of;
 use cb_link::{Program, link};
 use cb_runner::run_command;
-use cb_text::Units;
 use cb_writer::well_formed;
-use std::alloc::Global;
+use std::alloc::{AllocError, Global};
 
 /// Does a command, if the keyword is that of one, and prints what came of it.
 pub(crate) fn do_command(
@@ -26,7 +26,6 @@ pub(crate) fn do_command(
             add_words(setup, rest)?;
             run(alloc, setup, report)
         }
-        "link" => link_main(alloc, setup, report, rest),
         "library" => list_class(alloc, report, number_of(rest)?),
         _ => Err(Trouble::NotUnderstood),
     }
@@ -65,57 +64,31 @@ fn run(alloc: Global, setup: &mut Setup, report: &mut String) -> Result<(), Trou
     Ok(())
 }
 
-/// Links the main class of a folder, and prints the names of the classes behind the library's in their order.
-fn link_main(
+/// Links the main class of a folder.
+pub(crate) fn link_main(
     alloc: Global,
     setup: &mut Setup,
     report: &mut String,
     line: &str,
-) -> Result<(), Trouble> {
+) -> Result<Option<Box<LinkedProgram>>, Trouble> {
     let Some((root, main)) = line.split_once(' ') else {
         return Err(Trouble::NotUnderstood);
     };
     let mut folder = setup.take_folder()?;
     let library = core_classes(alloc)?;
-    let known = library.len();
+    let known = narrow(library.len())?;
     match link(alloc, library, &mut folder, root, units_of(alloc, main)?) {
-        Ok(program) => print_classes(alloc, report, &program, known),
+        Ok(program) => Ok(Some(boxed(alloc, program, known)?)),
         Err(refusal) => {
             writeln!(report, "refused {refusal:?}")?;
-            Ok(())
+            Ok(None)
         }
     }
 }
 
-/// The units of a text.
-fn units_of(alloc: Global, text: &str) -> Result<Units, Trouble> {
-    let mut units = Units::new(alloc);
-    for unit in text.encode_utf16() {
-        units.push(unit)?;
-    }
-    Ok(units)
-}
-
-/// Prints how many classes a program has, and the names of all but the first.
-fn print_classes(
-    alloc: Global,
-    report: &mut String,
-    program: &Program,
-    known: usize,
-) -> Result<(), Trouble> {
-    writeln!(report, "classes {}", program.class_count())?;
-    for number in known..program.class_count() {
-        print_name(alloc, report, program.class(number))?;
-    }
-    Ok(())
-}
-
-/// Prints the name of a class.
-fn print_name(alloc: Global, report: &mut String, class: &ClassFile) -> Result<(), Trouble> {
-    let name = class.pool.class(class.this_class).unwrap_or(&[]);
-    let name = text_of(alloc, name)?;
-    writeln!(report, "class {name}")?;
-    Ok(())
+/// A linked program in a box, so that what carries it costs the check of proofs nothing.
+fn boxed(alloc: Global, program: Program, known: u32) -> Result<Box<LinkedProgram>, AllocError> {
+    Ok(Box::new(alloc, LinkedProgram { program, known })?)
 }
 
 /// Prints the listing of a class of the library.

@@ -4,19 +4,28 @@
 //! the file beside the text.
 #![tactic(auto)]
 
+mod asked_classes;
+mod asked_code;
+mod asked_fields;
+mod asked_kinds;
+mod asked_methods;
+mod asked_sites;
 mod calls;
 mod cases;
 mod command;
 mod content;
 mod data_file;
+mod linked;
 mod number;
 mod printing;
+mod program_names;
 mod repeat;
 mod setup;
 mod trouble;
 
 use cases::Cases;
-use cb_io::DirFolder;
+use cb_io::{DirFolder, Folder};
+use std::alloc::AllocError;
 use std::io;
 use std::process::ExitCode;
 
@@ -24,14 +33,23 @@ fn main(rt: HostRuntime) -> io::Result<ExitCode> {
     let text = io::read_to_string(rt.alloc(), rt.stdin())?;
     let mut data_folder = DirFolder::new(&rt);
     let mut cases = Cases::new(rt.alloc());
-    for line in text.lines() {
-        cases.read_line(&mut data_folder, line)?;
-    }
-    cases.finish()?;
+    read_text(&mut cases, &mut data_folder, text.as_str())?;
     print!(rt; "{}", cases.printed())?;
     Ok(if cases.had_trouble() {
         ExitCode::FAILURE
     } else {
         ExitCode::SUCCESS
     })
+}
+
+/// Does what the lines of a text say, the last of them too.
+fn read_text<F: Folder>(
+    cases: &mut Cases,
+    data_folder: &mut F,
+    text: &str,
+) -> Result<(), AllocError> {
+    for line in text.lines() {
+        cases.read_line(data_folder, line)?;
+    }
+    cases.finish()
 }

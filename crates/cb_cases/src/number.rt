@@ -19,3 +19,8 @@ pub(crate) fn byte_of(word: &str) -> Result<u8, Trouble> {
     }
     u8::from_str_radix(word, 16).map_err(|_| Trouble::NotUnderstood)
 }
+
+/// A count as a number of a program.
+pub(crate) fn narrow(count: usize) -> Result<u32, Trouble> {
+    u32::try_from(count).map_err(|_| Trouble::UnknownInProgram)
+}

@@ -27,6 +27,10 @@ pub(crate) enum Trouble {
     BadAssembly { line: u32 },
     /// The library has no class of this number.
     UnknownClass,
+    /// It asks, and the case has linked no program.
+    NothingLinked,
+    /// It asks for something that the program doesn't have.
+    UnknownInProgram,
     /// No memory was to be had.
     OutOfMemory,
 }
@@ -46,6 +50,8 @@ impl fmt::Display for Trouble {
                 return write!(f, "assembles a text whose line {line} is bad");
             }
             Trouble::UnknownClass => "names no class of the library",
+            Trouble::NothingLinked => "asks, and no program is linked",
+            Trouble::UnknownInProgram => "asks for what the program doesn't have",
             Trouble::OutOfMemory => "wants more memory than there is",
         };
         f.write_str(words)

@@ -1,9 +1,10 @@
 -- What values are, where kinds have numbers: numbers of a base type, or references to objects of a kind.
-use Rattle.std.specs.Prelude.{ℕ, Bool, List, [], ◌∷◌, Option, Some, None, true, false, not, ◌==◌, ◌||◌, if◌then◌else◌}
-use Rattle.std.specs.List.{position_or_len, take_while}
-use Rattle.cb_names.specs.Signs.{bracket, letter_boolean, letter_byte, letter_char, letter_class, letter_double, letter_long, letter_short, semicolon}
+use Rattle.std.specs.Prelude.{ℕ, Bool, List, [], ◌∷◌, Option, Some, None, true, false, ◌==◌, ◌||◌, if◌then◌else◌}
+use Rattle.std.specs.List.{position_or_len}
+use Rattle.cb_names.specs.Signs.{bracket, letter_boolean, letter_byte, letter_char, letter_class, letter_double, letter_long, letter_short}
 use Rattle.cb_kinds.specs.declared.basic.Basic.{Basic}
 use Rattle.cb_kinds.specs.declared.basic.Basic.TheVariants.{Boolean, Byte, Char, Short, Int, Long, Reference}
+use Rattle.cb_kinds.specs.Kinds.{name_in}
 use Rattle.cb_kinds.specs.Texts.{same_text}
 
 -- the number of a kind that is there
@@ -15,7 +16,7 @@ abbrev pub basic_of : List (List ℕ) → List ℕ → Basic
 basic_of kinds [] = Int
 basic_of kinds (unit ∷ rest) =
     if unit == bracket then Reference (kind_number kinds (unit ∷ rest))
-    else if unit == letter_class then Reference (kind_number kinds (take_while (λ other. not (other == semicolon)) rest))
+    else if unit == letter_class then Reference (kind_number kinds (name_in rest))
     else if unit == letter_boolean then Boolean
     else if unit == letter_byte then Byte
     else if unit == letter_char then Char

@@ -25,3 +25,4 @@ pub use law::{each_once, types_as_spelled};
 pub use pair_numbers::PairNumbers;
 pub use text_numbers::TextNumbers;
 pub use texts::Texts;
+pub use units::class_name;

@@ -1,9 +1,8 @@
 // The units that have a meaning in descriptors (JVMS §4.3.2, table 4.3-A), and where one stands.
 ghost use Rattle.std.specs.Prelude.{◌≡◌, ◌==◌, not};
-ghost use Rattle.std.specs.List.{prefix_len, take_while};
-ghost use Rattle.cb_names.specs.Signs.{semicolon};
+ghost use Rattle.std.specs.List.{prefix_len};
 ghost use Rattle.cb_kinds.specs.Descriptors.{is_base};
-ghost use Rattle.cb_kinds.specs.Kinds.{is_array};
+ghost use Rattle.cb_kinds.specs.Kinds.{ends_name, is_array, name_in};
 
 /// `)`, behind which a method's result stands (JVMS §4.3.3).
 pub(crate) const RIGHT_PARENTHESIS: u16 = b')' as u16;
@@ -54,11 +53,25 @@ pub(crate) fn is_array(name: &[u16]) -> bool
     name.first() == Some(&BRACKET)
 }
 
-/// The name of a class that ends with a semicolon or with the text.
-pub(crate) fn class_name(text: &[u16]) -> &[u16]
-    ensures { result.now ≡ take_while (λ other. not (other == semicolon)) text.now }
+/// Whether a unit stands in no name of a class, and so ends one.
+fn ends_name(unit: u16) -> bool
+    ensures { result ≡ ends_name unit }
 {
-    &text[..place_of(text, SEMICOLON)]
+    unit == SEMICOLON || unit == BRACKET
+}
+
+/// The name of a class that stands in front, up to the first unit that ends it (JVMS §4.2.1).
+pub fn class_name(text: &[u16]) -> &[u16]
+    ensures { result.now ≡ name_in text.now }
+{
+    &text[..name_len(text)]
+}
+
+/// How many units stand in a name in front.
+fn name_len(text: &[u16]) -> usize
+    ensures { result ≡ prefix_len (λ unit. not (ends_name unit)) text.now }
+{
+    text.iter().take_while(|unit| !ends_name(**unit)).count()
 }
 
 /// How many units stand before the first of these.

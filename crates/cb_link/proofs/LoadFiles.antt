@@ -1,6 +1,6 @@
 -- What a file comes to.
-use Rattle.std.proofs.Common.{◌≡◌, ◌↔◌, ℕ, ◌+◌, ◌<◌, ◌≤◌, Bool, true, false, ◌||◌, List, [], ◌∷◌, length, Option, None, Some, IfSome, refl, sym, subst, ap, ◌∙◌, arith, replicate}
-use Rattle.std.specs.Prelude.{IsSomeAnd, IsTrue, Vec}
+use Rattle.std.proofs.Common.{◌≡◌, ℕ, ◌+◌, ◌<◌, ◌≤◌, Bool, true, false, ◌||◌, List, length, Option, None, Some, IfSome, refl, sym, subst, ap, ◌∙◌, arith, replicate}
+use Rattle.std.specs.Prelude.{Vec}
 use Rattle.std.specs.FinMap.{get}
 use Rattle.std.specs.List.{list_any}
 use Rattle.std.specs.declared.alloc.Global.{Global}
@@ -11,13 +11,13 @@ use Rattle.cb_io.specs.declared.folder.Found.{Found}
 use Rattle.cb_io.specs.declared.folder.Found.TheVariants.{Bytes, Absent, TooLong}
 use Rattle.cb_classfile.specs.declared.class.ClassFile.{ClassFile}
 use Rattle.cb_link.specs.declared.refusal.Refusal.{Refusal}
-use Rattle.cb_link.specs.declared.refusal.Refusal.TheVariants.{MissingClass, TooLarge, Malformed, BadVersion, Unsupported, FolderFault, OutOfMemory}
+use Rattle.cb_link.specs.declared.refusal.Refusal.TheVariants.{MissingClass, TooLarge, Malformed, BadVersion, Unsupported, OutOfMemory}
 use Rattle.cb_link.specs.declared.refusal.Quantity.TheVariants.{ClassFileBytes, Classes}
 use Rattle.cb_link.specs.Names.{Entry}
 use Rattle.cb_link.specs.Closure.{Turn, same_name}
 use Rattle.cb_link.specs.Files.{MayStandAt, path_of}
 use Rattle.cb_link.specs.Loading.{HasRoom, IsClassOf, IsRefused, IsMissing, IsLong, AreMany, IsOfVersion, IsNoClass, IsLeftOut, IsRead, Loads, StaysOpaque, class_limit, file_limit, is_loaded}
-use Rattle.cb_link.specs.Turning.{AreAbsent, IsFound, IsNoClassOf, IsOutside, StopsAt}
+use Rattle.cb_link.specs.Turning.{AreAbsent, IsFound, IsNoClassOf, StopsAt}
 
 -- a list can be that long
 longer : (limit : ℕ) → (bytes : List ℕ) × (limit < length bytes)

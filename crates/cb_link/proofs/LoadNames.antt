@@ -1,5 +1,5 @@
 -- Names in a set.
-use Rattle.std.proofs.Common.{◌≡◌, ℕ, Bool, true, false, ◌||◌, ◌+◌, ◌<◌, List, [], ◌∷◌, ◌++◌, length, take, get_or, map, Option, Some, Vec, refl, sym, ap, ◌∙◌}
+use Rattle.std.proofs.Common.{◌≡◌, ℕ, Bool, true, false, ◌||◌, ◌+◌, ◌<◌, List, [], ◌∷◌, ◌++◌, length, take, get_or, map, Vec, refl, sym, ap, ◌∙◌}
 use Rattle.std.specs.BTreeMap.{is_at}
 use Rattle.std.specs.BTreeSet.{insert_key}
 use Rattle.std.specs.Cmp.Lexicographic.{slice_cmp}
@@ -17,7 +17,7 @@ use Rattle.cb_classfile.specs.declared.class.ClassFile.{ClassFile}
 use Rattle.cb_classfile.specs.Library.{IsRecordOf}
 use Rattle.cb_library.specs.Rows.{CoreClass}
 use Rattle.cb_link.specs.Closure.{same_name}
-use Rattle.cb_link.specs.Turning.{is_named, is_own}
+use Rattle.cb_link.specs.Numbers.{is_named, is_own}
 
 -- a set finds a name among its keys
 pub found_at : (name : List ℕ) (keys : List (Vec ℕ Global)) → list_any (is_at (λ key. slice_cmp nat_cmp name key.items)) keys ≡ list_any (same_name name) (map (λ key. key.items) keys)

@@ -6,7 +6,7 @@ use Rattle.std.specs.Char.Utf16.{utf16_chars, utf16_lossy_chars, has_unpaired_su
 use Rattle.std.specs.List.{flat_map, list_all, list_any}
 use Rattle.std.specs.Str.{encode_utf8_all}
 use Rattle.std.proofs.lemmas.Bool.{false≢true}
-use Rattle.cb_io.specs.Utf8.{character_bytes, utf8}
+use Rattle.cb_io.specs.Utf8.{character_bytes}
 use Rattle.cb_link.specs.Files.{is_paired, is_text, is_under_java, path_of}
 
 either : (test any all : Bool) → any ≡ not all → (test || any) ≡ not (not test && all)

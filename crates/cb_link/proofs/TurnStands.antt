@@ -1,5 +1,5 @@
 -- Turns that are taken one after the other.
-use Rattle.std.proofs.Common.{◌≡◌, ◌↔◌, ℕ, ◌+◌, ◌<◌, ◌≤◌, Bool, true, false, ◌||◌, List, [], ◌∷◌, ◌++◌, length, map, take, Option, None, Some, refl, sym, subst, ap, ◌∙◌, arith, length-append, append_assoc}
+use Rattle.std.proofs.Common.{◌≡◌, ◌↔◌, ℕ, ◌+◌, ◌<◌, ◌≤◌, Bool, true, false, ◌||◌, List, [], ◌∷◌, ◌++◌, length, take, Option, None, Some, refl, sym, ap, ◌∙◌, arith, length-append, append_assoc}
 use Rattle.std.specs.Prelude.{slice_get}
 use Rattle.std.specs.List.{flat_map, list_any}
 use Rattle.std.proofs.lemmas.List.{append-nil, map-append}
@@ -12,13 +12,14 @@ use Rattle.cb_classfile.specs.declared.class.ClassFile.{ClassFile}
 use Rattle.cb_classfile.specs.Library.{AreLibrary, IsRecordOf}
 use Rattle.cb_library.specs.CoreClasses.{core_classes}
 use Rattle.cb_link.specs.declared.refusal.Refusal.{Refusal}
-use Rattle.cb_link.specs.declared.refusal.Refusal.TheVariants.{MissingClass, TooLarge, Malformed, BadVersion, Unsupported, FolderFault, OutOfMemory}
+use Rattle.cb_link.specs.declared.refusal.Refusal.TheVariants.{FolderFault, OutOfMemory}
 use Rattle.cb_link.specs.Names.{Entry, names_of}
 use Rattle.cb_link.specs.Closure.{Turn, added, entries_of, firsts, same_name}
 use Rattle.cb_link.specs.Files.{is_core}
 use Rattle.cb_link.specs.Inner.{entered_all}
-use Rattle.cb_link.specs.Loading.{AreLoaded, HasRoom, IsRefused, Loads, Stops, StopsFor, is_loaded, library_size, loaded, loaded_name, loaded_names}
-use Rattle.cb_link.specs.Turning.{AreTaken, StopsAt, is_named}
+use Rattle.cb_link.specs.Loading.{AreLoaded, HasRoom, IsRefused, Loads, Stops, StopsFor, library_size, loaded, loaded_name, loaded_names}
+use Rattle.cb_link.specs.Turning.{AreTaken, StopsAt}
+use Rattle.cb_link.specs.Numbers.{is_named}
 use Rattle.cb_link.proofs.EnteredLaws.{entries_grow}
 use Rattle.cb_link.proofs.LoadNames.{names_of_rows}
 use Rattle.cb_link.proofs.TurnLists.{each_more, entered_behind, silent, spoken, take_next}

@@ -1,8 +1,7 @@
 -- What taking up an entry comes to.
-use Rattle.std.proofs.Common.{◌≡◌, ◌↔◌, ℕ, zero, suc, ◌+◌, ◌<◌, ◌≤◌, Bool, true, false, ◌||◌, List, [], ◌∷◌, ◌++◌, length, Option, None, Some, IfSome, refl, sym, subst, ap, ◌∙◌, arith}
+use Rattle.std.proofs.Common.{◌≡◌, ◌↔◌, ℕ, zero, suc, ◌+◌, ◌<◌, ◌≤◌, Bool, true, false, ◌||◌, List, [], ◌∷◌, ◌++◌, length, Option, None, Some, IfSome, refl, sym, subst, ◌∙◌, arith}
 use Rattle.std.specs.Prelude.{IsTrue, nat_lt, option_map, slice_get}
 use Rattle.std.specs.List.{list_any}
-use Rattle.std.proofs.lemmas.Option.{slice_get_within}
 use Rattle.std.proofs.lemmas.Bool.Decides.{nat_tests}
 use Rattle.cb_io.specs.Folder.{Files}
 use Rattle.cb_classfile.specs.declared.class.ClassFile.{ClassFile}
@@ -11,7 +10,7 @@ use Rattle.cb_link.specs.Names.{Entry, names_of}
 use Rattle.cb_link.specs.Closure.{Turn, same_name}
 use Rattle.cb_link.specs.Inner.{entered_all}
 use Rattle.cb_link.specs.Loading.{HasRoom, IsRead, IsThere, Loads, StaysOpaque, Stops, is_loaded}
-use Rattle.cb_link.specs.Turning.{AreTaken, IsNext, Stands, StopsAt}
+use Rattle.cb_link.specs.Turning.{IsNext, Stands, StopsAt}
 use Rattle.cb_link.proofs.TurnStands.{all_taken, idle_turn, loading_turn, room_of, stops_at}
 
 -- the entry at a place, by its parts

@@ -1,6 +1,6 @@
 -- The closure of the names that a class needs: the entries that a main class and the classes which they load add, in the
 -- order in which they are added.
-use Rattle.std.specs.Prelude.{◌≡◌, ℕ, Bool, true, List, [], ◌∷◌, ◌++◌, map, filter, not, take, slice_get, Option, Some, None, nat_eq, ◌&&◌, ◌||◌}
+use Rattle.std.specs.Prelude.{◌≡◌, ℕ, Bool, true, List, [], ◌∷◌, map, filter, not, take, slice_get, Option, Some, None, nat_eq, ◌&&◌, ◌||◌}
 use Rattle.std.specs.Cmp.Lexicographic.{pointwise}
 use Rattle.std.specs.List.{flat_map}
 use Rattle.cb_link.specs.Names.{Entry}

@@ -1,12 +1,11 @@
 -- Where the file of a class stands in a folder.
-use Rattle.std.specs.Prelude.{◌≡◌, ℕ, Bool, true, false, List, [], ◌∷◌, ◌++◌, map, Option, Some, None, IfSome, codes, nat_eq, ◌==◌, ◌||◌, ◌&&◌, not, if◌then◌else◌}
+use Rattle.std.specs.Prelude.{◌≡◌, ℕ, Bool, true, false, List, ◌++◌, Option, Some, None, IfSome, codes, nat_eq, ◌==◌, ◌||◌, ◌&&◌, not, if◌then◌else◌}
 use Rattle.std.specs.Char.Utf16.{utf16_chars}
 use Rattle.std.specs.FinMap.{get}
 use Rattle.std.specs.List.{list_all, list_any, starts_with}
 use Rattle.cb_io.specs.Folder.{Files}
 use Rattle.cb_io.specs.Utf8.{utf8}
 use Rattle.cb_library.specs.CoreClasses.{core_classes}
-use Rattle.cb_library.specs.Rows.{CoreClass}
 use Rattle.cb_link.specs.Closure.{same_name}
 
 -- a name of the library's, which no folder has

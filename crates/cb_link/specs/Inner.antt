@@ -1,5 +1,5 @@
 -- What this crate's own functions and proofs cite, and no public clause: entries that are entered one after the other.
-use Rattle.std.specs.Prelude.{◌≡◌, ℕ, Bool, List, [], ◌∷◌, ◌++◌, if◌then◌else◌, Option, Some, None}
+use Rattle.std.specs.Prelude.{List, [], ◌∷◌, ◌++◌, if◌then◌else◌}
 use Rattle.std.specs.List.{list_any}
 use Rattle.cb_link.specs.Names.{Entry}
 use Rattle.cb_link.specs.Closure.{covers}

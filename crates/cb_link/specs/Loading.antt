@@ -1,6 +1,6 @@
 -- Loading (JVMS §5.3): the classes of a folder that a main class needs, or the first reason in the order of looking why
 -- they can't be had.
-use Rattle.std.specs.Prelude.{◌≡◌, ◌⊎◌, ℕ, ◌+◌, ◌<◌, ◌≤◌, Bool, true, false, ◌||◌, List, [], ◌∷◌, ◌++◌, length, map, take, slice_get, Option, Some, None}
+use Rattle.std.specs.Prelude.{◌≡◌, ℕ, ◌+◌, ◌<◌, ◌≤◌, Bool, true, false, ◌||◌, List, [], ◌∷◌, length, take, slice_get, Option, Some, None}
 use Rattle.std.specs.List.{flat_map, list_any}
 use Rattle.cb_io.specs.Folder.{Files}
 use Rattle.cb_classfile.specs.declared.class.ClassFile.{ClassFile}

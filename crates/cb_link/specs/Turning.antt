@@ -1,5 +1,5 @@
 -- What this crate's own functions and proofs cite of turns, and no public clause.
-use Rattle.std.specs.Prelude.{◌≡◌, ℕ, ◌+◌, Bool, true, false, List, [], ◌∷◌, ◌++◌, length, map, take, slice_get, Option, Some, None}
+use Rattle.std.specs.Prelude.{◌≡◌, ℕ, ◌+◌, true, List, ◌++◌, length, map, take, slice_get, Option, Some, None}
 use Rattle.std.specs.List.{list_any}
 use Rattle.cb_io.specs.Folder.{Files, FindsAt}
 use Rattle.cb_io.specs.declared.folder.Found.{Found}
@@ -9,19 +9,11 @@ use Rattle.cb_classfile.specs.Class.{HasVersion, IsAccepted, SpellsClass}
 use Rattle.cb_classfile.specs.Pool.{class_at}
 use Rattle.cb_classfile.specs.Profile.{unsupported}
 use Rattle.cb_link.specs.declared.refusal.Refusal.{Refusal}
-use Rattle.cb_link.specs.declared.refusal.Refusal.TheVariants.{MissingClass, TooLarge, Malformed, BadVersion, Unsupported, FolderFault, OutOfMemory}
+use Rattle.cb_link.specs.declared.refusal.Refusal.TheVariants.{Malformed, BadVersion, Unsupported, FolderFault, OutOfMemory}
 use Rattle.cb_link.specs.Names.{Entry, names_of}
 use Rattle.cb_link.specs.Closure.{IsBegun, Turn, entries_of, same_name}
 use Rattle.cb_link.specs.Files.{MayStandAt, path_of}
-use Rattle.cb_link.specs.Loading.{AreLoaded, AreTurns, IsRefused, Loads, Stops, file_limit, is_loaded, library_size, loaded, loaded_names}
-
--- the class has this name
-abbrev pub is_own : List ℕ → Option (List ℕ) → Bool
-is_own name None = false
-is_own name (Some own) = same_name name own
-
-abbrev pub is_named : List ℕ → ClassFile → Bool
-is_named name class = is_own name (class_at class.pool class.this_class)
+use Rattle.cb_link.specs.Loading.{AreLoaded, AreTurns, IsRefused, Loads, file_limit, is_loaded, library_size, loaded, loaded_names}
 
 -- what a folder has for a name was found
 abbrev pub IsFound : Option Files → List ℕ → List ℕ → Found → Type 0

@@ -2,7 +2,7 @@
 ghost use Rattle.std.specs.Prelude.{◌≡◌, ◌||◌, ℕ, List, [], IfOk, OnOk};
 ghost use Rattle.std.specs.List.{list_any};
 ghost use Rattle.cb_link.specs.Closure.{same_name};
-ghost use Rattle.cb_link.specs.Turning.{is_named};
+ghost use Rattle.cb_link.specs.Numbers.{is_named};
 
 use cb_classfile::ClassFile;
 use std::alloc::{AllocError, Global};

@@ -1,23 +1,71 @@
-//! Linking: the classes that a main class needs, found in a folder (JVMS §5.3).
+//! Linking (JVMS chapter 5): the classes that a main class needs, found in a folder, and the program that they are: its hierarchy,
+//! kinds of objects, members, sites and texts, by numbers, and what a running machine asks of them.
+//!
+//! `specs/` has a file for each notion. No clause says that memory is to be had, nor how much the tables take; that no call
+//! always gives up is shown by cases of `cb_cases`.
 #![tactic(auto)]
 
+mod all_tables;
+mod array_names;
+mod base;
+mod call_answers;
+mod call_tables;
 mod class_names;
 mod class_of;
+mod class_order;
+mod constant_answers;
+mod constant_named;
+mod constant_table;
+mod descriptors;
 mod entries;
+mod enums;
+mod field_answers;
+mod field_record;
+mod field_tables;
 mod file;
+mod fixed;
+mod judging;
+mod kind_answers;
+mod kind_row;
+mod kind_table;
+mod kinds;
+mod lacked;
+mod lacking;
 mod law;
+mod linked;
 mod linking;
+mod loaded_texts;
 mod loading;
+mod making;
+mod members;
+mod named;
+mod named_kinds;
 mod names;
+mod numbering;
 mod path;
+mod place_answers;
+mod place_tables;
+mod places;
 mod program;
+mod ranked;
 mod refusal;
+mod resolver;
+mod resolver_parts;
+mod shapes;
+mod site_list;
+mod sites;
+mod slot_law;
+mod slots;
+mod tables;
 mod text_names;
 mod text_uses;
 mod uses;
 
-pub use law::{one_loading, small_closures};
+pub use law::{class_names_once, one_judgement, one_loading, small_closures};
+pub use linked::{Basics, LinkedField, LinkedFields, LinkedMethod, LinkedMethods, Site, Sites};
 pub use linking::link;
+pub use named::Named;
 pub use path::path_of;
 pub use program::Program;
 pub use refusal::{Quantity, Refusal};
+pub use slot_law::slots_in_objects;

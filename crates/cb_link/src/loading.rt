@@ -39,7 +39,8 @@ impl Loading {
     /// The library's classes, and the entry of the main class.
     pub(crate) fn begin(alloc: Global, library: Classes, main: &[u16]) -> Result<Self, AllocError>
         requires { AreLibrary library }
-        ensures { (files : Maybe Files) (root : List ℕ) → IfOk result (λ loading. Stands files root main.now library loading.taken loading.entries loading.names loading.classes) }
+        ensures stands { (files : Maybe Files) (root : List ℕ) → IfOk result (λ loading. Stands files root main.now library loading.taken loading.entries loading.names loading.classes) }
+        ensures classes { IfOk result (λ loading. loading.classes ≡ library) }
     {
         let names = ClassNames::of(alloc, library.as_slice())?;
         let mut entries = Entries::new(alloc);

@@ -33,6 +33,21 @@ pub enum Refusal {
         class: Units,
         item: Feature,
     },
+    /// The class is above itself, its superclass is an interface or final, one of its superinterfaces is a class, or it
+    /// overrides a final method.
+    BadHierarchy {
+        class: Units,
+    },
+    /// An instruction of the class names a member that can't be had: the member's name and descriptor, or `new` where it
+    /// makes an object of an abstract class.
+    MissingMember {
+        class: Units,
+        member: Units,
+    },
+    /// Neither the class nor a superclass has a static method `main` of the descriptor `([Ljava/lang/String;)V`.
+    NoMain {
+        class: Units,
+    },
     /// The folder failed.
     FolderFault,
     /// No memory was to be had.
@@ -46,6 +61,10 @@ pub enum Quantity {
     ClassFileBytes,
     /// The classes of a program.
     Classes,
+    /// The methods of a program.
+    Methods,
+    /// The sites of a program: its instructions that make objects, and the machine's own.
+    Sites,
 }
 
 impl From<AllocError> for Refusal {

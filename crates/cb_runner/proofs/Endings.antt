@@ -12,7 +12,6 @@ use Rattle.cb_io.specs.declared.folder.Found.{Found}
 use Rattle.cb_io.specs.declared.folder.Found.TheVariants.{Bytes, Absent, TooLong}
 use Rattle.cb_classfile.specs.declared.class.ClassFile.{ClassFile}
 use Rattle.cb_link.specs.Files.{path_of, MayStandAt as MayHaveFile}
-use Rattle.cb_link.specs.Loading.{AreLoaded}
 use Rattle.cb_machine.specs.Expression.{Expression}
 use Rattle.cb_machine.specs.Printing.{printed}
 use Rattle.cb_first_form.specs.FirstForm.{SpellsProgram}
@@ -21,7 +20,7 @@ use Rattle.cb_runner.specs.declared.stop.Stop.{Stop}
 use Rattle.cb_runner.specs.declared.stop.Stop.TheVariants.{Returned, Usage, Refused, FolderFault, InputFault, OutputFault, OutOfMemory}
 use Rattle.cb_runner.specs.Answer.{Answers, Ends, EndsIn, MayStandAt, StopsShort, OfMemory, OfFolder, OfOutput}
 use Rattle.cb_runner.specs.Ending.{Ending, out_of_memory, output_fault, refused, returned}
-use Rattle.cb_runner.specs.Inner.{IsCarriedOut, IsRefusal, IsUnfound, Makes, PrintsMade, RunsBytes, StopsAtOnce, StopsBy, cause_of, ending_of}
+use Rattle.cb_runner.specs.Inner.{IsCarriedOut, IsRefusal, IsUnfound, LinksClass, Makes, PrintsMade, RunsBytes, StopsAtOnce, StopsBy, cause_of, ending_of}
 use Rattle.cb_runner.specs.List.{ListsFile}
 use Rattle.cb_runner.specs.Messages.{Reason, NotYet}
 use Rattle.cb_runner.specs.Run.{RunsClass, RunsFile, Linked, file_limit}
@@ -109,8 +108,8 @@ ends_by command files left MayEnd read OutOfMemory out answers memory nothing = 
 ends_by command files left MayEnd read stop out answers memory stops = absurd stops
 
 -- a command of a file, and how it ends where the file couldn't be looked for
-pub run_ends : (folder main : List ℕ) (files : Option Files) (file : Option (List ℕ)) (stop : Stop) (out : List ℕ) → MayHaveFile files (path_of folder main) file → StopsBy (RunsFile main file) 0 stop out → (classes : List ClassFile) → AreLoaded files folder main classes → (left : Option (List ℕ)) → EndsIn (RunIn folder main) files left (ending_of stop out 0)
-run_ends folder main files file stop out may stops = λ classes loaded left. ends_by (RunIn folder main) files left (RunsFile main file) 0 stop out (λ ending runs. Linked classes file loaded may runs) refl stops
+pub run_ends : (folder main : List ℕ) (files : Option Files) (file : Option (List ℕ)) (stop : Stop) (out : List ℕ) → MayHaveFile files (path_of folder main) file → StopsBy (RunsFile main file) 0 stop out → LinksClass files folder main → (left : Option (List ℕ)) → EndsIn (RunIn folder main) files left (ending_of stop out 0)
+run_ends folder main files file stop out may stops = λ links left. ends_by (RunIn folder main) files left (RunsFile main file) 0 stop out (λ ending runs. Linked links.library links.classes links.method file links.known links.loaded links.good may runs) refl stops
 
 pub list_ends : (path : List ℕ) (files : Option Files) (file : Option (List ℕ)) (stop : Stop) (out : List ℕ) → MayStandAt files path file → StopsBy (ListsFile path file) 0 stop out → (left : Option (List ℕ)) → EndsIn (ListOf path) files left (ending_of stop out 0)
 list_ends path files file stop out may stops = λ left. ends_by (ListOf path) files left (ListsFile path file) 0 stop out (λ ending lists. (file, may, lists)) refl stops
@@ -130,10 +129,10 @@ list_unfound path files OutOfMemory is = λ left. inr (OfMemory, refl)
 list_unfound path files stop is = absurd is
 
 -- what is said by the class's name and the files is said of what they are
-pub run_from : (folder main name : List ℕ) (files told : Option Files) (ending : Ending) → main ≡ name → files ≡ told → ((classes : List ClassFile) → AreLoaded files folder main classes → (left : Option (List ℕ)) → EndsIn (RunIn folder main) files left ending) → (classes : List ClassFile) → AreLoaded told folder name classes → (left : Option (List ℕ)) → EndsIn (RunIn folder name) told left ending
+pub run_from : (folder main name : List ℕ) (files told : Option Files) (ending : Ending) → main ≡ name → files ≡ told → (LinksClass files folder main → (left : Option (List ℕ)) → EndsIn (RunIn folder main) files left ending) → LinksClass told folder name → (left : Option (List ℕ)) → EndsIn (RunIn folder name) told left ending
 run_from folder main name files told ending named kept ends =
-    subst (λ name. (classes : List ClassFile) → AreLoaded told folder name classes → (left : Option (List ℕ)) → EndsIn (RunIn folder name) told left ending) named
-    (subst (λ told. (classes : List ClassFile) → AreLoaded told folder main classes → (left : Option (List ℕ)) → EndsIn (RunIn folder main) told left ending) kept ends)
+    subst (λ name. LinksClass told folder name → (left : Option (List ℕ)) → EndsIn (RunIn folder name) told left ending) named
+    (subst (λ told. LinksClass told folder main → (left : Option (List ℕ)) → EndsIn (RunIn folder main) told left ending) kept ends)
 
 -- a file that isn't of the first form isn't run
 pub not_run : (main bytes : List ℕ) (known : Option (List ℕ)) (stop : Stop) → ((program : List Expression) → ¬ SpellsProgram bytes program) → IsRefusal (NotYet (utf8 main)) stop → (printed : List ℕ) × Appends known known printed × RunsBytes main bytes stop printed
@@ -182,6 +181,22 @@ quiet_count before now one other = same_count before now (λ is. absurd (one is)
 
 pub unchanged_count : {Other : Type 0} (count : ℕ) → (Other → ⊥) → CountsFaults count count Other
 unchanged_count count other = record { never_falls = omega arith; exact = λ below. (λ is. absurd (other is), λ rose. let none : ⊥ = omega (arith, rose) in absurd none) }
+
+-- what a call gave isn't how it failed
+pub not_failed : {Given : Type 0} (given : Given) (stop : Stop) → Ok given ≡ Err stop → ⊥
+not_failed given stop is = cc
+
+-- a call that doesn't fail, and then another one
+pub then_counts : {Never Other : Type 0} (before between now : ℕ) → (Never → ⊥) → CountsFaults before between Never → CountsFaults between now Other → CountsFaults before now Other
+then_counts before between now never first second = record {
+  never_falls = omega (arith, first.never_falls, second.never_falls);
+  exact = λ below.
+      let still : between ≤ before = not_less before between (λ rose. never ((first.exact below).1 rose)) in
+      let exact = second.exact (omega (arith, below, still)) in
+      (λ failed. let rose = exact.0 failed in omega (arith, rose, first.never_falls), λ rose. exact.1 (omega (arith, rose, still)));
+} where
+  not_less : (one other : ℕ) → (one < other → ⊥) → other ≤ one
+  not_less one other none = omega (arith, none)
 
 folder_cause : (stop : Stop) → (stop ≡ FolderFault) ↔ (cause_of stop ≡ causes.FolderFault)
 folder_cause Returned = (λ is. cc, λ is. cc)

@@ -17,8 +17,8 @@ runs_whole main (Some bytes) ending (inl (program, file, is)) = inl (ap (λ e. e
 runs_whole main (Some bytes) ending (inr (none, is)) = inr (ap (λ e. e.cause) is)
 
 runs_class_whole : (files : Option Files) (folder main : List ℕ) (ending : Ending) → RunsClass files folder main ending → IsWhole ending
-runs_class_whole files folder main ending (Stopped refusal reason stops says is) = inr (ap (λ e. e.cause) is)
-runs_class_whole files folder main ending (Linked classes file loaded may runs) = runs_whole main file ending runs
+runs_class_whole files folder main ending (Stopped library refusal reason known stops says is) = inr (ap (λ e. e.cause) is)
+runs_class_whole files folder main ending (Linked library classes method file known loaded good may runs) = runs_whole main file ending runs
 
 lists_bytes_whole : (path bytes : List ℕ) (ending : Ending) → ListsBytes path bytes ending → IsWhole ending
 lists_bytes_whole path bytes ending (Listed class listed is) = inl (ap (λ e. e.cause) is)

@@ -4,12 +4,14 @@ use Rattle.cb_io.specs.Folder.{Files}
 use Rattle.cb_io.specs.Utf8.{utf8}
 use Rattle.cb_link.specs.declared.refusal.Refusal.{Refusal}
 use Rattle.cb_link.specs.declared.refusal.Refusal.TheVariants as links
-use Rattle.cb_link.specs.Loading.{Stops, StopsFor}
+use Rattle.cb_classfile.specs.declared.class.ClassFile.{ClassFile}
+use Rattle.cb_classfile.specs.Library.{AreLibrary}
+use Rattle.cb_link.specs.Linking.{Hinders, IsHindered}
 use Rattle.cb_runner.specs.declared.stop.Stop.{Stop}
 use Rattle.cb_runner.specs.declared.stop.Stop.TheVariants.{Refused, OutOfMemory}
 use Rattle.cb_runner.specs.Ending.{Ending, refused}
 use Rattle.cb_runner.specs.Inner.{IsRefusal, IsUnlinked, StopsAtOnce}
-use Rattle.cb_runner.specs.Messages.{Reason, MissingClass, Malformed, BadVersion, Unsupported, TooLarge}
+use Rattle.cb_runner.specs.Messages.{Reason, BadHierarchy, MissingClass, MissingMember, Malformed, BadVersion, NoMain, Unsupported, TooLarge}
 use Rattle.cb_runner.specs.Run.{RunsClass, Stopped, quantity_of, reason_of_linking}
 use Rattle.cb_runner.proofs.Endings.{refusal_is}
 
@@ -19,14 +21,17 @@ refused_at_once MayEnd reason (Refused text) is may = subst MayEnd (refusal_is r
 refused_at_once MayEnd reason OutOfMemory is may = tt
 refused_at_once MayEnd reason stop is may = absurd is
 
-unlinked_for : (files : Option Files) (root main : List ℕ) (refusal : Refusal) (reason : Reason) (stop : Stop) → StopsFor files root main refusal → reason_of_linking refusal ≡ Some reason → IsRefusal reason stop → StopsAtOnce (RunsClass files root main) stop
-unlinked_for files root main refusal reason stop stops says is = refused_at_once (RunsClass files root main) reason stop is (Stopped refusal reason stops says refl)
+unlinked_for : (files : Option Files) (root main : List ℕ) (library : List ClassFile) (refusal : Refusal) (reason : Reason) (stop : Stop) → AreLibrary library → IsHindered files root library main refusal → reason_of_linking refusal ≡ Some reason → IsRefusal reason stop → StopsAtOnce (RunsClass files root main) stop
+unlinked_for files root main library refusal reason stop known stops says is = refused_at_once (RunsClass files root main) reason stop is (Stopped library refusal reason known stops says refl)
 
-pub unlinked_so : (files : Option Files) (root main : List ℕ) (refusal : Refusal) (stop : Stop) → Stops files root main refusal → IsUnlinked refusal stop → StopsAtOnce (RunsClass files root main) stop
-unlinked_so files root main links.FolderFault stop stops is = subst (StopsAtOnce (RunsClass files root main)) (sym is) tt
-unlinked_so files root main links.OutOfMemory stop stops is = subst (StopsAtOnce (RunsClass files root main)) (sym is) tt
-unlinked_so files root main (links.MissingClass name) stop stops is = unlinked_for files root main (links.MissingClass name) (MissingClass (utf8 name)) stop stops refl is
-unlinked_so files root main (links.TooLarge what count limit) stop stops is = unlinked_for files root main (links.TooLarge what count limit) (TooLarge (quantity_of what) count limit) stop stops refl is
-unlinked_so files root main (links.Malformed class) stop stops is = unlinked_for files root main (links.Malformed class) (Malformed (utf8 class)) stop stops refl is
-unlinked_so files root main (links.BadVersion class major) stop stops is = unlinked_for files root main (links.BadVersion class major) (BadVersion (utf8 class) major) stop stops refl is
-unlinked_so files root main (links.Unsupported class item) stop stops is = unlinked_for files root main (links.Unsupported class item) (Unsupported (utf8 class) item) stop stops refl is
+pub unlinked_so : (files : Option Files) (root main : List ℕ) (library : List ClassFile) (refusal : Refusal) (stop : Stop) → AreLibrary library → Hinders files root library main refusal → IsUnlinked refusal stop → StopsAtOnce (RunsClass files root main) stop
+unlinked_so files root main library links.FolderFault stop known stops is = subst (StopsAtOnce (RunsClass files root main)) (sym is) tt
+unlinked_so files root main library links.OutOfMemory stop known stops is = subst (StopsAtOnce (RunsClass files root main)) (sym is) tt
+unlinked_so files root main library (links.MissingClass name) stop known stops is = unlinked_for files root main library (links.MissingClass name) (MissingClass (utf8 name)) stop known stops refl is
+unlinked_so files root main library (links.TooLarge what count limit) stop known stops is = unlinked_for files root main library (links.TooLarge what count limit) (TooLarge (quantity_of what) count limit) stop known stops refl is
+unlinked_so files root main library (links.Malformed class) stop known stops is = unlinked_for files root main library (links.Malformed class) (Malformed (utf8 class)) stop known stops refl is
+unlinked_so files root main library (links.BadVersion class major) stop known stops is = unlinked_for files root main library (links.BadVersion class major) (BadVersion (utf8 class) major) stop known stops refl is
+unlinked_so files root main library (links.Unsupported class item) stop known stops is = unlinked_for files root main library (links.Unsupported class item) (Unsupported (utf8 class) item) stop known stops refl is
+unlinked_so files root main library (links.BadHierarchy class) stop known stops is = unlinked_for files root main library (links.BadHierarchy class) (BadHierarchy (utf8 class)) stop known stops refl is
+unlinked_so files root main library (links.MissingMember class member) stop known stops is = unlinked_for files root main library (links.MissingMember class member) (MissingMember (utf8 class) (utf8 member)) stop known stops refl is
+unlinked_so files root main library (links.NoMain class) stop known stops is = unlinked_for files root main library (links.NoMain class) (NoMain (utf8 class)) stop known stops refl is

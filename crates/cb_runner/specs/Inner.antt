@@ -2,6 +2,7 @@
 use Rattle.std.specs.Prelude.{◌≡◌, ℕ, ◌+◌, ◌<◌, ◌≤◌, Bool, true, false, List, [], ◌++◌, length, drop, codes, string_bytes, Vec, Result, Ok, Err, Option, Some, IfSome, IsSomeAnd}
 use Rattle.std.specs.Io.KnownBytes.{Appends, Consumes, IsAtEnd, Keeps}
 use Rattle.std.specs.declared.alloc.Global.{Global}
+use Rattle.cb_io.specs.Folder.{Files}
 use Rattle.cb_io.specs.Sink.{IsProperPrefix}
 use Rattle.cb_machine.specs.Expression.{Expression}
 use Rattle.cb_machine.specs.Printing.{printed}
@@ -9,6 +10,10 @@ use Rattle.cb_first_form.specs.FirstForm.{SpellsProgram}
 use Rattle.cb_classfile.specs.declared.fault.ClassFault.{ClassFault}
 use Rattle.cb_classfile.specs.declared.fault.ClassFault.TheVariants as faults
 use Rattle.cb_io.specs.Utf8.{utf8}
+use Rattle.cb_classfile.specs.declared.class.ClassFile.{ClassFile}
+use Rattle.cb_classfile.specs.Library.{AreLibrary}
+use Rattle.cb_link.specs.Judging.{IsProgram}
+use Rattle.cb_link.specs.Loading.{AreLoaded}
 use Rattle.cb_link.specs.declared.refusal.Refusal.{Refusal as LinkRefusal}
 use Rattle.cb_link.specs.declared.refusal.Refusal.TheVariants as link_refusals
 use Rattle.cb_runner.specs.declared.cause.Cause.{Cause}
@@ -157,3 +162,12 @@ pub record IsCarriedOut (MayEnd : Ending → Type 0) (before now known taken : O
   pub appends : Appends known taken printed
   pub left : IfSome before (λ left. now ≡ Some (drop read left))
   pub ends : MayEnd (ending_of stop printed read)
+
+-- the classes that a main class needs are a program
+pub record LinksClass (files : Option Files) (folder main : List ℕ) : Type 0 where
+  pub library : List ClassFile
+  pub classes : List ClassFile
+  pub method : ℕ
+  pub known : AreLibrary library
+  pub loaded : AreLoaded files folder main classes
+  pub good : IsProgram (library ++ classes) main method

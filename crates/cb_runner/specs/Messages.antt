@@ -4,7 +4,7 @@ use Rattle.std.specs.Fmt.{decimal}
 use Rattle.cb_classfile.specs.declared.feature.Feature.{Feature}
 use Rattle.cb_classfile.specs.Messages.{feature_text}
 use Rattle.cb_runner.specs.declared.refusal.Quantity.{Quantity}
-use Rattle.cb_runner.specs.declared.refusal.Quantity.TheVariants.{ClassFileBytes, Classes, AssemblyBytes}
+use Rattle.cb_runner.specs.declared.refusal.Quantity.TheVariants.{ClassFileBytes, Classes, Methods, Sites, AssemblyBytes}
 use Rattle.cb_runner.specs.declared.refusal.Refusal.{Refusal}
 use Rattle.cb_runner.specs.declared.refusal.Refusal.TheVariants as refusals
 
@@ -15,6 +15,9 @@ pub data Reason : Type 0 where
   BadVersion : List ℕ → ℕ → Reason
   Unsupported : List ℕ → Feature → Reason
   NotYet : List ℕ → Reason
+  BadHierarchy : List ℕ → Reason
+  MissingMember : List ℕ → List ℕ → Reason
+  NoMain : List ℕ → Reason
   TooLarge : Quantity → ℕ → ℕ → Reason
   BadLine : ℕ → Reason
 
@@ -25,6 +28,9 @@ reason_of (refusals.Malformed class) = Malformed (string_bytes class)
 reason_of (refusals.BadVersion class major) = BadVersion (string_bytes class) major
 reason_of (refusals.Unsupported class item) = Unsupported (string_bytes class) item
 reason_of (refusals.NotYet class) = NotYet (string_bytes class)
+reason_of (refusals.BadHierarchy class) = BadHierarchy (string_bytes class)
+reason_of (refusals.MissingMember class member) = MissingMember (string_bytes class) (string_bytes member)
+reason_of (refusals.NoMain class) = NoMain (string_bytes class)
 reason_of (refusals.TooLarge what count limit) = TooLarge what count limit
 reason_of (refusals.BadLine line) = BadLine line
 
@@ -32,6 +38,8 @@ reason_of (refusals.BadLine line) = BadLine line
 abbrev pub quantity_text : Quantity → List ℕ
 quantity_text ClassFileBytes = codes "class file bytes"
 quantity_text Classes = codes "classes"
+quantity_text Methods = codes "methods"
+quantity_text Sites = codes "sites"
 quantity_text AssemblyBytes = codes "assembly bytes"
 
 -- the words of a refusal
@@ -41,6 +49,9 @@ refusal_text (Malformed class) = codes "E2 malformed class " ++ class
 refusal_text (BadVersion class major) = codes "E3 version " ++ decimal major ++ codes " in class " ++ class
 refusal_text (Unsupported class item) = codes "E4 unsupported " ++ feature_text item ++ codes " in class " ++ class
 refusal_text (NotYet class) = codes "E4 unsupported not yet in class " ++ class
+refusal_text (BadHierarchy class) = codes "E5 bad hierarchy at class " ++ class
+refusal_text (MissingMember class member) = codes "E6 missing member " ++ member ++ codes " in class " ++ class
+refusal_text (NoMain class) = codes "E9 no main in class " ++ class
 refusal_text (TooLarge what count limit) = codes "E8 too large " ++ quantity_text what ++ codes " " ++ decimal count ++ codes " over " ++ decimal limit
 refusal_text (BadLine line) = codes "bad line " ++ decimal line
 

@@ -1,5 +1,5 @@
 -- What `run` comes to, by what linking its class comes to and by the class's file.
-use Rattle.std.specs.Prelude.{◌≡◌, ◌⊎◌, ℕ, ◌≤◌, List, length, Option, Some, None}
+use Rattle.std.specs.Prelude.{◌≡◌, ◌⊎◌, ℕ, ◌≤◌, List, ◌++◌, length, Option, Some, None}
 use Rattle.cb_io.specs.Folder.{Files}
 use Rattle.cb_io.specs.Utf8.{utf8}
 use Rattle.cb_machine.specs.Expression.{Expression}
@@ -11,11 +11,14 @@ use Rattle.cb_link.specs.declared.refusal.Quantity.TheVariants as link_quantitie
 use Rattle.cb_link.specs.declared.refusal.Refusal.{Refusal as LinkRefusal}
 use Rattle.cb_link.specs.declared.refusal.Refusal.TheVariants as link_refusals
 use Rattle.cb_link.specs.Files.{MayStandAt, path_of}
-use Rattle.cb_link.specs.Loading.{AreLoaded, StopsFor}
+use Rattle.cb_classfile.specs.Library.{AreLibrary}
+use Rattle.cb_link.specs.Judging.{IsNoProgram, IsProgram}
+use Rattle.cb_link.specs.Linking.{IsHindered}
+use Rattle.cb_link.specs.Loading.{AreLoaded}
 use Rattle.cb_runner.specs.declared.refusal.Quantity.{Quantity}
-use Rattle.cb_runner.specs.declared.refusal.Quantity.TheVariants.{ClassFileBytes, Classes}
+use Rattle.cb_runner.specs.declared.refusal.Quantity.TheVariants.{ClassFileBytes, Classes, Methods, Sites}
 use Rattle.cb_runner.specs.Ending.{Ending, refused, returned}
-use Rattle.cb_runner.specs.Messages.{Reason, MissingClass, Malformed, BadVersion, Unsupported, NotYet, TooLarge}
+use Rattle.cb_runner.specs.Messages.{Reason, BadHierarchy, MissingClass, MissingMember, Malformed, BadVersion, NoMain, Unsupported, NotYet, TooLarge}
 
 -- the most bytes of a class file
 abbrev pub file_limit : ℕ
@@ -38,6 +41,8 @@ RunsFile main (Some bytes) ending =
 abbrev pub quantity_of : LinkQuantity → Quantity
 quantity_of link_quantities.ClassFileBytes = ClassFileBytes
 quantity_of link_quantities.Classes = Classes
+quantity_of link_quantities.Methods = Methods
+quantity_of link_quantities.Sites = Sites
 
 -- the reason that a refusal of linking says, where it is one of classes
 abbrev pub reason_of_linking : LinkRefusal → Option Reason
@@ -46,12 +51,25 @@ reason_of_linking (link_refusals.TooLarge what count limit) = Some (TooLarge (qu
 reason_of_linking (link_refusals.Malformed class) = Some (Malformed (utf8 class))
 reason_of_linking (link_refusals.BadVersion class major) = Some (BadVersion (utf8 class) major)
 reason_of_linking (link_refusals.Unsupported class item) = Some (Unsupported (utf8 class) item)
+reason_of_linking (link_refusals.BadHierarchy class) = Some (BadHierarchy (utf8 class))
+reason_of_linking (link_refusals.MissingMember class member) = Some (MissingMember (utf8 class) (utf8 member))
+reason_of_linking (link_refusals.NoMain class) = Some (NoMain (utf8 class))
 reason_of_linking link_refusals.FolderFault = None
 reason_of_linking link_refusals.OutOfMemory = None
 
--- linking the class stops for a reason, which is told; or its classes are loaded, and its file is run
+-- linking the class stops for a reason, which is told; or its classes are a program, and its file is run. The library's classes
+-- are those of its table, whatever the layout of their records
 pub data RunsClass (files : Option Files) (folder main : List ℕ) (ending : Ending) : Type 0 where
-  Stopped : (refusal : LinkRefusal) (reason : Reason) → StopsFor files folder main refusal → reason_of_linking refusal ≡ Some reason
-      → ending ≡ refused reason 0 → RunsClass files folder main ending
-  Linked : (classes : List ClassFile) (file : Option (List ℕ)) → AreLoaded files folder main classes → MayStandAt files (path_of folder main) file
-      → RunsFile main file ending → RunsClass files folder main ending
+  Stopped : (library : List ClassFile) (refusal : LinkRefusal) (reason : Reason) → AreLibrary library
+      → IsHindered files folder library main refusal → reason_of_linking refusal ≡ Some reason → ending ≡ refused reason 0
+      → RunsClass files folder main ending
+  Linked : (library classes : List ClassFile) (method : ℕ) (file : Option (List ℕ)) → AreLibrary library → AreLoaded files folder main classes
+      → IsProgram (library ++ classes) main method → MayStandAt files (path_of folder main) file → RunsFile main file ending
+      → RunsClass files folder main ending
+
+-- classes that were loaded are a program, whatever the layout of the library's records; or they are none for this reason
+abbrev pub AreProgram : List ClassFile → List ℕ → Type 0
+AreProgram classes main = (library : List ClassFile) → AreLibrary library → (method : ℕ) × IsProgram (library ++ classes) main method
+
+abbrev pub AreNoProgram : List ClassFile → List ℕ → LinkRefusal → Type 0
+AreNoProgram classes main refusal = (library : List ClassFile) → AreLibrary library → IsNoProgram (library ++ classes) main refusal

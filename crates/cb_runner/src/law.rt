@@ -20,14 +20,14 @@ ghost use Rattle.cb_runner.specs.Asm.{text_limit};
 ghost use Rattle.cb_runner.specs.Ending.{Ending, refused, returned, usage};
 ghost use Rattle.cb_runner.specs.List.{IsListed, LeavesOut};
 ghost use Rattle.cb_runner.specs.Messages.{Reason, MissingClass, Malformed, BadVersion, Unsupported, NotYet, TooLarge, BadLine};
-ghost use Rattle.cb_runner.specs.Run.{IsProgramFile, file_limit, reason_of_linking};
+ghost use Rattle.cb_runner.specs.Run.{AreNoProgram, AreProgram, IsProgramFile, file_limit, reason_of_linking};
 ghost use Rattle.cb_runner.specs.Words.{Assemble, Command, ListOf, RunIn, SaysNone};
 ghost use Rattle.cb_runner.specs.declared.cause.Cause.TheVariants as causes;
 ghost use Rattle.cb_runner.specs.declared.refusal.Quantity.TheVariants.{ClassFileBytes, AssemblyBytes};
 
 use cb_classfile::one_class;
 use cb_first_form::one_program;
-use cb_link::one_loading;
+use cb_link::{one_judgement, one_loading};
 
 /// A call ends as one whose words are no command exactly where its words say none.
 pub fn usage_exactly()
@@ -48,24 +48,32 @@ pub fn refused_silently()
         → EndsIn command files left ending → ending.cause ≡ causes.Refused → (ending.out ≡ []) × ((ending.read ≡ 0) ⊎ (command ≡ Assemble)) }
 {}
 
-/// A run that nothing cuts short, where the folder tells its files. It is refused for the reason for which linking its class
-/// stops, where that stops. Where its classes are loaded, it is refused as one that isn't run yet exactly where the class has
-/// no file of a program, and that of a program's file returns, having printed what the program prints.
+/// A run that nothing cuts short, where the folder tells its files. It is refused for the reason for which loading its class
+/// stops, where that stops. Where its classes are loaded, it is refused for the reason for which they are no program. Where they
+/// are one, it is refused as one that isn't run yet exactly where the class has no file of the first form, and that of a file of
+/// that form returns, having printed what the file prints.
 pub fn run_exactly()
-    ensures unlinked { (folder main : List ℕ) (files : Files) (left : Option (List ℕ)) (ending : Ending)
+    ensures unloaded { (folder main : List ℕ) (files : Files) (left : Option (List ℕ)) (ending : Ending)
         (refusal : LinkRefusal) (reason : Reason) → Answers (RunIn folder main) (Some files) left ending
         → StopsFor (Some files) folder main refusal → reason_of_linking refusal ≡ Some reason → ending ≡ refused reason 0 }
+    ensures unlinked { (folder main : List ℕ) (files : Files) (left : Option (List ℕ)) (ending : Ending)
+        (classes : List ClassFile) (refusal : LinkRefusal) (reason : Reason) → Answers (RunIn folder main) (Some files) left ending
+        → AreLoaded (Some files) folder main classes → AreNoProgram classes main refusal → reason_of_linking refusal ≡ Some reason
+        → ending ≡ refused reason 0 }
     ensures not_yet { (folder main : List ℕ) (files : Files) (left : Option (List ℕ)) (ending : Ending)
         (classes : List ClassFile) (file : Option (List ℕ)) → Answers (RunIn folder main) (Some files) left ending
-        → AreLoaded (Some files) folder main classes → MayStandAt (Some files) (path_of folder main) file
+        → AreLoaded (Some files) folder main classes → AreProgram classes main
+        → MayStandAt (Some files) (path_of folder main) file
         → (ending ≡ refused (NotYet (utf8 main)) 0)
         ↔ ((program : List Expression) → ¬ IsSomeAnd file (λ bytes. IsProgramFile bytes program)) }
     ensures returned { (folder main bytes : List ℕ) (files : Files) (left : Option (List ℕ)) (ending : Ending)
         (classes : List ClassFile) (program : List Expression) → Answers (RunIn folder main) (Some files) left ending
-        → AreLoaded (Some files) folder main classes → MayStandAt (Some files) (path_of folder main) (Some bytes)
+        → AreLoaded (Some files) folder main classes → AreProgram classes main
+        → MayStandAt (Some files) (path_of folder main) (Some bytes)
         → IsProgramFile bytes program → ending ≡ returned (printed program) 0 }
 {
     one_loading();
+    one_judgement();
     one_program();
 }
 

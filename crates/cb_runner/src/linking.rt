@@ -1,9 +1,7 @@
 // Linking the class that is run.
-ghost use Rattle.std.specs.Prelude.{◌≡◌, List, IfErr, IfOk, IsErrOf};
-ghost use Rattle.cb_classfile.specs.declared.class.ClassFile.{ClassFile};
+ghost use Rattle.std.specs.Prelude.{◌≡◌, IfErr, IfOk, IsErrOf};
 ghost use Rattle.cb_io.specs.Faults.{CountsFaults};
-ghost use Rattle.cb_link.specs.Loading.{AreLoaded};
-ghost use Rattle.cb_runner.specs.Inner.{IsConverted, IsUnlinked, StopsAtOnce};
+ghost use Rattle.cb_runner.specs.Inner.{IsConverted, IsUnlinked, LinksClass, StopsAtOnce};
 ghost use Rattle.cb_runner.specs.Run.{RunsClass, quantity_of};
 ghost use Rattle.cb_runner.specs.Words.{internal_name};
 ghost use Rattle.cb_runner.specs.declared.stop.Stop.TheVariants as stops;
@@ -24,8 +22,7 @@ pub(crate) fn link_class<F: Folder>(
     folder: &mut F,
 ) -> Result<(), Stop>
     ensures kept { F.files folder.new ≡ F.files folder.old }
-    ensures loaded { IfOk result (λ _. (classes : List ClassFile)
-        × AreLoaded (F.files folder.old) root.now (internal_name class.now) classes) }
+    ensures linked { IfOk result (λ _. LinksClass (F.files folder.old) root.now (internal_name class.now)) }
     ensures stopped { IfErr result (StopsAtOnce (RunsClass (F.files folder.old) root.now (internal_name class.now))) }
     ensures fault { CountsFaults (F.faults folder.old) (F.faults folder.new) (IsErrOf result stops.FolderFault) }
 {
@@ -36,7 +33,7 @@ pub(crate) fn link_class<F: Folder>(
         return Err(Stop::OutOfMemory);
     };
     match link(alloc, library, folder, root, main) {
-        Ok(_) => Ok(()),
+        Ok(_program) => Ok(()),
         Err(refusal) => Err(unlinked(alloc, refusal)),
     }
 }
@@ -76,6 +73,19 @@ fn converted(alloc: Global, refusal: LinkRefusal) -> Result<Refusal, Stop>
             let class = text_of(alloc, class.as_slice())?;
             Ok(Refusal::Unsupported { class, item })
         }
+        LinkRefusal::BadHierarchy { class } => {
+            let class = text_of(alloc, class.as_slice())?;
+            Ok(Refusal::BadHierarchy { class })
+        }
+        LinkRefusal::MissingMember { class, member } => {
+            let class = text_of(alloc, class.as_slice())?;
+            let member = text_of(alloc, member.as_slice())?;
+            Ok(Refusal::MissingMember { class, member })
+        }
+        LinkRefusal::NoMain { class } => {
+            let class = text_of(alloc, class.as_slice())?;
+            Ok(Refusal::NoMain { class })
+        }
         LinkRefusal::FolderFault => Err(Stop::FolderFault),
         LinkRefusal::OutOfMemory => Err(Stop::OutOfMemory),
     }
@@ -88,5 +98,7 @@ fn counted(what: LinkQuantity) -> Quantity
     match what {
         LinkQuantity::ClassFileBytes => Quantity::ClassFileBytes,
         LinkQuantity::Classes => Quantity::Classes,
+        LinkQuantity::Methods => Quantity::Methods,
+        LinkQuantity::Sites => Quantity::Sites,
     }
 }

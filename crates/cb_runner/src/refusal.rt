@@ -31,6 +31,20 @@ pub enum Refusal {
     NotYet {
         class: String,
     },
+    /// The class is above itself, its superclass is an interface or final, one of its superinterfaces is a class, or it
+    /// overrides a final method.
+    BadHierarchy {
+        class: String,
+    },
+    /// An instruction of the class names a member that can't be had.
+    MissingMember {
+        class: String,
+        member: String,
+    },
+    /// Neither the class nor a superclass has a static method `main`.
+    NoMain {
+        class: String,
+    },
     /// There is more of something than its limit. It is counted no further than to one more.
     TooLarge {
         what: Quantity,
@@ -50,6 +64,10 @@ pub enum Quantity {
     ClassFileBytes,
     /// The classes of a program.
     Classes,
+    /// The methods of a program.
+    Methods,
+    /// The sites of a program.
+    Sites,
     /// The bytes of an assembly text.
     AssemblyBytes,
 }
@@ -61,6 +79,8 @@ impl fmt::Display for Quantity {
         f.write_str(match self {
             Quantity::ClassFileBytes => "class file bytes",
             Quantity::Classes => "classes",
+            Quantity::Methods => "methods",
+            Quantity::Sites => "sites",
             Quantity::AssemblyBytes => "assembly bytes",
         })
     }
@@ -81,6 +101,11 @@ impl fmt::Display for Refusal {
                 write!(f, "E4 unsupported {item} in class {class}")
             }
             Refusal::NotYet { class } => write!(f, "E4 unsupported not yet in class {class}"),
+            Refusal::BadHierarchy { class } => write!(f, "E5 bad hierarchy at class {class}"),
+            Refusal::MissingMember { class, member } => {
+                write!(f, "E6 missing member {member} in class {class}")
+            }
+            Refusal::NoMain { class } => write!(f, "E9 no main in class {class}"),
             Refusal::TooLarge { what, count, limit } => {
                 write!(f, "E8 too large {what} {count} over {limit}")
             }

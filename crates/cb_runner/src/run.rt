@@ -1,14 +1,12 @@
 // The command `run`.
 ghost use Rattle.std.specs.Prelude.{◌≡◌, ℕ, List, Option, IfErr, IfOk, IsErrOf};
 ghost use Rattle.std.specs.Io.KnownBytes.{Appends};
-ghost use Rattle.cb_classfile.specs.declared.class.ClassFile.{ClassFile};
 ghost use Rattle.cb_io.specs.Faults.{CountsFaults};
 ghost use Rattle.cb_io.specs.Folder.{FindsAt};
 ghost use Rattle.cb_io.specs.Utf8.{utf8};
 ghost use Rattle.cb_link.specs.Files.{MayStandAt, path_of};
-ghost use Rattle.cb_link.specs.Loading.{AreLoaded};
 ghost use Rattle.cb_runner.specs.Answer.{EndsIn};
-ghost use Rattle.cb_runner.specs.Inner.{IsRefusal, IsUnfound, RunsBytes, ending_of};
+ghost use Rattle.cb_runner.specs.Inner.{IsRefusal, IsUnfound, LinksClass, RunsBytes, ending_of};
 ghost use Rattle.cb_runner.specs.Messages.{NotYet};
 ghost use Rattle.cb_runner.specs.Run.{file_limit};
 ghost use Rattle.cb_runner.specs.Words.{RunIn, internal_name};
@@ -60,7 +58,7 @@ fn run_linked<F: Folder, O: Sink>(
     out: &mut O,
 ) -> Stop
     ensures ends { (printed : List ℕ) × Appends (O.taken out.old) (O.taken out.new) printed
-        × ((classes : List ClassFile) → AreLoaded (F.files folder.old) root.now main.now classes → (left : Option (List ℕ))
+        × (LinksClass (F.files folder.old) root.now main.now → (left : Option (List ℕ))
         → EndsIn (RunIn root.now main.now) (F.files folder.old) left (ending_of result printed 0)) }
     ensures kept { F.files folder.new ≡ F.files folder.old }
     ensures folder_fault { CountsFaults (F.faults folder.old) (F.faults folder.new) (result ≡ stops.FolderFault) }

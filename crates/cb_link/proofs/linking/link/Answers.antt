@@ -1,60 +1,28 @@
-use Rattle.std.proofs.Common.{◌≡◌, ◌+◌, ◌<◌, ◌∙◌, IfErr, List, [], ◌∷◌, ap, length, refl, sym, subst, arith, length-append}
-use Rattle.std.specs.List.{list_any}
-use Rattle.std.proofs.lemmas.Bool.{false≢true}
-use Rattle.cb_link.specs.Closure.{same_name}
-use Rattle.cb_link.specs.Loading.{AreLoaded, Stops}
-use Rattle.cb_link.specs.Turning.{AreAbsent, IsNext, Stands}
-use Rattle.cb_link.specs.declared.refusal.Refusal.TheVariants.{FolderFault}
-use Rattle.cb_link.proofs.LoadFaults.{fault_of_ok, fault_then, handed_from, no_fault}
-use Rattle.cb_link.proofs.TurnSteps.{loaded_next}
+use Rattle.std.proofs.Common.{◌∙◌, ap, subst}
+use Rattle.std.proofs.lemmas.Result.{IfErr-weaker, IfOk-weaker}
+use Rattle.cb_link.specs.Inside.{HindersProgram}
+use Rattle.cb_link.specs.Linking.{Hinders, IsLinked}
+use Rattle.cb_link.specs.Judging.{IsProgram}
+use Rattle.cb_link.specs.Program.{linked}
+use Rattle.cb_link.proofs.LinkLaws.{hindered}
 use Rattle.cb_link.proofs.linking.link.Goals as goal
 
-pub loop-absent-init : goal.loop-absent-init
-loop-absent-init g c = (
-  refl,
-  no_fault _,
-  λ name has. absurd (false≢true (sym (ap (list_any (same_name name)) c.none-absent.ensures) ∙ has)),
-  subst (λ main. Stands (g.F.Folder.files c.args.folder.now) c.args.root.now main c.args.library c.in_ok-loading.loading.taken c.in_ok-loading.loading.entries c.in_ok-loading.loading.names c.in_ok-loading.loading.classes) c.as_slice.ensures (c.in_ok-loading.ensures (g.F.Folder.files c.args.folder.now) c.args.root.now),
-)
+pub returns-clause-linked : goal.returns-clause-linked
+returns-clause-linked g c =
+    let loaded = c.in_ok-classes.ensures.loaded in
+    IfOk-weaker c.program_of.result _ (IsLinked (g.F.Folder.files c.args.folder.now) c.args.root.now c.args.library c.args.main)
+    (λ program made. record {
+      classes = loaded.0;
+      method = made.0;
+      loaded = loaded.1;
+      good = subst (λ all. IsProgram all c.args.main made.0) loaded.2 made.1;
+      all = made.2 ∙ ap (λ all. linked all c.args.main made.0) loaded.2;
+    })
+    c.program_of.ensures.made
 
-pub returns-in_err-place-clause-refused : goal.returns-in_err-place-clause-refused
-returns-in_err-place-clause-refused g c =
-    let now = c.loop-absent.loading in
-    let stands = subst (λ files. Stands files c.args.root.now c.args.main c.args.library now.taken now.entries now.names now.classes) (sym c.loop-absent.invariant.0) c.loop-absent.invariant.3 in
-    let told = subst (λ files. IfErr c.next.result (Stops files c.args.root.now c.args.main)) c.loop-absent.invariant.0 (c.next.ensures.refused c.args.main c.args.library stands) in
-    handed_from (Stops (g.F.Folder.files c.args.folder.now) c.args.root.now c.args.main) _ c.next.result _ c.from_residual-in_err-place.ensures c.in_err-place.was told
-
-pub loop-absent-smaller : goal.loop-absent-smaller
-loop-absent-smaller g c =
-    let now = c.loop-absent.loading in
-    let later = c.load.new.self in
-    let stands = subst (λ files. Stands files c.args.root.now c.args.main c.args.library now.taken now.entries now.names now.classes) (sym c.loop-absent.invariant.0) c.loop-absent.invariant.3 in
-    let next = subst (λ found. IsNext (g.F.Folder.files c.loop-absent.folder) c.args.root.now c.args.main c.args.library now.entries now.names now.classes found) c.in-Some.is (c.in_ok-place.ensures.next c.args.main c.args.library stands) in
-    let loaded = loaded_next (g.F.Folder.files c.loop-absent.folder) c.args.root.now c.args.main c.args.library c.in-Some.place now.entries later.entries now.names later.names now.classes later.classes c.in-Some.class next c.in_ok-load.ensures.names c.in_ok-load.ensures.entries c.in_ok-load.ensures.classes in
-    let less : length now.classes < 1024 = loaded.1 in
-    let long : length later.classes ≡ length now.classes + 1 = ap length c.in_ok-load.ensures.classes ∙ length-append now.classes (c.in-Some.class ∷ []) in
-    omega (arith, less, long)
-
-pub loop-absent-preserved : goal.loop-absent-preserved
-loop-absent-preserved g c =
-    let now = c.loop-absent.loading in
-    let later = c.load.new.self in
-    let stands = subst (λ files. Stands files c.args.root.now c.args.main c.args.library now.taken now.entries now.names now.classes) (sym c.loop-absent.invariant.0) c.loop-absent.invariant.3 in
-    let next = subst (λ found. IsNext (g.F.Folder.files c.loop-absent.folder) c.args.root.now c.args.main c.args.library now.entries now.names now.classes found) c.in-Some.is (c.in_ok-place.ensures.next c.args.main c.args.library stands) in
-    let loaded = loaded_next (g.F.Folder.files c.loop-absent.folder) c.args.root.now c.args.main c.args.library c.in-Some.place now.entries later.entries now.names later.names now.classes later.classes c.in-Some.class next c.in_ok-load.ensures.names c.in_ok-load.ensures.entries c.in_ok-load.ensures.classes in
-    let counted = subst (λ taken. Stands (g.F.Folder.files c.loop-absent.folder) c.args.root.now c.args.main c.args.library taken later.entries later.names later.classes) (sym c.in_ok-load.ensures.taken) loaded.0 in (
-      c.in_ok-place.ensures.kept ∙ c.loop-absent.invariant.0,
-      fault_then _ _ _ c.loop-absent.invariant.1 (fault_of_ok _ _ c.in_ok-place.field-0 FolderFault c.in_ok-place.ensures.fault),
-      subst (λ files. AreAbsent files c.args.root.now c.next.new.absent) c.loop-absent.invariant.0 c.in_ok-place.ensures.absent,
-      subst (λ files. Stands files c.args.root.now c.args.main c.args.library later.taken later.entries later.names later.classes) c.loop-absent.invariant.0 counted,
-    )
-
-pub returns-clause-loaded : goal.returns-clause-loaded
-returns-clause-loaded g c =
-    let now = c.loop-absent.loading in
-    let stands = subst (λ files. Stands files c.args.root.now c.args.main c.args.library now.taken now.entries now.names now.classes) (sym c.loop-absent.invariant.0) c.loop-absent.invariant.3 in
-    let last = subst (λ found. IsNext (g.F.Folder.files c.loop-absent.folder) c.args.root.now c.args.main c.args.library now.entries now.names now.classes found) c.in_default.is (c.in_ok-place.ensures.next c.args.main c.args.library stands) in
-    (last.0, subst (λ files. AreLoaded files c.args.root.now c.args.main last.0) c.loop-absent.invariant.0 last.1, c.new.ensures ∙ last.2)
-
-pub next-requires : goal.next-requires
-next-requires g c = subst (λ files. AreAbsent files c.args.root.now c.loop-absent.absent) (sym c.loop-absent.invariant.0) c.loop-absent.invariant.2
+pub returns-clause-refused : goal.returns-clause-refused
+returns-clause-refused g c =
+    let loaded = c.in_ok-classes.ensures.loaded in
+    IfErr-weaker c.program_of.result (HindersProgram c.in_ok-classes.classes c.args.main) (Hinders (g.F.Folder.files c.args.folder.now) c.args.root.now c.args.library c.args.main)
+    (λ refusal told. hindered _ c.args.root.now c.args.library c.args.main loaded.0 loaded.1 refusal (subst (λ all. HindersProgram all c.args.main refusal) loaded.2 told))
+    c.program_of.ensures.refused

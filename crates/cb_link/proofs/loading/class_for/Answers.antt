@@ -1,4 +1,4 @@
-use Rattle.std.proofs.Common.{◌≡◌, ◌∙◌, sym, subst}
+use Rattle.std.proofs.Common.{◌∙◌, sym, subst}
 use Rattle.std.proofs.lemmas.Bool.{false≢true}
 use Rattle.cb_link.specs.Names.{Entry}
 use Rattle.cb_link.specs.Loading.{IsClassOf}

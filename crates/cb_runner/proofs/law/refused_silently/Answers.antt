@@ -20,8 +20,8 @@ silent_file main (Some bytes) ending (inl (program, file, is)) refused = absurd 
 silent_file main (Some bytes) ending (inr (none, is)) refused = (ap (λ e. e.out) is, ap (λ e. e.read) is)
 
 silent_run : (files : Option Files) (folder main : List ℕ) (ending : Ending) → RunsClass files folder main ending → ending.cause ≡ Refused → (ending.out ≡ []) × (ending.read ≡ 0)
-silent_run files folder main ending (Stopped refusal reason stops says is) refused = (ap (λ e. e.out) is, ap (λ e. e.read) is)
-silent_run files folder main ending (Linked classes file loaded may runs) refused = silent_file main file ending runs refused
+silent_run files folder main ending (Stopped library refusal reason known stops says is) refused = (ap (λ e. e.out) is, ap (λ e. e.read) is)
+silent_run files folder main ending (Linked library classes method file known loaded good may runs) refused = silent_file main file ending runs refused
 
 silent_bytes : (path bytes : List ℕ) (ending : Ending) → ListsBytes path bytes ending → ending.cause ≡ Refused → (ending.out ≡ []) × (ending.read ≡ 0)
 silent_bytes path bytes ending (Listed class listed is) refused = absurd (unrefused ending _ is refl refused)

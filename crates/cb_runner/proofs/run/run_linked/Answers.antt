@@ -22,4 +22,4 @@ returns-in-Ok-TooLong-clause-ends g c =
     ([], Appends-nothing _, run_ends _ c.args.main.now _ file _ _ may (run_long c.args.main.now file _ (subst (FindsAt file file_limit) c.in-Ok-TooLong.field-0-is finds) c.not_yet-in-Ok-TooLong.ensures))
 
 pub returns-in-Err-clause-ends : goal.returns-in-Err-clause-ends
-returns-in-Err-clause-ends g c = ([], Appends-nothing _, λ classes loaded. run_unfound _ c.args.main.now _ c.in-Err.stop c.in-Err.ensures.stopped)
+returns-in-Err-clause-ends g c = ([], Appends-nothing _, λ links. run_unfound _ c.args.main.now _ c.in-Err.stop c.in-Err.ensures.stopped)

@@ -1,12 +1,12 @@
-use Rattle.std.proofs.Common.{◌≡◌, ◌∙◌, ap, sym, [], true}
+use Rattle.std.proofs.Common.{◌∙◌, ap, [], true}
 use Rattle.std.specs.List.{list_any}
 use Rattle.cb_link.specs.Inner.{entered}
-use Rattle.cb_link.specs.Turning.{is_named}
+use Rattle.cb_link.specs.Numbers.{is_named}
 use Rattle.cb_link.proofs.TurnStands.{first_taken}
 use Rattle.cb_link.proofs.loading.Loading.begin.Goals as goal
 
-pub returns : goal.returns
-returns c = λ files root. (
+pub returns-clause-stands : goal.returns-clause-stands
+returns-clause-stands c = λ files root. (
   [],
   first_taken files root c.args.main.now c.args.library c.enter.new.self c.in_ok-names.names c.requires
       (λ name. c.in_ok-names.ensures name ∙ ap (list_any (is_named name)) c.as_slice.ensures)

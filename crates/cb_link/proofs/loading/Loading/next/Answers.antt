@@ -1,8 +1,7 @@
 use Rattle.std.proofs.Common.{◌≡◌, ◌<◌, ◌≤◌, ◌∙◌, length, sym, subst, arith, true, None}
 use Rattle.std.specs.List.{list_any}
-use Rattle.cb_io.specs.Faults.{CountsFaults}
 use Rattle.cb_link.specs.Closure.{same_name}
-use Rattle.cb_link.specs.Turning.{AreAbsent, Stands}
+use Rattle.cb_link.specs.Turning.{AreAbsent}
 use Rattle.cb_link.specs.Loading.{Stops}
 use Rattle.cb_link.specs.Files.{MayStandAt, path_of}
 use Rattle.cb_link.proofs.LoadFiles.{more_absent}

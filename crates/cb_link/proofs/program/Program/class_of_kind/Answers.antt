@@ -1,0 +1,9 @@
+use Rattle.std.proofs.Common.{subst}
+use Rattle.cb_link.specs.Tabled.{IsKindTable}
+use Rattle.cb_link.proofs.KindLaws.{class_within}
+use Rattle.cb_link.proofs.program.Program.class_of_kind.Goals as goal
+
+pub returns-clause-within : goal.returns-clause-within
+returns-clause-within c =
+    class_within c.args.self.now c.self.inside.tables.members.kinds (subst (λ program. IsKindTable program c.self.inside.tables.members.kinds) c.self.view_is c.self.invariant.of_kinds)
+    c.args.kind c.get.result.now c.get.ensures

@@ -1,0 +1,11 @@
+use Rattle.std.proofs.Common.{◌∙◌, ap, ◌++◌, map}
+use Rattle.cb_link.specs.Numbers.{texts_in}
+use Rattle.cb_link.specs.Ranking.{texts_of_methods}
+use Rattle.cb_link.proofs.Ranks.{flat_grows}
+use Rattle.cb_link.proofs.ranked.method_texts.Goals as goal
+
+pub loop-class-preserved : goal.loop-class-preserved
+loop-class-preserved c =
+    flat_grows texts_of_methods c.args.classes.now c.loop-class.class-index c.class-item.result c.class-item.result c.loop-class.texts c.push_method_texts.new.texts c.loop-class-test.true c.class-item.is
+    c.loop-class.invariant
+    (c.in_ok-push_method_texts.ensures ∙ ap (λ methods. c.loop-class.texts ++ map (λ method. texts_in c.class-item.result.pool method.name method.descriptor) methods) c.as_slice.ensures)
