@@ -127,7 +127,7 @@ module _ (classes : List Class) (methods : List Method) (resolved : ℕ) where
   chosen_is None (method ∷ other ∷ others) = refl
   chosen_is (Some reached) others = go (method_is methods (λ own. own.is_abstract) reached.method)
     where
-      go : (test : Bool) → cond test chosen.Abstract (chosen.Method reached.method) ≡ entry_selected (Upwards reached.method test reached.is_open)
+      go : (test : Bool) → cond test chosen.Abstract (chosen.Method reached.method) ≡ entry_selected (Upwards test reached.is_open reached.method)
       go true = refl
       go false = refl
 

@@ -18,14 +18,14 @@ use Rattle.cb_hierarchy.specs.Resolution.{is_private, method_is, most_specific}
 use Rattle.cb_hierarchy.specs.Selection.{declared_upwards, in_one_package, seen}
 
 abbrev pub entry_selected : Entry → Selected
-entry_selected (Upwards method true is_open) = chosen.Abstract
-entry_selected (Upwards method false is_open) = chosen.Method method
+entry_selected (Upwards true is_open method) = chosen.Abstract
+entry_selected (Upwards false is_open method) = chosen.Method method
 entry_selected (Inherited method) = chosen.Method method
 entry_selected Absent = chosen.Abstract
 entry_selected Several = chosen.Several
 
 abbrev pub reached_in : Entry → Option Reached
-reached_in (Upwards method is_abstract is_open) = Some (record { method = method; is_open = is_open })
+reached_in (Upwards is_abstract is_open method) = Some (record { method = method; is_open = is_open })
 reached_in (Inherited method) = None
 reached_in Absent = None
 reached_in Several = None
@@ -92,7 +92,7 @@ entry_among (method ∷ others) = Several
 
 abbrev pub entry_of : List Method → Option Reached → Entry → Entry
 entry_of methods None among = among
-entry_of methods (Some reached) among = Upwards reached.method (method_is methods (λ own. own.is_abstract) reached.method) reached.is_open
+entry_of methods (Some reached) among = Upwards (method_is methods (λ own. own.is_abstract) reached.method) reached.is_open reached.method
 
 -- the signature of a method
 abbrev pub signature_in : Option Method → ℕ

@@ -4,14 +4,15 @@ ghost use Rattle.cb_hierarchy.specs.Reaching.{entry_selected, reached_in};
 
 use crate::Selected;
 
-/// What is selected for a class and a resolved method, with what the table has to know of it for the subclasses.
+/// What is selected for a class and a resolved method, with what the table has to know of it for the subclasses. It takes eight
+/// bytes, since fields lie in the order of the source.
 #[derive(Clone, Copy, Debug)]
 pub(crate) enum Entry {
     /// A method of the class or of a superclass.
     Upwards {
-        method: u32,
         is_abstract: bool,
         is_open: bool,
+        method: u32,
     },
     /// The only method of superinterfaces.
     Inherited(u32),
@@ -20,6 +21,8 @@ pub(crate) enum Entry {
     /// Several methods of superinterfaces.
     Several,
 }
+
+const _: () = prove!(size_of::<Entry>() == 8);
 
 /// The method that overrides a resolved one and is the nearest upwards, or that one itself.
 #[derive(Clone, Copy, Debug)]
