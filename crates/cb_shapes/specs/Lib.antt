@@ -1,0 +1,12 @@
+pub mod Computations
+pub mod Conditions
+pub mod Constants
+pub mod Control
+pub mod Math
+pub mod Moves
+pub mod Operands
+pub mod References
+pub mod Shapes
+pub mod Shuffles
+pub mod Sorts
+pub mod Targets

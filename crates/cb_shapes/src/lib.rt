@@ -1,0 +1,29 @@
+//! What the instructions of the profile do, by shape: instructions of one shape differ by a table alone (JVMS chapter 6).
+//!
+//! Typing, the machine's step and the points-to rules go by these shapes, so that each of them has one rule a shape. No call
+//! takes memory, and each takes constant time.
+#![tactic(auto)]
+
+mod action;
+mod computation;
+mod constants;
+mod control;
+mod elements;
+mod math;
+mod moves;
+mod references;
+mod shape;
+mod shuffle;
+mod sort;
+mod targets;
+mod test;
+#[cfg(test)]
+mod tests;
+
+pub use action::Action;
+pub use computation::Computation;
+pub use elements::Elements;
+pub use shape::action_of;
+pub use shuffle::Shuffle;
+pub use sort::{Category, Sort};
+pub use test::{Condition, Test};

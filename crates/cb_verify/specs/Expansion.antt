@@ -1,0 +1,97 @@
+-- The frames that a method declares, in full (JVMS §4.7.4, §4.10.1.4), and the one with which it begins (§4.10.1.6).
+use Rattle.std.specs.Prelude.{ℕ, ◌+◌, ◌-◌, List, [], ◌∷◌, ◌++◌, length, map, take, Option, Some, None, option_and_then, option_map, nat_le, ◌==◌, if◌then◌else◌}
+use Rattle.std.specs.List.{find}
+use Rattle.cb_classfile.specs.declared.frame_form.FrameForm.{FrameForm}
+use Rattle.cb_classfile.specs.declared.frame_form.FrameForm.TheVariants as forms
+use Rattle.cb_classfile.specs.declared.frame_map.MapFrame.{MapFrame}
+use Rattle.cb_classfile.specs.declared.map_type.MapType.{MapType}
+use Rattle.cb_classfile.specs.declared.map_type.MapType.TheVariants as types
+use Rattle.cb_classfile.specs.FrameMap.{form_of_frame}
+use Rattle.cb_verify.specs.declared.verification_type.VerificationType.{VerificationType}
+use Rattle.cb_verify.specs.declared.verification_type.VerificationType.TheVariants.{Top, Int, Long, Null, This, Object, New}
+use Rattle.cb_verify.specs.Frames.{Frame, has_this, is_legal, laid}
+use Rattle.cb_verify.specs.Leaving.{new_kind}
+use Rattle.cb_verify.specs.Types.{type_of}
+use Rattle.cb_verify.specs.Within.{Within, kind_named, parameters}
+
+-- each of some, or none where one is missing
+abbrev pub all_of : {Item : Type 0} → List (Option Item) → Option (List Item)
+all_of [] = Some []
+all_of (None ∷ items) = None
+all_of (Some item ∷ items) = option_map (λ rest. item ∷ rest) (all_of items)
+
+-- what a type in a file says. One that isn't initialised is of a place at which `new` stands
+abbrev pub type_in : Within → MapType → Option VerificationType
+type_in method types.Top = Some Top
+type_in method types.Integer = Some Int
+type_in method types.Long = Some Long
+type_in method types.Null = Some Null
+type_in method types.UninitializedThis = Some This
+type_in method (types.Object index) = option_map Object (kind_named method index)
+type_in method (types.Uninitialized place) = option_map (λ kind. New place) (new_kind method place)
+type_in method other = None
+
+abbrev pub types_in : Within → List MapType → Option (List VerificationType)
+types_in method kinds = all_of (map (type_in method) kinds)
+
+-- the object of a method that isn't static, which isn't ready yet in a constructor, and the parameters
+abbrev this_types : Within → List VerificationType
+this_types method =
+    if method.is_static then [] else if method.is_constructor then This ∷ [] else Object method.class ∷ []
+
+abbrev pub start_types : Within → List VerificationType
+start_types method = this_types method ++ map type_of (parameters method)
+
+-- a frame with these values in its local variables and on its stack, the topmost last, if it may have so many
+abbrev pub frame_of : Within → List VerificationType → List VerificationType → Option Frame
+frame_of method values stacked =
+    if is_legal method.body.max_stack stacked
+    then option_map (λ locals. record { locals = locals; stack = reversed [] stacked; unfinished = has_this values }) (laid method.body.max_locals values)
+    else None where
+      reversed : List VerificationType → List VerificationType → List VerificationType
+      reversed behind [] = behind
+      reversed behind (type ∷ more) = reversed (type ∷ behind) more
+
+-- the frame with which a method begins, if it has room for its parameters
+abbrev pub start : Within → Option Frame
+start method = frame_of method (start_types method) []
+
+-- the values in the local variables of a frame by those before it, if both are there
+abbrev without_last : ℕ → List VerificationType → Option (List VerificationType)
+without_last count values = if nat_le count (length values) then Some (take (length values - count) values) else None
+
+abbrev pub values_in : Within → FrameForm → MapFrame → Option (List VerificationType) → Option (List VerificationType)
+values_in method forms.Chop frame before = option_and_then (without_last (251 - frame.kind)) before
+values_in method forms.Append frame before =
+    option_and_then (λ values. option_map (λ added. values ++ added) (types_in method frame.locals)) before
+values_in method forms.Full frame before = types_in method frame.locals
+values_in method form frame before = before
+
+-- the place of a frame: the first one's delta, and that of another counts from behind the place before it
+abbrev pub place_behind : Option ℕ → ℕ → ℕ
+place_behind None delta = delta
+place_behind (Some previous) delta = previous + delta + 1
+
+-- values for which the method's local variables have room
+abbrev pub fitting : Within → List VerificationType → Option (List VerificationType)
+fitting method values = option_map (λ locals. values) (laid method.body.max_locals values)
+
+-- the frames behind one at a place with such values, or behind the method's start. None stands for one that can't be expanded: its
+-- types can't be had, it takes off more values than there are, it has more words than the method's frames, or the values before it
+-- can't be had
+abbrev expanded : Within → Option (List VerificationType) → List MapType → Option Frame
+expanded method values stacked = option_and_then (λ locals. option_and_then (frame_of method locals) (types_in method stacked)) values
+
+abbrev pub declared_behind : Within → Option ℕ → Option (List VerificationType) → List MapFrame → List (ℕ × Option Frame)
+declared_behind method previous before [] = []
+declared_behind method previous before (frame ∷ frames) =
+    let place = place_behind previous frame.delta in
+    let values = option_and_then (fitting method) (values_in method (form_of_frame frame.kind) frame before) in
+    (place, expanded method values frame.stack) ∷ declared_behind method (Some place) values frames
+
+abbrev pub declared : Within → List (ℕ × Option Frame)
+declared method = declared_behind method None (fitting method (start_types method)) method.body.frames
+
+-- the one at a place
+abbrev pub declared_at : List (ℕ × Option Frame) → ℕ → Option (Option Frame)
+declared_at frames place = option_map (λ entry. entry.1) (find (λ entry. entry.0 == place) frames)

@@ -1,0 +1,10 @@
+pub mod Calls
+pub mod Examples
+pub mod Expansion
+pub mod Frames
+pub mod Leaving
+pub mod Members
+pub mod Rules
+pub mod Typed
+pub mod Types
+pub mod Within
