@@ -1,5 +1,5 @@
 -- The frames that a method declares, in full (JVMS §4.7.4, §4.10.1.4), and the one with which it begins (§4.10.1.6).
-use Rattle.std.specs.Prelude.{ℕ, ◌+◌, ◌-◌, List, [], ◌∷◌, ◌++◌, length, map, take, Option, Some, None, option_and_then, option_map, nat_le, ◌==◌, if◌then◌else◌}
+use Rattle.std.specs.Prelude.{ℕ, ◌+◌, ◌-◌, Bool, true, false, List, [], ◌∷◌, ◌++◌, length, map, take, Option, Some, None, option_and_then, option_map, nat_le, ◌==◌, ◌&&◌, if◌then◌else◌}
 use Rattle.std.specs.List.{find}
 use Rattle.cb_classfile.specs.declared.frame_form.FrameForm.{FrameForm}
 use Rattle.cb_classfile.specs.declared.frame_form.FrameForm.TheVariants as forms
@@ -35,29 +35,31 @@ abbrev pub types_in : Within → List MapType → Option (List VerificationType)
 types_in method kinds = all_of (map (type_in method) kinds)
 
 -- the object of a method that isn't static, which isn't ready yet in a constructor, and the parameters
-abbrev this_types : Within → List VerificationType
+abbrev pub this_types : Within → List VerificationType
 this_types method =
     if method.is_static then [] else if method.is_constructor then This ∷ [] else Object method.class ∷ []
 
 abbrev pub start_types : Within → List VerificationType
 start_types method = this_types method ++ map type_of (parameters method)
 
+-- types on a stack, one after the other
+abbrev pub reversed : List VerificationType → List VerificationType → List VerificationType
+reversed behind [] = behind
+reversed behind (type ∷ more) = reversed (type ∷ behind) more
+
 -- a frame with these values in its local variables and on its stack, the topmost last, if it may have so many
 abbrev pub frame_of : Within → List VerificationType → List VerificationType → Option Frame
 frame_of method values stacked =
     if is_legal method.body.max_stack stacked
     then option_map (λ locals. record { locals = locals; stack = reversed [] stacked; unfinished = has_this values }) (laid method.body.max_locals values)
-    else None where
-      reversed : List VerificationType → List VerificationType → List VerificationType
-      reversed behind [] = behind
-      reversed behind (type ∷ more) = reversed (type ∷ behind) more
+    else None
 
 -- the frame with which a method begins, if it has room for its parameters
 abbrev pub start : Within → Option Frame
 start method = frame_of method (start_types method) []
 
 -- the values in the local variables of a frame by those before it, if both are there
-abbrev without_last : ℕ → List VerificationType → Option (List VerificationType)
+abbrev pub without_last : ℕ → List VerificationType → Option (List VerificationType)
 without_last count values = if nat_le count (length values) then Some (take (length values - count) values) else None
 
 abbrev pub values_in : Within → FrameForm → MapFrame → Option (List VerificationType) → Option (List VerificationType)
@@ -79,7 +81,7 @@ fitting method values = option_map (λ locals. values) (laid method.body.max_loc
 -- the frames behind one at a place with such values, or behind the method's start. None stands for one that can't be expanded: its
 -- types can't be had, it takes off more values than there are, it has more words than the method's frames, or the values before it
 -- can't be had
-abbrev expanded : Within → Option (List VerificationType) → List MapType → Option Frame
+abbrev pub expanded : Within → Option (List VerificationType) → List MapType → Option Frame
 expanded method values stacked = option_and_then (λ locals. option_and_then (frame_of method locals) (types_in method stacked)) values
 
 abbrev pub declared_behind : Within → Option ℕ → Option (List VerificationType) → List MapFrame → List (ℕ × Option Frame)

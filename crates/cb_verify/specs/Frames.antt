@@ -64,18 +64,18 @@ stored local type locals =
     if nat_le (local + words type) (length locals) then Some (placed local type (without_long_before local locals)) else None
 
 -- values in local variables, one after the other, and nothing in the others up to so many (§4.10.1.6, expandToLength)
-abbrev in_words : VerificationType → List VerificationType
+abbrev pub in_words : VerificationType → List VerificationType
 in_words Long = Long ∷ Top ∷ []
 in_words type = type ∷ []
 
-abbrev filled : ℕ → List VerificationType → Option (List VerificationType)
+abbrev pub filled : ℕ → List VerificationType → Option (List VerificationType)
 filled most locals = if nat_le (length locals) most then Some (locals ++ replicate (most - length locals) Top) else None
 
 abbrev pub laid : ℕ → List VerificationType → Option (List VerificationType)
 laid most types = filled most (flat_map in_words types)
 
 -- whether this is among types
-abbrev is_this : VerificationType → Bool
+abbrev pub is_this : VerificationType → Bool
 is_this This = true
 is_this other = false
 

@@ -1,6 +1,6 @@
 -- Whether a program is typed (JVMS §4.10.1): what fits, and what fails first.
-use Rattle.std.specs.Prelude.{◌≡◌, ℕ, ◌<◌, Bool, true, false, List, [], ◌∷◌, ◌++◌, filter, map, Option, Some, None, length, min, option_and_then, nat_le, nat_lt, not, ◌==◌, ◌||◌, ◌&&◌, if◌then◌else◌}
-use Rattle.std.specs.List.{list_all, list_any}
+use Rattle.std.specs.Prelude.{◌≡◌, ℕ, ◌<◌, Bool, true, false, List, [], ◌∷◌, ◌++◌, filter, map, Option, Some, None, length, min, option_and_then, option_map, nat_le, nat_lt, not, ◌==◌, ◌||◌, ◌&&◌, if◌then◌else◌}
+use Rattle.std.specs.List.{enumerate_from, flat_map, list_all, list_any}
 use Rattle.cb_insn.specs.declared.insn.Insn.{Insn}
 use Rattle.cb_classfile.specs.declared.handler.Handler.{Handler}
 use Rattle.cb_link.specs.Program.{Linked}
@@ -19,18 +19,18 @@ abbrev pub Declared : Type 0
 Declared = List (ℕ × Option Frame)
 
 -- a frame arrives where one is declared to which it is assignable, and where none is it may go on
-abbrev goes_to_declared : Within → Frame → Option Frame → Bool
+abbrev pub goes_to_declared : Within → Frame → Option Frame → Bool
 goes_to_declared method frame None = false
 goes_to_declared method frame (Some other) = frame_goes_to method.program frame other
 
-abbrev arrives_at : Within → Frame → Option (Option Frame) → Bool
+abbrev pub arrives_at : Within → Frame → Option (Option Frame) → Bool
 arrives_at method frame None = false
 arrives_at method frame (Some there) = goes_to_declared method frame there
 
 abbrev pub arrives : Within → Declared → Frame → ℕ → Bool
 arrives method frames frame place = arrives_at method frame (declared_at frames place)
 
-abbrev goes_on_at : Within → Frame → Option (Option Frame) → Bool
+abbrev pub goes_on_at : Within → Frame → Option (Option Frame) → Bool
 goes_on_at method frame None = true
 goes_on_at method frame (Some there) = goes_to_declared method frame there
 
@@ -45,7 +45,7 @@ covers pc handler = nat_le handler.start pc && nat_lt pc handler.end
 abbrev pub caught_kind : Within → Handler → Option ℕ
 caught_kind method handler = if handler.catch_type == 0 then Some kind_of_throwable else kind_named method handler.catch_type
 
-abbrev is_handled_as : Within → Declared → Frame → ℕ → Option ℕ → Bool
+abbrev pub is_handled_as : Within → Declared → Frame → ℕ → Option ℕ → Bool
 is_handled_as method frames frame place None = false
 is_handled_as method frames frame place (Some kind) =
     goes_to method.program (Object kind) (Object kind_of_throwable)
@@ -55,7 +55,7 @@ abbrev pub is_handled : Within → Declared → Frame → Handler → Bool
 is_handled method frames frame handler = is_handled_as method frames frame handler.handler (caught_kind method handler)
 
 -- whether the next instruction may be reached
-abbrev falls : Insn → Bool
+abbrev pub falls : Insn → Bool
 falls insn = falling (action_of insn) where
   falling : Option Action → Bool
   falling None = false
@@ -90,7 +90,7 @@ pub record Placed : Type 0 where
   pub next : Option ℕ
   pub before : Option Frame
 
-abbrev first_place : List (ℕ × Insn) → Option ℕ
+abbrev pub first_place : List (ℕ × Insn) → Option ℕ
 first_place [] = None
 first_place (placed ∷ code) = Some placed.0
 
@@ -109,7 +109,7 @@ fits method frames placed =
     fits_with method frames placed.place placed.insn placed.next placed.before (after method (placed.place, placed.insn) placed.before)
 
 -- the frame with which a method begins is assignable to one that is declared at place 0
-abbrev begins : Within → Declared → Bool
+abbrev pub begins : Within → Declared → Bool
 begins method frames = begun (start method) where
   begun : Option Frame → Bool
   begun None = goes_unseen (declared_at frames 0) where
@@ -120,14 +120,14 @@ begins method frames = begun (start method) where
 
 -- the places that fail: of instructions that don't fit, the first one's where the method's beginning doesn't, and of frames that
 -- can't be expanded or at which no instruction stands
-abbrev is_missing : {Item : Type 0} → Option Item → Bool
+abbrev pub is_missing : {Item : Type 0} → Option Item → Bool
 is_missing None = true
 is_missing (Some item) = false
 
-abbrev is_lost : List Placed → ℕ × Option Frame → Bool
+abbrev pub is_lost : List Placed → ℕ × Option Frame → Bool
 is_lost placed entry = is_missing entry.1 || not (list_any (λ own. own.place == entry.0) placed)
 
-abbrev failing_in : Within → Declared → List Placed → List ℕ
+abbrev pub failing_in : Within → Declared → List Placed → List ℕ
 failing_in method frames placed =
     (if begins method frames then [] else 0 ∷ []) ++ map (λ own. own.place) (filter (λ own. not (fits method frames own)) placed)
     ++ map (λ entry. entry.0) (filter (is_lost placed) frames)
@@ -136,7 +136,7 @@ abbrev pub failing : Within → List ℕ
 failing method = failing_in method (declared method) (placed_in method)
 
 -- the least of some numbers
-abbrev least_with : ℕ → Option ℕ → ℕ
+abbrev pub least_with : ℕ → Option ℕ → ℕ
 least_with number None = number
 least_with number (Some other) = min number other
 

@@ -8,9 +8,10 @@ use Rattle.cb_classfile.specs.declared.method.Method.{Method}
 use Rattle.cb_classfile.specs.Pool.{text_at}
 use Rattle.cb_kinds.specs.declared.basic.Basic.{Basic}
 use Rattle.cb_kinds.specs.Texts.{same_text}
+use Rattle.cb_link.specs.declared.linked.LinkedMethod.{LinkedMethod}
 use Rattle.cb_link.specs.Having.{parameters_at}
 use Rattle.cb_link.specs.Named.{kind_at}
-use Rattle.cb_link.specs.Numbers.{Numbered, acc_static, has_flag, methods_of, or_none}
+use Rattle.cb_link.specs.Numbers.{acc_static, has_flag, methods_of, or_none}
 use Rattle.cb_link.specs.Program.{Linked}
 use Rattle.cb_link.specs.Resolving.{object}
 
@@ -30,22 +31,25 @@ is_init name = same_text name (codes "<init>")
 abbrev pub is_clinit : List ℕ → Bool
 is_clinit name = same_text name (codes "<clinit>")
 
--- of a method of a program, where it has code. Object's constructor has an object that is ready
-abbrev name_in : Linked → ℕ → ℕ → List ℕ
-name_in program class index = or_none (option_and_then (λ file. text_at file.pool index) (slice_get program.classes class))
+-- the record of a method of a program, by its number, and a text of its class
+abbrev pub method_at : Linked → ℕ → Option Method
+method_at program number = option_map (λ numbered. numbered.member) (slice_get (methods_of program.classes) number)
 
-abbrev with_body : Linked → ℕ → ℕ → Method → Option Body → Option Within
+abbrev pub text_in : Linked → ℕ → ℕ → List ℕ
+text_in program class index = or_none (option_and_then (λ file. text_at file.pool index) (slice_get program.classes class))
+
+-- a method where it has code. Object's constructor has an object that is ready
+abbrev pub with_body : Linked → ℕ → ℕ → Method → Option Body → Option Within
 with_body program number class method None = None
 with_body program number class method (Some body) =
-    Some (record { program = program; number = number; class = class; is_static = has_flag acc_static method.flags.0; is_constructor = is_init (name_in program class method.name) && not (class == object); body = body })
+    Some (record { program = program; number = number; class = class; is_static = has_flag acc_static method.flags.0; is_constructor = is_init (text_in program class method.name) && not (class == object); body = body })
 
-abbrev of_method : Linked → ℕ → ℕ → Numbered Method → Option Within
-of_method program number class numbered = with_body program number class numbered.member numbered.member.body
+abbrev pub of_class : Linked → ℕ → ℕ → Method → Option Within
+of_class program number class method = with_body program number class method method.body
 
 abbrev pub within : Linked → ℕ → Option Within
 within program number =
-    option_and_then (λ linked. option_and_then (of_method program number linked.class) (slice_get (methods_of program.classes) number))
-    (slice_get program.methods number)
+    option_and_then (λ linked. option_and_then (of_class program number linked.class) (method_at program number)) (slice_get program.methods number)
 
 -- what its parameters and its result are
 abbrev pub parameters : Within → List Basic

@@ -1,12 +1,42 @@
-//! What the verifier by type checking asks of a program (JVMS §4.10.1): its definitions, and what they come to on small methods.
+//! The verifier by type checking (JVMS §4.10.1).
 //!
-//! `specs/` has a file a notion: verification types and frames (`Types`, `Frames`), what a method's instructions are typed in
-//! (`Within`), what each instruction leaves of a frame (`Rules`, `Calls`, `Leaving`, with `Members`), the frames that a method
-//! declares (`Expansion`), and whether a program is typed (`Typed`). No call verifies a program yet.
+//! `verify` says whether a program is typed, and gives the frame before each instruction. `specs/` has a file a notion: verification
+//! types and frames (`Types`, `Frames`), what a method's instructions are typed in (`Within`), what each instruction leaves of a frame
+//! (`Rules`, `Calls`, `Leaving`, with `Members`), the frames that a method declares (`Expansion`), and whether a program is typed
+//! (`Typed`, with `Framed` and `Refused`); the other files are for the crate itself. No clause says that memory is to be had.
 #![tactic(auto)]
 
+mod arrays;
+mod arriving;
+mod calls;
+mod caught;
+mod declared_types;
+mod exchange;
+mod expansion;
+mod frame_changes;
+mod frame_table;
+mod handled;
+mod laid;
 mod law;
+mod leaving;
+mod lost;
+mod made;
+mod member;
+mod names;
+mod operands;
+mod pass;
+mod rules;
+mod shuffled;
+mod stacked;
+mod start_types;
+mod type_frame;
+mod typing;
 mod verification_type;
+mod verifying;
+mod within;
 
 pub use law::{small_branches, small_constructors, small_handlers, small_operands};
+pub use type_frame::TypeFrame;
+pub use typing::Typing;
 pub use verification_type::VerificationType;
+pub use verifying::{VerifyFault, verify};

@@ -1,10 +1,11 @@
 // Verification types.
-ghost use Rattle.std.specs.Prelude.{◌≡◌};
-ghost use Rattle.cb_verify.specs.Types.{goes_to, is_of, kind_goes_to, type_of};
+ghost use Rattle.std.specs.Prelude.{◌≡◌, ◌≤◌};
+ghost use Rattle.cb_verify.specs.Frames.{is_same};
+ghost use Rattle.cb_verify.specs.Types.{category, goes_to, is_initialised, is_of, kind_goes_to, number_type, sort_of_basic, type_of, words};
 
 use cb_kinds::Basic;
 use cb_link::Program;
-use cb_shapes::Sort;
+use cb_shapes::{Category, Sort};
 
 /// What is known of a value in a local variable or on the operand stack (JVMS §4.10.1.2).
 #[derive(Clone, Copy, Debug, Drop, Eq, PartialEq)]
@@ -23,6 +24,17 @@ pub enum VerificationType {
     New(u32),
 }
 
+/// The sort of a value by what it is in a descriptor.
+pub(crate) fn sort_of_basic(basic: Basic) -> Sort
+    ensures { result ≡ sort_of_basic basic }
+{
+    match basic {
+        Basic::Reference(_) => Sort::Reference,
+        Basic::Long => Sort::Long,
+        _ => Sort::Int,
+    }
+}
+
 impl VerificationType {
     /// The type of a value by what it is in a descriptor: an int for what is narrower too.
     pub fn of_basic(basic: Basic) -> Self
@@ -31,6 +43,16 @@ impl VerificationType {
         match basic {
             Basic::Reference(kind) => VerificationType::Object(kind),
             Basic::Long => VerificationType::Long,
+            _ => VerificationType::Int,
+        }
+    }
+
+    /// The type of a number of a sort.
+    pub(crate) fn of_number(sort: Sort) -> Self
+        ensures { result ≡ number_type sort }
+    {
+        match sort {
+            Sort::Long => VerificationType::Long,
             _ => VerificationType::Int,
         }
     }
@@ -52,7 +74,47 @@ impl VerificationType {
         }
     }
 
-    /// Whether it is assignable to another (JVMS §4.10.1.2). Takes constant time.
+    /// Whether it is null or an object that is initialised.
+    pub(crate) fn is_initialised(self) -> bool
+        ensures { result ≡ is_initialised self }
+    {
+        matches!(self, VerificationType::Null | VerificationType::Object(_))
+    }
+
+    /// The category of its values, none where nothing is known of them (JVMS table 2.11.1-B).
+    pub(crate) fn category(self) -> Option<Category>
+        ensures { result ≡ category self }
+    {
+        match self {
+            VerificationType::Top => None,
+            VerificationType::Long => Some(Category::Two),
+            _ => Some(Category::One),
+        }
+    }
+
+    /// How many words of the operand stack, or local variables, a value takes.
+    pub(crate) fn words(self) -> u32
+        ensures words { result ≡ words self }
+        ensures few { result ≤ 2 }
+    {
+        match self {
+            VerificationType::Long => 2,
+            _ => 1,
+        }
+    }
+
+    /// Whether it is the type of the same object, which isn't initialised.
+    pub(crate) fn is_same(self, other: Self) -> bool
+        ensures { result ≡ is_same self other }
+    {
+        match (self, other) {
+            (VerificationType::This, VerificationType::This) => true,
+            (VerificationType::New(one), VerificationType::New(own)) => one == own,
+            _ => false,
+        }
+    }
+
+    /// Whether it is assignable to another (JVMS §4.10.1.2).
     pub fn goes_to(self, program: &Program, other: Self) -> bool
         ensures { result ≡ goes_to program.now self other }
     {
@@ -62,9 +124,9 @@ impl VerificationType {
             | (VerificationType::Long, VerificationType::Long)
             | (VerificationType::Null, VerificationType::Null | VerificationType::Object(_))
             | (VerificationType::This, VerificationType::This) => true,
-            (VerificationType::Object(kind), VerificationType::Object(wanted)) => {
-                kind_goes_to(program, kind, wanted)
-            }
+            (VerificationType::Object(kind), VerificationType::Object(wanted)) => kind_goes_to(
+                program, kind, wanted,
+            ),
             (VerificationType::New(place), VerificationType::New(own)) => place == own,
             _ => false,
         }
@@ -72,7 +134,7 @@ impl VerificationType {
 }
 
 /// Whether a kind is assignable to another, where both are there.
-fn kind_goes_to(program: &Program, kind: u32, wanted: u32) -> bool
+pub(crate) fn kind_goes_to(program: &Program, kind: u32, wanted: u32) -> bool
     ensures { result ≡ kind_goes_to program.now kind wanted }
 {
     kind < program.kind_count() && wanted < program.kind_count() && program.assignable(kind, wanted)

@@ -1,0 +1,8 @@
+use Rattle.std.proofs.Common.{◌≡◌, ◌++◌, drop, option_map, IfSome}
+use Rattle.cb_verify.specs.Expansion.{declared, declared_behind}
+use Rattle.cb_verify.specs.Laid.{IsLaid}
+use Rattle.cb_verify.proofs.Declaring.{IsDeclared}
+use Rattle.cb_verify.proofs.expansion.Declared.of.Given as goal
+
+abbrev pub invariant-loop-frame : goal.invariant-loop-frame
+invariant-loop-frame l = IsDeclared l.method l.previous l.laid (drop l.frame-index l.method.body.frames) l.frames

@@ -1,0 +1,33 @@
+-- The frames before the instructions of a program that is typed.
+use Rattle.std.specs.Prelude.{ℕ, List, [], ◌∷◌, map, Option, Some, None, length, option_and_then, option_map, slice_get, ◌==◌}
+use Rattle.std.specs.List.{find, flat_map, range_with_len}
+use Rattle.cb_link.specs.Program.{Linked}
+use Rattle.cb_verify.specs.Frames.{Frame}
+use Rattle.cb_verify.specs.Typed.{Placed, placed_in}
+use Rattle.cb_verify.specs.Within.{Within, within}
+
+-- those of a method by their places, in the order of its instructions. It has none before an instruction that can't be reached
+abbrev pub framed_at : ℕ → Option Frame → List (ℕ × Frame)
+framed_at place None = []
+framed_at place (Some frame) = (place, frame) ∷ []
+
+abbrev pub framed : List Placed → List (ℕ × Frame)
+framed placed = flat_map (λ own. framed_at own.place own.before) placed
+
+abbrev pub frames_of : Within → List (ℕ × Frame)
+frames_of method = framed (placed_in method)
+
+-- those of all methods by their numbers: none has one without code
+abbrev pub frames_in : Option Within → List (ℕ × Frame)
+frames_in None = []
+frames_in (Some method) = frames_of method
+
+abbrev pub typing_of : Linked → List (List (ℕ × Frame))
+typing_of program = map (λ number. frames_in (within program number)) (range_with_len 0 (length program.methods))
+
+-- the one at a place of a method
+abbrev pub frame_at_place : ℕ → List (ℕ × Frame) → Option Frame
+frame_at_place pc frames = option_map (λ entry. entry.1) (find (λ entry. entry.0 == pc) frames)
+
+abbrev pub frame_in : List (List (ℕ × Frame)) → ℕ → ℕ → Option Frame
+frame_in typing method pc = option_and_then (frame_at_place pc) (slice_get typing method)
