@@ -11,8 +11,6 @@ mod narrower;
 mod narrowing;
 mod order;
 mod shift;
-#[cfg(test)]
-mod tests;
 mod worked;
 
 pub use int::{IntOp, int_op};

@@ -17,8 +17,6 @@ mod open_labels;
 mod part;
 mod reading;
 mod sample;
-#[cfg(test)]
-mod tests;
 
 pub use assembling::{assemble, assemble_bytes};
 pub use fault::AsmFault;

@@ -28,8 +28,6 @@ mod reading;
 mod said;
 mod statement;
 mod switch_words;
-#[cfg(test)]
-mod tests;
 mod unit;
 mod word;
 

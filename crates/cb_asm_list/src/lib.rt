@@ -17,8 +17,6 @@ mod names;
 mod operand;
 mod places;
 mod start;
-#[cfg(test)]
-mod tests;
 mod words;
 
 pub use listing::list;

@@ -18,8 +18,6 @@ mod numbering;
 mod operand;
 mod size;
 mod stop;
-#[cfg(test)]
-mod tests;
 mod uses;
 mod words;
 

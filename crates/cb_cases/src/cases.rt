@@ -1,4 +1,5 @@
 // The cases of the text.
+use crate::body::try_body;
 use crate::command::{do_command, link_main};
 use crate::content::{Named, change};
 use crate::linked::LinkedProgram;
@@ -207,6 +208,7 @@ impl Cases {
                 self.begin(rest)
             }
             "ask" => self.ask(rest),
+            "body" if self.cases > 0 => self.try_body(rest),
             _ if self.is_open => self.obey_in_case(keyword, rest),
             _ => Err(Trouble::OutsideOfCase),
         }
@@ -258,6 +260,19 @@ impl Cases {
             Some(program) => program.answer(self.alloc, &mut self.report, line),
             None => Err(Trouble::NothingLinked),
         }
+    }
+
+    /// Tries a method in the class of the bytes with the name `around`.
+    fn try_body(&mut self, line: &str) -> Result<(), Trouble> {
+        self.is_open = false;
+        let around = self.named.get("around").ok_or(Trouble::UnknownName)?;
+        try_body(
+            self.alloc,
+            &mut self.setup,
+            &mut self.report,
+            around.as_slice(),
+            line,
+        )
     }
 
     /// Begins a case with a title.

@@ -8,8 +8,9 @@ use crate::trouble::Trouble;
 use cb_asm::list;
 use cb_classfile::{ClassFile, unsupported};
 use cb_core::core_classes;
+use cb_io::{MemSink, MemSource};
 use cb_link::{Program, link};
-use cb_runner::run_command;
+use cb_runner::{Ended, run_command};
 use cb_writer::well_formed;
 use std::alloc::{AllocError, Global};
 
@@ -32,7 +33,7 @@ pub(crate) fn do_command(
 }
 
 /// Adds the words of a line, which one blank parts.
-fn add_words(setup: &mut Setup, line: &str) -> Result<(), Trouble> {
+pub(crate) fn add_words(setup: &mut Setup, line: &str) -> Result<(), Trouble> {
     if line.is_empty() {
         return Ok(());
     }
@@ -42,8 +43,17 @@ fn add_words(setup: &mut Setup, line: &str) -> Result<(), Trouble> {
     Ok(())
 }
 
+/// How a command ended, and what is left of the objects.
+#[derive(Drop)]
+pub(crate) struct Ran {
+    pub ended: Ended,
+    pub input: MemSource,
+    pub out: MemSink,
+    pub err: MemSink,
+}
+
 /// Does what the words say, over objects in memory.
-fn run(alloc: Global, setup: &mut Setup, report: &mut String) -> Result<(), Trouble> {
+pub(crate) fn run_words(alloc: Global, setup: &mut Setup) -> Result<Ran, Trouble> {
     let words = setup.take_words();
     let mut folder = setup.take_folder()?;
     let mut input = setup.take_input()?;
@@ -57,10 +67,21 @@ fn run(alloc: Global, setup: &mut Setup, report: &mut String) -> Result<(), Trou
         &mut out,
         &mut err,
     );
-    writeln!(report, "status {} {:?}", ended.status, ended.cause)?;
-    push_bytes(report, "out", out.bytes())?;
-    push_bytes(report, "err", err.bytes())?;
-    writeln!(report, "left {}", input.remaining().len())?;
+    Ok(Ran {
+        ended,
+        input,
+        out,
+        err,
+    })
+}
+
+/// Does what the words say, and prints what came of it.
+fn run(alloc: Global, setup: &mut Setup, report: &mut String) -> Result<(), Trouble> {
+    let ran = run_words(alloc, setup)?;
+    writeln!(report, "status {} {:?}", ran.ended.status, ran.ended.cause)?;
+    push_bytes(report, "out", ran.out.bytes())?;
+    push_bytes(report, "err", ran.err.bytes())?;
+    writeln!(report, "left {}", ran.input.remaining().len())?;
     Ok(())
 }
 

@@ -71,7 +71,7 @@ fn cut(bytes: &mut Vec<u8>, count: usize) -> Result<(), Trouble> {
 }
 
 /// The class file of an assembly text.
-fn assembled(alloc: Global, text: &[u8]) -> Result<Vec<u8>, Trouble> {
+pub(crate) fn assembled(alloc: Global, text: &[u8]) -> Result<Vec<u8>, Trouble> {
     let class = assemble_bytes(alloc, text)?;
     Ok(write_class(alloc, &class)?)
 }

@@ -2,6 +2,7 @@
 use crate::asked_classes::{print_classes, print_initial, print_main, print_pool};
 use crate::asked_code::print_method;
 use crate::asked_fields::{print_enum, print_fields, print_statics};
+use crate::asked_frames::{print_frames, print_typed};
 use crate::asked_kinds::{print_kinds, print_relations};
 use crate::asked_methods::print_selected;
 use crate::asked_sites::{print_sites, print_texts};
@@ -36,6 +37,7 @@ impl LinkedProgram {
             "statics" => print_statics(alloc, report, program, self.known),
             "sites" => print_sites(alloc, report, program, self.known),
             "texts" => print_texts(alloc, report, program),
+            "typed" => print_typed(alloc, report, program),
             _ => Err(Trouble::NotUnderstood),
         }
     }
@@ -53,6 +55,7 @@ impl LinkedProgram {
             "instance" | "assignable" => print_relations(alloc, report, program, what, words),
             "select" => print_selected(alloc, report, program, words),
             "method" => print_method(alloc, report, program, words),
+            "frames" => print_frames(alloc, report, program, words),
             _ => self.answer_of_class(alloc, report, what, words),
         }
     }

@@ -7,9 +7,11 @@
 mod asked_classes;
 mod asked_code;
 mod asked_fields;
+mod asked_frames;
 mod asked_kinds;
 mod asked_methods;
 mod asked_sites;
+mod body;
 mod calls;
 mod cases;
 mod command;

@@ -32,8 +32,6 @@ mod numbers;
 mod profile;
 mod read;
 mod table;
-#[cfg(test)]
-mod tests;
 mod text_numbers;
 mod texts;
 

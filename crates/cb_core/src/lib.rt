@@ -20,8 +20,6 @@ mod names;
 mod record;
 mod row;
 mod rows;
-#[cfg(test)]
-mod tests;
 mod text;
 mod throwables;
 mod words;

@@ -10,8 +10,6 @@ mod frame;
 mod instruction;
 mod laws;
 mod numbers;
-#[cfg(test)]
-mod tests;
 
 pub use first_form::{FirstForm, NotFirstForm, read_first_form};
 pub use instruction::{Instruction, next_instruction};

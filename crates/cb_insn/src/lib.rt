@@ -29,8 +29,6 @@ mod size;
 mod starts;
 mod switch;
 mod target;
-#[cfg(test)]
-mod tests;
 
 pub use decoder::decode;
 pub use encoder::{encode, encode_into};

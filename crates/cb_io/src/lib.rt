@@ -24,8 +24,6 @@ mod stream_source;
 mod sure_folder;
 mod sure_sink;
 mod sure_source;
-#[cfg(test)]
-mod tests;
 mod utf8;
 mod whole_file;
 

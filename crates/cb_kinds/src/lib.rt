@@ -12,8 +12,6 @@ mod first_places;
 mod kinds;
 mod law;
 mod pair_numbers;
-#[cfg(test)]
-mod tests;
 mod text_numbers;
 mod texts;
 mod units;

@@ -6,8 +6,6 @@
 
 mod law;
 mod native;
-#[cfg(test)]
-mod tests;
 
 pub use law::{
     fifty_classes, flags_of_methods, four_constructors, marked, natives_once, one_method,

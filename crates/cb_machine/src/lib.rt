@@ -1,10 +1,21 @@
-//! The meaning of programs: expressions over 32-bit ints, their values and what a program prints.
+//! The meaning of programs.
 //!
-//! The definitions stand in `specs/`, apart from any stack: the value of an expression is defined on its tree.
+//! `specs/` says what a linked and typed program does: the machine that never frees an object. Its files are to be read in this order:
+//! the state and what can be reached (`State`, `Reach`); machines, numbers of classes and sites (`Machine`, `Library`, `Sites`); states
+//! with one thing changed (`Updates`); what a step places and leaves (`Plans`); values, and where a machine stands at an instruction
+//! (`Values`, `Standing`); exceptions, strings, frames, initialisation and handlers (`Throwing`, `Strings`, `Depth`, `Initialising`,
+//! `Unwinding`); the shapes of instructions (`Computing`, `Locals`, `Branching`, `Arrays`, `Fields`, `Creating`, `Testing`); the natives
+//! (`Performing`, `Texts`, `Builders`, `Boxes`, `Copying`, `Outside`, `Answering`, `Enums`, `Natives`); calls (`Calling`); the step, the
+//! start and runs (`Steps`, `Starting`, `Runs`). Nothing runs by them yet. Small programs (`Laid`, `Small`) are computed by the check.
+//!
+//! Until something does, programs of the first form run by the rest: expressions over 32-bit ints, whose value is defined on their tree
+//! (`Arithmetic`, `Expression`, `Printing`).
 #![tactic(auto)]
 
+mod law;
 mod operator;
-#[cfg(test)]
-mod tests;
+mod outcome;
 
+pub use law::{small_failures, small_requests, small_runs};
 pub use operator::Operator;
+pub use outcome::Outcome;

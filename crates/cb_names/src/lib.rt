@@ -13,8 +13,6 @@ mod method;
 mod name;
 mod parameters;
 mod signs;
-#[cfg(test)]
-mod tests;
 mod types;
 mod unique;
 mod unit;

@@ -7,8 +7,6 @@
 
 mod array;
 mod stack;
-#[cfg(test)]
-mod tests;
 mod tree;
 
 pub use array::PersistentArray;

@@ -9,8 +9,6 @@ mod list;
 mod memory;
 mod name;
 mod shape;
-#[cfg(test)]
-mod tests;
 mod value;
 
 pub use list::{List, Marks, Numbers};

@@ -23,7 +23,7 @@ use Rattle.cb_runner.specs.Ending.{Ending, out_of_memory, output_fault, refused,
 use Rattle.cb_runner.specs.Inner.{IsCarriedOut, IsRefusal, IsUnfound, LinksClass, Makes, PrintsMade, RunsBytes, StopsAtOnce, StopsBy, cause_of, ending_of}
 use Rattle.cb_runner.specs.List.{ListsFile}
 use Rattle.cb_runner.specs.Messages.{Reason, NotYet}
-use Rattle.cb_runner.specs.Run.{RunsClass, RunsFile, Linked, file_limit}
+use Rattle.cb_runner.specs.Run.{RunsClass, RunsFile, Typed, file_limit}
 use Rattle.cb_runner.specs.Words.{Command, RunIn, ListOf, Says, SaysNone}
 
 -- nothing more was taken
@@ -109,7 +109,7 @@ ends_by command files left MayEnd read stop out answers memory stops = absurd st
 
 -- a command of a file, and how it ends where the file couldn't be looked for
 pub run_ends : (folder main : List ℕ) (files : Option Files) (file : Option (List ℕ)) (stop : Stop) (out : List ℕ) → MayHaveFile files (path_of folder main) file → StopsBy (RunsFile main file) 0 stop out → LinksClass files folder main → (left : Option (List ℕ)) → EndsIn (RunIn folder main) files left (ending_of stop out 0)
-run_ends folder main files file stop out may stops = λ links left. ends_by (RunIn folder main) files left (RunsFile main file) 0 stop out (λ ending runs. Linked links.library links.classes links.method file links.known links.loaded links.good may runs) refl stops
+run_ends folder main files file stop out may stops = λ links left. ends_by (RunIn folder main) files left (RunsFile main file) 0 stop out (λ ending runs. Typed links.library links.classes links.method file links.known links.loaded links.good links.typed may runs) refl stops
 
 pub list_ends : (path : List ℕ) (files : Option Files) (file : Option (List ℕ)) (stop : Stop) (out : List ℕ) → MayStandAt files path file → StopsBy (ListsFile path file) 0 stop out → (left : Option (List ℕ)) → EndsIn (ListOf path) files left (ending_of stop out 0)
 list_ends path files file stop out may stops = λ left. ends_by (ListOf path) files left (ListsFile path file) 0 stop out (λ ending lists. (file, may, lists)) refl stops

@@ -7,7 +7,7 @@ use Rattle.cb_runner.specs.Answer.{Answers, Ends, EndsIn, Fault, IsCutShort, IsT
 use Rattle.cb_runner.specs.Asm.{AssemblesText, TooLong, Assembled, Bad}
 use Rattle.cb_runner.specs.Ending.{Ending}
 use Rattle.cb_runner.specs.List.{ListsBytes, ListsFile, OfVersion, OfNoClass, OfItem, Listed}
-use Rattle.cb_runner.specs.Run.{RunsClass, RunsFile, Stopped, Linked}
+use Rattle.cb_runner.specs.Run.{RunsClass, RunsFile, Stopped, Typed, Untyped}
 use Rattle.cb_runner.specs.Words.{Command, RunIn, ListOf, Assemble, SaysNone}
 
 -- a command that nothing cuts short returns or is refused
@@ -18,7 +18,8 @@ runs_whole main (Some bytes) ending (inr (none, is)) = inr (ap (λ e. e.cause) i
 
 runs_class_whole : (files : Option Files) (folder main : List ℕ) (ending : Ending) → RunsClass files folder main ending → IsWhole ending
 runs_class_whole files folder main ending (Stopped library refusal reason known stops says is) = inr (ap (λ e. e.cause) is)
-runs_class_whole files folder main ending (Linked library classes method file known loaded good may runs) = runs_whole main file ending runs
+runs_class_whole files folder main ending (Untyped library classes method reason known loaded good untyped is) = inr (ap (λ e. e.cause) is)
+runs_class_whole files folder main ending (Typed library classes method file known loaded good typed may runs) = runs_whole main file ending runs
 
 lists_bytes_whole : (path bytes : List ℕ) (ending : Ending) → ListsBytes path bytes ending → IsWhole ending
 lists_bytes_whole path bytes ending (Listed class listed is) = inl (ap (λ e. e.cause) is)

@@ -5,6 +5,7 @@ pub mod FewItems
 pub mod Digits
 pub mod Endings
 pub mod Unlinked
+pub mod Unverified
 pub mod RunOnce
 pub mod Listing
 pub mod Assembling

@@ -14,6 +14,8 @@ use Rattle.cb_classfile.specs.declared.class.ClassFile.{ClassFile}
 use Rattle.cb_classfile.specs.Library.{AreLibrary}
 use Rattle.cb_link.specs.Judging.{IsProgram}
 use Rattle.cb_link.specs.Loading.{AreLoaded}
+use Rattle.cb_link.specs.Program.{Linked, linked}
+use Rattle.cb_verify.specs.Typed.{IsTyped}
 use Rattle.cb_link.specs.declared.refusal.Refusal.{Refusal as LinkRefusal}
 use Rattle.cb_link.specs.declared.refusal.Refusal.TheVariants as link_refusals
 use Rattle.cb_runner.specs.declared.cause.Cause.{Cause}
@@ -27,7 +29,7 @@ use Rattle.cb_runner.specs.declared.words.Command.{Command as SaidCommand}
 use Rattle.cb_runner.specs.declared.words.Command.TheVariants as said_commands
 use Rattle.cb_runner.specs.Ending.{Ending, returned}
 use Rattle.cb_runner.specs.Messages.{Reason, BadVersion, Malformed, Unsupported, NotYet, line, reason_of, refusal_text}
-use Rattle.cb_runner.specs.Run.{reason_of_linking}
+use Rattle.cb_runner.specs.Run.{IsUntyped, reason_of_linking}
 use Rattle.cb_runner.specs.Words.{Command, RunIn, ListOf, Assemble, internal_name}
 
 -- the command that a value of the program is
@@ -88,6 +90,12 @@ IsConverted link_refusals.FolderFault made = made ≡ Err FolderFault
 IsConverted link_refusals.OutOfMemory made = made ≡ Err OutOfMemory
 IsConverted refusal (Ok told) = reason_of_linking refusal ≡ Some (reason_of told)
 IsConverted refusal (Err stop) = stop ≡ OutOfMemory
+
+-- a program isn't run since it isn't typed, if there was memory to verify it and for the line
+abbrev pub StopsUntyped : Linked → Stop → Type 0
+StopsUntyped program (Refused text) = (reason : Reason) × IsUntyped program reason × IsRefusal reason (Refused text)
+StopsUntyped program OutOfMemory = Unit {0}
+StopsUntyped program other = ⊥
 
 -- a class file isn't listed for what a reader of it told
 abbrev pub IsUnlisted : List ℕ → ClassFault → Stop → Type 0
@@ -163,7 +171,7 @@ pub record IsCarriedOut (MayEnd : Ending → Type 0) (before now known taken : O
   pub left : IfSome before (λ left. now ≡ Some (drop read left))
   pub ends : MayEnd (ending_of stop printed read)
 
--- the classes that a main class needs are a program
+-- the classes that a main class needs are a program that is typed
 pub record LinksClass (files : Option Files) (folder main : List ℕ) : Type 0 where
   pub library : List ClassFile
   pub classes : List ClassFile
@@ -171,3 +179,4 @@ pub record LinksClass (files : Option Files) (folder main : List ℕ) : Type 0 w
   pub known : AreLibrary library
   pub loaded : AreLoaded files folder main classes
   pub good : IsProgram (library ++ classes) main method
+  pub typed : IsTyped (linked (library ++ classes) main method)

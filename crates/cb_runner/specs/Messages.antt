@@ -18,6 +18,7 @@ pub data Reason : Type 0 where
   BadHierarchy : List ℕ → Reason
   MissingMember : List ℕ → List ℕ → Reason
   NoMain : List ℕ → Reason
+  Unverified : List ℕ → List ℕ → ℕ → Reason
   TooLarge : Quantity → ℕ → ℕ → Reason
   BadLine : ℕ → Reason
 
@@ -31,6 +32,7 @@ reason_of (refusals.NotYet class) = NotYet (string_bytes class)
 reason_of (refusals.BadHierarchy class) = BadHierarchy (string_bytes class)
 reason_of (refusals.MissingMember class member) = MissingMember (string_bytes class) (string_bytes member)
 reason_of (refusals.NoMain class) = NoMain (string_bytes class)
+reason_of (refusals.Unverified class method pc) = Unverified (string_bytes class) (string_bytes method) pc
 reason_of (refusals.TooLarge what count limit) = TooLarge what count limit
 reason_of (refusals.BadLine line) = BadLine line
 
@@ -52,6 +54,7 @@ refusal_text (NotYet class) = codes "E4 unsupported not yet in class " ++ class
 refusal_text (BadHierarchy class) = codes "E5 bad hierarchy at class " ++ class
 refusal_text (MissingMember class member) = codes "E6 missing member " ++ member ++ codes " in class " ++ class
 refusal_text (NoMain class) = codes "E9 no main in class " ++ class
+refusal_text (Unverified class method pc) = codes "E7 not verified " ++ class ++ codes " " ++ method ++ codes " " ++ decimal pc
 refusal_text (TooLarge what count limit) = codes "E8 too large " ++ quantity_text what ++ codes " " ++ decimal count ++ codes " over " ++ decimal limit
 refusal_text (BadLine line) = codes "bad line " ++ decimal line
 

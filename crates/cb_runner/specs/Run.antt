@@ -1,11 +1,13 @@
 -- What `run` comes to, by what linking its class comes to and by the class's file.
-use Rattle.std.specs.Prelude.{◌≡◌, ◌⊎◌, ℕ, ◌≤◌, List, ◌++◌, length, Option, Some, None}
+use Rattle.std.specs.Prelude.{◌≡◌, ◌⊎◌, ℕ, ◌≤◌, List, ◌++◌, length, Option, Some, None, option_and_then, option_map, slice_get}
 use Rattle.cb_io.specs.Folder.{Files}
 use Rattle.cb_io.specs.Utf8.{utf8}
 use Rattle.cb_machine.specs.Expression.{Expression}
 use Rattle.cb_machine.specs.Printing.{printed}
 use Rattle.cb_first_form.specs.FirstForm.{SpellsProgram}
 use Rattle.cb_classfile.specs.declared.class.ClassFile.{ClassFile}
+use Rattle.cb_classfile.specs.declared.method.Method.{Method}
+use Rattle.cb_classfile.specs.Pool.{text_at}
 use Rattle.cb_link.specs.declared.refusal.Quantity.{Quantity as LinkQuantity}
 use Rattle.cb_link.specs.declared.refusal.Quantity.TheVariants as link_quantities
 use Rattle.cb_link.specs.declared.refusal.Refusal.{Refusal as LinkRefusal}
@@ -15,10 +17,14 @@ use Rattle.cb_classfile.specs.Library.{AreLibrary}
 use Rattle.cb_link.specs.Judging.{IsNoProgram, IsProgram}
 use Rattle.cb_link.specs.Linking.{IsHindered}
 use Rattle.cb_link.specs.Loading.{AreLoaded}
+use Rattle.cb_link.specs.Numbers.{name_of, or_none}
+use Rattle.cb_link.specs.Program.{Linked, linked}
+use Rattle.cb_verify.specs.Typed.{FailsFirst, IsTyped}
+use Rattle.cb_verify.specs.Within.{method_at}
 use Rattle.cb_runner.specs.declared.refusal.Quantity.{Quantity}
 use Rattle.cb_runner.specs.declared.refusal.Quantity.TheVariants.{ClassFileBytes, Classes, Methods, Sites}
 use Rattle.cb_runner.specs.Ending.{Ending, refused, returned}
-use Rattle.cb_runner.specs.Messages.{Reason, BadHierarchy, MissingClass, MissingMember, Malformed, BadVersion, NoMain, Unsupported, NotYet, TooLarge}
+use Rattle.cb_runner.specs.Messages.{Reason, BadHierarchy, MissingClass, MissingMember, Malformed, BadVersion, NoMain, Unsupported, NotYet, TooLarge, Unverified}
 
 -- the most bytes of a class file
 abbrev pub file_limit : ℕ
@@ -57,15 +63,38 @@ reason_of_linking (link_refusals.NoMain class) = Some (NoMain (utf8 class))
 reason_of_linking link_refusals.FolderFault = None
 reason_of_linking link_refusals.OutOfMemory = None
 
--- linking the class stops for a reason, which is told; or its classes are a program, and its file is run. The library's classes
--- are those of its table, whatever the layout of their records
+-- the reason that a method of a class says which isn't typed, by the least place of it that fails
+abbrev pub unverified_in : ClassFile → ℕ → Method → Reason
+unverified_in class pc method =
+    Unverified (utf8 (name_of class)) (utf8 (or_none (text_at class.pool method.name) ++ or_none (text_at class.pool method.descriptor))) pc
+
+-- by its number, and the class that declares a method
+abbrev pub class_declaring : Linked → ℕ → Option ClassFile
+class_declaring program number = option_and_then (λ linked. slice_get program.classes linked.class) (slice_get program.methods number)
+
+abbrev pub reason_of_typing : Linked → ℕ → ℕ → Option Reason
+reason_of_typing program number pc =
+    option_and_then (λ class. option_map (unverified_in class pc) (method_at program number)) (class_declaring program number)
+
+-- a program isn't typed, for the reason that its first method with a place that fails says
+pub record IsUntyped (program : Linked) (reason : Reason) : Type 0 where
+  pub number : ℕ
+  pub pc : ℕ
+  pub first : FailsFirst program number pc
+  pub told : reason_of_typing program number pc ≡ Some reason
+
+-- linking the class stops for a reason, which is told; or its classes are a program that isn't typed, for a reason that is told; or
+-- they are one that is, and the class's file is run. The library's classes are those of its table, whatever the layout of their records
 pub data RunsClass (files : Option Files) (folder main : List ℕ) (ending : Ending) : Type 0 where
   Stopped : (library : List ClassFile) (refusal : LinkRefusal) (reason : Reason) → AreLibrary library
       → IsHindered files folder library main refusal → reason_of_linking refusal ≡ Some reason → ending ≡ refused reason 0
       → RunsClass files folder main ending
-  Linked : (library classes : List ClassFile) (method : ℕ) (file : Option (List ℕ)) → AreLibrary library → AreLoaded files folder main classes
-      → IsProgram (library ++ classes) main method → MayStandAt files (path_of folder main) file → RunsFile main file ending
+  Untyped : (library classes : List ClassFile) (method : ℕ) (reason : Reason) → AreLibrary library → AreLoaded files folder main classes
+      → IsProgram (library ++ classes) main method → IsUntyped (linked (library ++ classes) main method) reason → ending ≡ refused reason 0
       → RunsClass files folder main ending
+  Typed : (library classes : List ClassFile) (method : ℕ) (file : Option (List ℕ)) → AreLibrary library → AreLoaded files folder main classes
+      → IsProgram (library ++ classes) main method → IsTyped (linked (library ++ classes) main method)
+      → MayStandAt files (path_of folder main) file → RunsFile main file ending → RunsClass files folder main ending
 
 -- classes that were loaded are a program, whatever the layout of the library's records; or they are none for this reason
 abbrev pub AreProgram : List ClassFile → List ℕ → Type 0
@@ -73,3 +102,14 @@ AreProgram classes main = (library : List ClassFile) → AreLibrary library → 
 
 abbrev pub AreNoProgram : List ClassFile → List ℕ → LinkRefusal → Type 0
 AreNoProgram classes main refusal = (library : List ClassFile) → AreLibrary library → IsNoProgram (library ++ classes) main refusal
+
+-- a program of classes that were loaded is typed, whatever the layout of the library's records; or it isn't, for this reason
+abbrev pub AreTyped : List ClassFile → List ℕ → Type 0
+AreTyped classes main =
+    (library : List ClassFile) → AreLibrary library → (method : ℕ) → IsProgram (library ++ classes) main method
+    → IsTyped (linked (library ++ classes) main method)
+
+abbrev pub AreUntyped : List ClassFile → List ℕ → Reason → Type 0
+AreUntyped classes main reason =
+    (library : List ClassFile) → AreLibrary library → (method : ℕ) → IsProgram (library ++ classes) main method
+    → IsUntyped (linked (library ++ classes) main method) reason

@@ -20,7 +20,7 @@ ghost use Rattle.cb_runner.specs.Asm.{text_limit};
 ghost use Rattle.cb_runner.specs.Ending.{Ending, refused, returned, usage};
 ghost use Rattle.cb_runner.specs.List.{IsListed, LeavesOut};
 ghost use Rattle.cb_runner.specs.Messages.{Reason, MissingClass, Malformed, BadVersion, Unsupported, NotYet, TooLarge, BadLine};
-ghost use Rattle.cb_runner.specs.Run.{AreNoProgram, AreProgram, IsProgramFile, file_limit, reason_of_linking};
+ghost use Rattle.cb_runner.specs.Run.{AreNoProgram, AreProgram, AreTyped, AreUntyped, IsProgramFile, file_limit, reason_of_linking};
 ghost use Rattle.cb_runner.specs.Words.{Assemble, Command, ListOf, RunIn, SaysNone};
 ghost use Rattle.cb_runner.specs.declared.cause.Cause.TheVariants as causes;
 ghost use Rattle.cb_runner.specs.declared.refusal.Quantity.TheVariants.{ClassFileBytes, AssemblyBytes};
@@ -50,8 +50,9 @@ pub fn refused_silently()
 
 /// A run that nothing cuts short, where the folder tells its files. It is refused for the reason for which loading its class
 /// stops, where that stops. Where its classes are loaded, it is refused for the reason for which they are no program. Where they
-/// are one, it is refused as one that isn't run yet exactly where the class has no file of the first form, and that of a file of
-/// that form returns, having printed what the file prints.
+/// are one that isn't typed, it is refused for its first method that isn't and the least place of it that fails. Where they are one
+/// that is typed, it is refused as one that isn't run yet exactly where the class has no file of the first form, and that of a file
+/// of that form returns, having printed what the file prints.
 pub fn run_exactly()
     ensures unloaded { (folder main : List ℕ) (files : Files) (left : Option (List ℕ)) (ending : Ending)
         (refusal : LinkRefusal) (reason : Reason) → Answers (RunIn folder main) (Some files) left ending
@@ -60,15 +61,19 @@ pub fn run_exactly()
         (classes : List ClassFile) (refusal : LinkRefusal) (reason : Reason) → Answers (RunIn folder main) (Some files) left ending
         → AreLoaded (Some files) folder main classes → AreNoProgram classes main refusal → reason_of_linking refusal ≡ Some reason
         → ending ≡ refused reason 0 }
+    ensures untyped { (folder main : List ℕ) (files : Files) (left : Option (List ℕ)) (ending : Ending)
+        (classes : List ClassFile) (reason : Reason) → Answers (RunIn folder main) (Some files) left ending
+        → AreLoaded (Some files) folder main classes → AreProgram classes main → AreUntyped classes main reason
+        → ending ≡ refused reason 0 }
     ensures not_yet { (folder main : List ℕ) (files : Files) (left : Option (List ℕ)) (ending : Ending)
         (classes : List ClassFile) (file : Option (List ℕ)) → Answers (RunIn folder main) (Some files) left ending
-        → AreLoaded (Some files) folder main classes → AreProgram classes main
+        → AreLoaded (Some files) folder main classes → AreProgram classes main → AreTyped classes main
         → MayStandAt (Some files) (path_of folder main) file
         → (ending ≡ refused (NotYet (utf8 main)) 0)
         ↔ ((program : List Expression) → ¬ IsSomeAnd file (λ bytes. IsProgramFile bytes program)) }
     ensures returned { (folder main bytes : List ℕ) (files : Files) (left : Option (List ℕ)) (ending : Ending)
         (classes : List ClassFile) (program : List Expression) → Answers (RunIn folder main) (Some files) left ending
-        → AreLoaded (Some files) folder main classes → AreProgram classes main
+        → AreLoaded (Some files) folder main classes → AreProgram classes main → AreTyped classes main
         → MayStandAt (Some files) (path_of folder main) (Some bytes)
         → IsProgramFile bytes program → ending ≡ returned (printed program) 0 }
 {

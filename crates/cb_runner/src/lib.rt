@@ -1,7 +1,7 @@
 //! The top call of the machine: all that the program does, over the outside that it is handed.
 //!
-//! So far it links any class and runs one whose file is of the first form, lists class files and assembles texts. Every
-//! other class that is linked is answered as not yet run.
+//! So far it links and verifies any class and runs one whose file is of the first form, lists class files and assembles texts. Every
+//! other class that is typed is answered as not yet run.
 #![tactic(auto)]
 
 mod asm;
@@ -20,8 +20,7 @@ mod printing;
 mod refusal;
 mod run;
 mod stop;
-#[cfg(test)]
-mod tests;
+mod verifying;
 mod words;
 
 pub use cause::Cause;

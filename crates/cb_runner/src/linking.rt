@@ -8,13 +8,14 @@ ghost use Rattle.cb_runner.specs.declared.stop.Stop.TheVariants as stops;
 
 use crate::class_name::internal_name;
 use crate::stop::Stop;
+use crate::verifying::verify_program;
 use crate::{Quantity, Refusal};
 use cb_core::core_classes;
 use cb_io::{Folder, text_of};
 use cb_link::{Quantity as LinkQuantity, Refusal as LinkRefusal, link};
 use std::alloc::Global;
 
-/// Links the class that a word names, with the library's classes and those of a folder.
+/// Links the class that a word names, with the library's classes and those of a folder, and verifies the program.
 pub(crate) fn link_class<F: Folder>(
     alloc: Global,
     root: &str,
@@ -33,7 +34,7 @@ pub(crate) fn link_class<F: Folder>(
         return Err(Stop::OutOfMemory);
     };
     match link(alloc, library, folder, root, main) {
-        Ok(_program) => Ok(()),
+        Ok(program) => verify_program(alloc, &program),
         Err(refusal) => Err(unlinked(alloc, refusal)),
     }
 }

@@ -27,7 +27,7 @@ pub enum Refusal {
         class: String,
         item: Feature,
     },
-    /// The class is linked, and has no file of the first form.
+    /// The class is linked and typed, and has no file of the first form.
     NotYet {
         class: String,
     },
@@ -44,6 +44,12 @@ pub enum Refusal {
     /// Neither the class nor a superclass has a static method `main`.
     NoMain {
         class: String,
+    },
+    /// A method of the class, by name and descriptor, isn't typed (JVMS §4.10.1), and this is the least place of it that fails.
+    Unverified {
+        class: String,
+        method: String,
+        pc: u32,
     },
     /// There is more of something than its limit. It is counted no further than to one more.
     TooLarge {
@@ -106,6 +112,9 @@ impl fmt::Display for Refusal {
                 write!(f, "E6 missing member {member} in class {class}")
             }
             Refusal::NoMain { class } => write!(f, "E9 no main in class {class}"),
+            Refusal::Unverified { class, method, pc } => {
+                write!(f, "E7 not verified {class} {method} {pc}")
+            }
             Refusal::TooLarge { what, count, limit } => {
                 write!(f, "E8 too large {what} {count} over {limit}")
             }

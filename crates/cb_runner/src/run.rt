@@ -24,7 +24,7 @@ use cb_io::{Failed, Folder, Found, Sink, text_of};
 use cb_link::path_of;
 use std::alloc::Global;
 
-/// Links the class of a folder that a word names, and runs it.
+/// Links and verifies the class of a folder that a word names, and runs it.
 pub(crate) fn run_class<F: Folder, O: Sink>(
     alloc: Global,
     root: &str,
@@ -48,7 +48,7 @@ pub(crate) fn run_class<F: Folder, O: Sink>(
     }
 }
 
-/// Runs a class that is linked. Until there is an interpreter of all that was linked, it is run if its file is of the first
+/// Runs a class that is linked and typed. Until there is an interpreter of all that was linked, it is run if its file is of the first
 /// form, and the file is read again for that.
 fn run_linked<F: Folder, O: Sink>(
     alloc: Global,

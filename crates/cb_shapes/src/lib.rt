@@ -17,8 +17,6 @@ mod shuffle;
 mod sort;
 mod targets;
 mod test;
-#[cfg(test)]
-mod tests;
 
 pub use action::Action;
 pub use computation::Computation;

@@ -18,8 +18,6 @@ mod next_constant;
 mod numbers;
 mod pool;
 mod pool_fault;
-#[cfg(test)]
-mod tests;
 mod text;
 mod unit;
 mod values;

@@ -10,19 +10,9 @@ use Rattle.cb_verify.specs.declared.verification_type.VerificationType.{Verifica
 use Rattle.cb_verify.specs.Copies.{begins_with, is_category, two_of}
 use Rattle.cb_verify.specs.Frames.{Frame, height, with_stack}
 use Rattle.cb_verify.specs.Types.{category, words}
+use Rattle.cb_verify.proofs.Dropped.{drop_end, drop_next}
 
--- the rest of a list from an item on, and at its end
-pub drop_next : {X : Type 0} (items : List X) (place : ℕ) (item : X) → slice_get items place ≡ Some item → drop place items ≡ item ∷ drop (place + 1) items
-drop_next items place item is =
-    drop_more items place item (slice_get_within items place item is)
-    ∙ ap (λ first. first ∷ drop (place + 1) items) (get_or_from_slice_get items place item item is)
-
-pub drop_end : {X : Type 0} (items : List X) (place : ℕ) → length items ≤ place → drop place items ≡ []
-drop_end [] zero past = refl
-drop_end [] (suc place) past = refl
-drop_end (item ∷ items) zero past = absurd (omega (arith, past))
-drop_end (item ∷ items) (suc place) past = drop_end items place (omega (arith, past))
-
+-- how many words the rest takes
 pub height_next : (types : List VerificationType) (place : ℕ) (type : VerificationType) → slice_get types place ≡ Some type
     → height (drop place types) ≡ words type + height (drop (place + 1) types)
 height_next types place type is = ap height (drop_next types place type is)

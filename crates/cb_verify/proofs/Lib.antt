@@ -8,7 +8,9 @@ mod MadeKinds
 mod MemberWords
 mod Numbered
 mod Prefixes
+mod Rising
 mod Shuffling
+mod StackWords
 mod Stacking
 mod Standing
 mod StartTypes

@@ -12,6 +12,7 @@ use Rattle.cb_verify.specs.Frames.{is_same}
 use Rattle.cb_verify.specs.Prefixes.{begins_as, is_wanted}
 use Rattle.cb_verify.specs.Rules.{taken}
 use Rattle.cb_verify.specs.Types.{goes_to, is_of, type_of}
+use Rattle.cb_verify.proofs.Dropped.{drop_end, drop_next}
 
 module _ {A B : Type 0} (test : A → B → Bool) where
   behind_one : (asked : List A) (stack : List B) (i : ℕ) (wanted : A) (item : B) → slice_get asked i ≡ Some wanted → slice_get stack i ≡ Some item
@@ -115,27 +116,15 @@ take_filled (suc few) zero item within = absurd (omega (arith, within))
 take_filled (suc few) (suc many) item within = ap (λ rest. item ∷ rest) (take_filled few many item (omega (arith, within)))
 
 -- one value more, behind those that are taken off
-pub drop_one : {X : Type 0} (stack : List X) (i : ℕ) (item : X) → slice_get stack i ≡ Some item → drop i stack ≡ item ∷ drop (i + 1) stack
-drop_one [] i item have = absurd (cc have)
-drop_one (x ∷ stack) zero item have = cc have
-drop_one (x ∷ stack) (suc i) item have =
-    drop_one stack i item have ∙ ap (λ next. item ∷ drop next (x ∷ stack)) (let at : suc (i + 1) ≡ suc i + 1 = omega arith in at)
-
-pub drop_none : {X : Type 0} (stack : List X) (i : ℕ) → length stack ≤ i → drop i stack ≡ []
-drop_none [] zero short = refl
-drop_none [] (suc i) short = refl
-drop_none (x ∷ stack) zero short = absurd (omega (arith, short))
-drop_none (x ∷ stack) (suc i) short = drop_none stack i (omega (arith, short))
-
 pub popped_one : (program : Linked) (wanted type : VerificationType) (stack : List VerificationType) (i : ℕ) (here : Bool)
     → slice_get stack i ≡ Some type → here ≡ goes_to program type wanted
     → popped program (wanted ∷ []) (drop i stack) ≡ (if here then Some (drop (i + 1) stack) else None)
 popped_one program wanted type stack i here have is =
-    ap (popped program (wanted ∷ [])) (drop_one stack i type have) ∙ ap (λ own. if own then Some (drop (i + 1) stack) else None) (sym is)
+    ap (popped program (wanted ∷ [])) (drop_next stack i type have) ∙ ap (λ own. if own then Some (drop (i + 1) stack) else None) (sym is)
 
 pub popped_none : (program : Linked) (wanted : VerificationType) (stack : List VerificationType) (i : ℕ) → length stack ≤ i
     → popped program (wanted ∷ []) (drop i stack) ≡ None
-popped_none program wanted stack i short = ap (popped program (wanted ∷ [])) (drop_none stack i short)
+popped_none program wanted stack i short = ap (popped program (wanted ∷ [])) (drop_end stack i short)
 
 -- behind those of a member
 pub popped_object : (program : Linked) (some stack : List VerificationType) (wanted : VerificationType) (i : ℕ) (left : Option (List VerificationType))
@@ -162,7 +151,7 @@ without_same (New place) rest = refl
 pub without_by : (stack : List VerificationType) (i : ℕ) (type : VerificationType) (here : Bool) → slice_get stack i ≡ Some type → here ≡ is_same type This
     → without_this (drop i stack) ≡ (if here then Some (drop (i + 1) stack) else None)
 without_by stack i type here have is =
-    ap without_this (drop_one stack i type have) ∙ without_same type (drop (i + 1) stack) ∙ ap (λ own. if own then Some (drop (i + 1) stack) else None) (sym is)
+    ap without_this (drop_next stack i type have) ∙ without_same type (drop (i + 1) stack) ∙ ap (λ own. if own then Some (drop (i + 1) stack) else None) (sym is)
 
 pub without_none : (stack : List VerificationType) (i : ℕ) → length stack ≤ i → without_this (drop i stack) ≡ None
-without_none stack i short = ap without_this (drop_none stack i short)
+without_none stack i short = ap without_this (drop_end stack i short)

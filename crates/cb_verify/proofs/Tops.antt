@@ -8,17 +8,17 @@ use Rattle.cb_verify.specs.Leaving.{all_replaced, constructed, finished, store, 
 use Rattle.cb_verify.specs.Rules.{taken}
 use Rattle.cb_verify.specs.Types.{is_of}
 use Rattle.cb_verify.specs.Within.{Within}
-use Rattle.cb_verify.proofs.Prefixes.{drop_none, drop_one}
+use Rattle.cb_verify.proofs.Dropped.{drop_end, drop_next}
 
 pub constructed_one : (method : Within) (kind : ℕ) (frame : Frame) (stack : List VerificationType) (i : ℕ) (object : VerificationType)
     → slice_get stack i ≡ Some object
     → constructed method kind frame (drop i stack)
     ≡ option_map (λ type. all_replaced object type frame (drop (i + 1) stack)) (finished method kind object)
-constructed_one method kind frame stack i object have = ap (constructed method kind frame) (drop_one stack i object have)
+constructed_one method kind frame stack i object have = ap (constructed method kind frame) (drop_next stack i object have)
 
 pub constructed_none : (method : Within) (kind : ℕ) (frame : Frame) (stack : List VerificationType) (i : ℕ) → length stack ≤ i
     → constructed method kind frame (drop i stack) ≡ None
-constructed_none method kind frame stack i short = ap (constructed method kind frame) (drop_none stack i short)
+constructed_none method kind frame stack i short = ap (constructed method kind frame) (drop_end stack i short)
 
 -- a store, by the value on top
 whole : (stack : List VerificationType) (value : VerificationType) → slice_get stack 0 ≡ Some value → stack ≡ value ∷ drop 1 stack

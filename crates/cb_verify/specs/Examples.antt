@@ -122,3 +122,9 @@ abbrev pub overwrites : ℕ → Within
 overwrites load =
     static (body 2 2
     (plain 0 opcodes.LCONST_0 ∷ plain 1 opcodes.LSTORE_0 ∷ plain 2 opcodes.ICONST_0 ∷ plain 3 opcodes.ISTORE_1 ∷ plain 4 load ∷ []) [] [])
+
+-- a long on the stack where a frame stands
+abbrev pub leaves_long : List MapType → Within
+leaves_long stack =
+    static (body 2 0 (plain 0 opcodes.LCONST_0 ∷ insn 1 opcodes.GOTO (operands.Branch 4) ∷ plain 4 opcodes.RETURN ∷ []) []
+    (frame 255 4 [] stack ∷ []))

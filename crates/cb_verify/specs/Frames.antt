@@ -15,11 +15,23 @@ pub record Frame : Type 0 where
   pub stack : List VerificationType
   pub unfinished : Bool
 
--- one is assignable to another: each local variable, each value on the stack, of which there are as many, and a constructor that is
+-- the words of the values on a stack, the topmost first: a long has two, of which nothing is known of the upper one (§4.10.1.4)
+abbrev pub in_stack_words : VerificationType → List VerificationType → List VerificationType
+in_stack_words Long below = Top ∷ Long ∷ below
+in_stack_words type below = type ∷ below
+
+abbrev pub stack_words : List VerificationType → List VerificationType
+stack_words [] = []
+stack_words (type ∷ stack) = in_stack_words type (stack_words stack)
+
+-- one is assignable to another: each local variable, each word on the stack, of which there are as many, and a constructor that is
 -- unfinished only to one that is
+abbrev pub stack_goes_to : Linked → List VerificationType → List VerificationType → Bool
+stack_goes_to program one other = pointwise (goes_to program) (stack_words one) (stack_words other)
+
 abbrev pub frame_goes_to : Linked → Frame → Frame → Bool
 frame_goes_to program one other =
-    pointwise (goes_to program) one.locals other.locals && pointwise (goes_to program) one.stack other.stack
+    pointwise (goes_to program) one.locals other.locals && stack_goes_to program one.stack other.stack
     && (not one.unfinished || other.unfinished)
 
 -- the words of the values on a stack, and whether it may have so many (§4.10.1.4, operandStackHasLegalLength)

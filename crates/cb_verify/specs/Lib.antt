@@ -16,3 +16,4 @@ pub mod Tabled
 pub mod Typed
 pub mod Types
 pub mod Within
+pub mod Words

@@ -16,3 +16,7 @@ entered_turn old here turn = if here then Some turn else old
 -- by place, the number of the first of these items that has it
 abbrev pub HasTurns : {Item : Type 0} → List (ℕ × Item) → List ℕ → Type 0
 HasTurns items row = (pc : ℕ) → option_and_then (slice_get items) (slice_get row pc) ≡ find (λ entry. entry.0 == pc) items
+
+-- an item, if it is at a place
+abbrev pub if_at : {Item : Type 0} → ℕ → ℕ × Item → Option (ℕ × Item)
+if_at place entry = if entry.0 == place then Some entry else None

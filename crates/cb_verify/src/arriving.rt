@@ -84,7 +84,8 @@ fn arrives_at_each(
         .all(|pair| arrives(method, frames, frame, pair.target))
 }
 
-/// Whether a frame arrives at each target of an operand. Takes time in their number, times that of looking for a declared frame.
+/// Whether a frame arrives at each target of an operand. Takes time in their number, times that of looking for a declared frame and
+/// of comparing it.
 #[tactic(auto, using(crate::proofs::Dropped::all_mapped))]
 pub(crate) fn all_arrive(
     method: &Within<'_>,

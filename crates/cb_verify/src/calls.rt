@@ -1,8 +1,7 @@
 // What instructions on fields and methods leave.
 ghost use Rattle.std.specs.Prelude.{◌≡◌, ◌^◌, ◌<◌, ◌≤◌, ◌+◌, ◌∷◌, [], ◌==◌, true, drop, length, IfOk, Some, None, if◌then◌else◌};
 ghost use Rattle.cb_hierarchy.specs.Classes.{listed};
-ghost use Rattle.cb_verify.specs.declared.verification_type.VerificationType.TheVariants as types;
-ghost use Rattle.cb_verify.specs.Calls.{call_above, call_interface, call_on, call_special, call_static, call_virtual, exchanged, get_field, may_set_early, on_object, popped, put_early, put_field, return_with, without_this};
+ghost use Rattle.cb_verify.specs.Calls.{call_interface, call_on, call_special, call_static, call_virtual, exchanged, get_field, may_set_early, on_object, popped, put_early, put_field, return_with, without_this};
 ghost use Rattle.cb_verify.specs.Frames.{height};
 ghost use Rattle.cb_verify.specs.Members.{given_types, taken_types};
 

@@ -12,8 +12,7 @@ impl TypeFrame {
         ensures { result ≡ frame_goes_to program.now (record { locals = self.now.locals; stack = Object kind ∷ []; unfinished = self.now.unfinished }) other.now }
     {
         self.locals_go_to(program, other)
-            && other.depth() == 1
-            && VerificationType::Object(kind).goes_to(program, other.top(0))
+            && other.takes_alone(program, VerificationType::Object(kind))
             && (!self.is_unfinished() || other.is_unfinished())
     }
 }

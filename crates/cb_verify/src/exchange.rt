@@ -1,5 +1,5 @@
 // What instructions that name no member leave.
-ghost use Rattle.std.specs.Prelude.{◌≡◌, ◌≤◌, [], ◌++◌, drop, length, replicate, take, IfOk, IsTrue, Some, None, if◌then◌else◌};
+ghost use Rattle.std.specs.Prelude.{◌≡◌, ◌≤◌, [], ◌++◌, drop, length, replicate, IfOk, IsTrue, Some, None};
 ghost use Rattle.cb_hierarchy.specs.Classes.{listed};
 ghost use Rattle.cb_shapes.specs.declared.sort.Sort.TheVariants as sorts;
 ghost use Rattle.cb_shapes.specs.Operands.{takes};

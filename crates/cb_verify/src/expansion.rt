@@ -1,7 +1,9 @@
 // The frames that a method declares, in full, and the one with which it begins.
-ghost use Rattle.std.specs.Prelude.{◌≡◌, IfOk, IfSome, option_copied, option_map};
+ghost use Rattle.std.specs.Prelude.{◌≡◌, ◌==◌, IfOk, IfSome, nat_lt, option_and_then, option_copied, option_map, slice_get};
+ghost use Rattle.std.specs.List.{find};
 ghost use Rattle.cb_verify.specs.Expansion.{declared, declared_at, expanded, frame_of, place_behind, start, start_types};
 ghost use Rattle.cb_verify.specs.Laid.{IsLaid, laid_behind, laid_in};
+ghost use Rattle.cb_verify.specs.Tabled.{if_at};
 
 use crate::declared_types::types_in;
 use crate::laid::Laid;
@@ -14,24 +16,27 @@ use cb_plain::{List, OutOfMemory};
 use std::alloc::{AllocError, Global};
 use std::marker::Model;
 
-/// The frames that a method declares, by their places. One that can't be expanded is `None` (JVMS §4.7.4).
+/// The frames that a method declares, by their places, which rise (JVMS §4.7.4). One that can't be expanded is `None`.
 #[derive(Drop)]
 pub(crate) struct Declared {
     frames: List<(u32, Option<TypeFrame>)>,
 }
 
 impl Model for Declared {
+    ghost use Rattle.std.specs.List.Sorted.{IsNonDecreasingBy};
     ghost use Rattle.std.specs.Prelude.{ℕ, List as Items, Option as Maybe};
     ghost use Rattle.cb_verify.specs.Frames.{Frame};
 
     ghost Value = { Items (ℕ × Maybe Frame) };
 
     ghost view = { λ declared. declared.frames };
+
+    ghost invariant = { λ declared. IsNonDecreasingBy (λ entry. entry.0) declared.frames };
 }
 
 impl Declared {
     /// Those of a method, in full. Takes time and memory in the number of the types that the file has, times the logarithm of the
-    /// number of the method's local variables, and for each object that isn't initialised in the length of the code.
+    /// number of the method's local variables.
     pub fn of(alloc: Global, method: &Within<'_>) -> Result<Self, OutOfMemory>
         ensures { IfOk result (λ frames. frames ≡ declared method.now) }
     {
@@ -55,16 +60,28 @@ impl Declared {
         self.frames.as_slice()
     }
 
-    /// The one at a place, if one is declared there.
+    /// The one at a place, if one is declared there. Takes time in the logarithm of their number.
+    #[tactic(auto, using(crate::proofs::Rising::is_there, crate::proofs::Rising::is_elsewhere))]
     pub fn at(&self, place: u32) -> Option<&Option<TypeFrame>>
         ensures { option_copied result ≡ declared_at self.now place }
     {
-        let entry = self
-            .frames
-            .as_slice()
-            .iter()
-            .find(|entry| entry.0 == place)?;
-        Some(&entry.1)
+        let entry = self.frames.as_slice().get(self.first_from(place))?;
+        if entry.0 == place {
+            Some(&entry.1)
+        } else {
+            None
+        }
+    }
+
+    /// The number of the first one that isn't before a place.
+    fn first_from(&self, place: u32) -> usize
+        ensures { option_and_then (if_at place) (slice_get self.now result) ≡ find (λ entry. entry.0 == place) self.now }
+    {
+        self.frames.as_slice().partition_point(
+            |entry: &(u32, Option<TypeFrame>)| -> bool
+                ensures { result ≡ nat_lt entry.now.0 place }
+            { entry.0 < place },
+        )
     }
 }
 

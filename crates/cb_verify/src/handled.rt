@@ -6,12 +6,10 @@ ghost use Rattle.cb_verify.specs.Typed.{arrives, caught_kind, covers, is_handled
 
 use crate::TypeFrame;
 use crate::expansion::Declared;
+use crate::rules::THROWABLE;
 use crate::verification_type::kind_goes_to;
 use crate::within::Within;
 use cb_classfile::Handler;
-
-/// The kind of java/lang/Throwable.
-const THROWABLE: u32 = 22;
 
 /// Whether a handler covers a place.
 fn covers(pc: u32, handler: Handler) -> bool
@@ -63,7 +61,8 @@ fn is_handled(method: &Within<'_>, frames: &Declared, frame: &TypeFrame, handler
     }
 }
 
-/// Whether each handler that covers a place takes a frame. Takes time in their number, times that of comparing frames.
+/// Whether each handler that covers a place takes a frame. Takes time in the number of the method's handlers, and for those that cover
+/// the place in that of comparing frames.
 pub(crate) fn all_handled(
     method: &Within<'_>,
     frames: &Declared,

@@ -10,6 +10,7 @@ ghost use Rattle.cb_verify.specs.Examples.{
   handled,
   insn,
   int_for_reference,
+  leaves_long,
   looping,
   makes,
   overwrites,
@@ -41,12 +42,15 @@ pub fn small_handlers()
     ensures takes_an_int { first_failing (handled (types.Integer ∷ [])) ≡ Some 0 }
 {}
 
-/// What is typed of operands: words of the stack, and longs in two local variables.
+/// What is typed of operands: words of the stack, longs in two local variables, and longs on a stack of which less is known.
 pub fn small_operands()
     ensures duplicated { first_failing (duplicates 4) ≡ None }
     ensures too_high { first_failing (duplicates 3) ≡ Some 2 }
     ensures overwritten { first_failing (overwrites opcodes.LLOAD_0) ≡ Some 4 }
     ensures first_half { first_failing (overwrites opcodes.ILOAD_0) ≡ Some 4 }
+    ensures as_long { first_failing (leaves_long (types.Long ∷ [])) ≡ None }
+    ensures as_two_words { first_failing (leaves_long (types.Top ∷ types.Top ∷ [])) ≡ None }
+    ensures as_one_word { first_failing (leaves_long (types.Top ∷ [])) ≡ Some 1 }
 {}
 
 /// What is typed of objects that aren't ready: a constructor calls another before it ends, and each object is made ready once.

@@ -14,15 +14,13 @@ use crate::made::new_kind;
 use crate::member::Member;
 use crate::names::is_init;
 use crate::operands::has_arguments;
+use crate::rules::BRACKET;
 use crate::within::Within;
 use crate::{TypeFrame, VerificationType};
 use cb_insn::Insn;
 use cb_plain::OutOfMemory;
 use cb_shapes::{Action, Sort, action_of};
 use std::alloc::Global;
-
-/// The bracket with which the name of an array begins (JVMS §4.4.1).
-const BRACKET: u16 = b'[' as u16;
 
 /// What an instruction leaves that loads a local variable.
 fn load(

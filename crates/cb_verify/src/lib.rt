@@ -27,6 +27,7 @@ mod operands;
 mod pass;
 mod rules;
 mod shuffled;
+mod stack_words;
 mod stacked;
 mod start_types;
 mod type_frame;

@@ -1,8 +1,6 @@
 // What the member that an instruction names takes and gives.
-ghost use Rattle.std.specs.Prelude.{◌≡◌, ◌<◌, drop, length, slice_get, Some, None, if◌then◌else◌};
-ghost use Rattle.cb_verify.specs.Calls.{popped};
-ghost use Rattle.cb_verify.specs.Frames.{height};
-ghost use Rattle.cb_verify.specs.Members.{member_at, taken_types};
+ghost use Rattle.std.specs.Prelude.{◌≡◌, ◌<◌, length, slice_get, Some, None};
+ghost use Rattle.cb_verify.specs.Members.{member_at};
 
 use crate::within::Within;
 use crate::{TypeFrame, VerificationType};

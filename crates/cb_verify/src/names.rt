@@ -1,8 +1,7 @@
 // What the constants of a method's class name.
-ghost use Rattle.std.specs.Prelude.{◌≡◌, option_copied, option_map};
-ghost use Rattle.cb_text.specs.Naming.{member_of};
+ghost use Rattle.std.specs.Prelude.{◌≡◌};
 ghost use Rattle.cb_verify.specs.Calls.{is_callable};
-ghost use Rattle.cb_verify.specs.Within.{constant, holder, is_clinit, is_init, name_at};
+ghost use Rattle.cb_verify.specs.Within.{holder, is_init, name_at};
 
 use crate::within::Within;
 use cb_text::Constant;

@@ -20,7 +20,6 @@ fn sort_at(sorts: &[Sort], place: usize) -> Sort
 }
 
 /// Whether the value at a place is of the sort there.
-
 fn suits_at(frame: &TypeFrame, sorts: &[Sort], place: usize) -> bool
     requires { place < length sorts.now }
     ensures { begins_as is_of (drop place sorts.now) (drop place frame.now.stack)

@@ -201,8 +201,7 @@ fn walk_over(
 }
 
 /// Passes over a method: the frames before its instructions, and the least place that fails, if one does (JVMS §4.10.1.6). Takes
-/// time in the instructions and the targets and handlers of each, times that of comparing frames. `OutOfMemory` where no memory
-/// was to be had.
+/// time as `verify` says. `OutOfMemory` where no memory was to be had.
 pub(crate) fn pass(alloc: Global, method: &Within<'_>) -> Result<Passed, OutOfMemory>
     ensures frames { IfOk result (λ passed. passed.frames ≡ frames_of method.now) }
     ensures failing { IfOk result (λ passed. passed.failing ≡ first_failing method.now) }

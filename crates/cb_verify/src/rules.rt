@@ -19,8 +19,8 @@ const CLASS: u32 = 10;
 
 pub(crate) const THROWABLE: u32 = 22;
 
-/// The bracket of an array's descriptor (JVMS table 4.3-A).
-const BRACKET: u16 = b'[' as u16;
+/// The bracket with which the name of an array begins (JVMS §4.4.1).
+pub(crate) const BRACKET: u16 = b'[' as u16;
 
 /// What an instruction gives.
 pub(crate) type Given = Option<VerificationType>;

@@ -1,5 +1,5 @@
 // Frames of types.
-ghost use Rattle.std.specs.Prelude.{◌≡◌, ◌<◌, ◌≤◌, [], ◌∷◌, length, slice_get, IfOk, Some};
+ghost use Rattle.std.specs.Prelude.{◌≡◌, ◌<◌, [], ◌∷◌, length, slice_get, IfOk, Some};
 ghost use Rattle.std.specs.Cmp.Lexicographic.{pointwise};
 ghost use Rattle.std.specs.List.{list_any};
 ghost use Rattle.cb_verify.specs.Frames.{frame_goes_to, height, is_same, loaded, with_stack};
@@ -138,21 +138,6 @@ impl TypeFrame {
         }
         for number in 0..self.local_count() {
             if !self.local(number).goes_to(program, other.local(number)) {
-                return false;
-            }
-        }
-        true
-    }
-
-    /// Whether each value on the operand stack is assignable to that of another frame, which has as many.
-    fn stack_goes_to(&self, program: &Program, other: &TypeFrame) -> bool
-        ensures { result ≡ pointwise (goes_to program.now) self.now.stack other.now.stack }
-    {
-        if self.depth() != other.depth() {
-            return false;
-        }
-        for place in 0..self.depth() {
-            if !self.top(place).goes_to(program, other.top(place)) {
                 return false;
             }
         }

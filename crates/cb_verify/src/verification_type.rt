@@ -1,6 +1,7 @@
 // Verification types.
 ghost use Rattle.std.specs.Prelude.{◌≡◌, ◌≤◌};
 ghost use Rattle.cb_verify.specs.Frames.{is_same};
+ghost use Rattle.cb_verify.specs.Words.{is_top};
 ghost use Rattle.cb_verify.specs.Types.{category, goes_to, is_initialised, is_of, kind_goes_to, number_type, sort_of_basic, type_of, words};
 
 use cb_kinds::Basic;
@@ -112,6 +113,13 @@ impl VerificationType {
             (VerificationType::New(one), VerificationType::New(own)) => one == own,
             _ => false,
         }
+    }
+
+    /// Whether nothing is known of the value.
+    pub(crate) fn is_top(self) -> bool
+        ensures { result ≡ is_top self }
+    {
+        matches!(self, VerificationType::Top)
     }
 
     /// Whether it is assignable to another (JVMS §4.10.1.2).

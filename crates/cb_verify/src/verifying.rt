@@ -36,8 +36,12 @@ impl From<AllocError> for VerifyFault {
 ///
 /// `Unverified` for the first method that can't be typed, by its number, and the least place of it that fails: 0 where the method has
 /// no room for its parameters, or its first frame isn't assignable to the one that is declared there. `OutOfMemory` where no memory
-/// was to be had. Takes time in the instructions, their targets and handlers, and the declared frames of each method, times that of
-/// comparing frames, and memory in the instructions times the logarithm of the size of a frame.
+/// was to be had.
+///
+/// Takes time in the instructions of each method times its handlers, and in its targets and the handlers that cover an instruction
+/// times the logarithm of the number of its declared frames. Frames are compared for each of these targets and handlers, and where an
+/// instruction goes on to a declared frame: that goes over the local variables and the operand stack, as `new` and the call of a
+/// constructor do. Takes memory in the instructions times the logarithm of the size of a frame.
 pub fn verify(alloc: Global, program: &Program) -> Result<Typing, VerifyFault>
     ensures typed { IfOk result (λ _. IsTyped program.now) }
     ensures typing { IfOk result (λ typing. typing ≡ typing_of program.now) }

@@ -1,9 +1,9 @@
 // What a method's instructions are typed in.
-ghost use Rattle.std.specs.Prelude.{◌≡◌, ◌<◌, length, option_map, slice_get, IfSome, Some};
+ghost use Rattle.std.specs.Prelude.{◌≡◌, ◌<◌, length, Some};
 ghost use Rattle.cb_classfile.specs.Pool.{text_at};
 ghost use Rattle.cb_link.specs.Numbers.{acc_static, has_flag, or_none};
 ghost use Rattle.cb_verify.specs.Leaving.{superclass_of};
-ghost use Rattle.cb_verify.specs.Within.{holder, is_clinit, is_init, kind_named, name_at, parameters, result_of, within};
+ghost use Rattle.cb_verify.specs.Within.{is_init, kind_named, result_of, within};
 
 use crate::names::is_init;
 use cb_classfile::Body;

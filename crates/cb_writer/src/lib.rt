@@ -20,7 +20,5 @@ mod map_type;
 mod method;
 mod numbers;
 mod size;
-#[cfg(test)]
-mod tests;
 
 pub use class::{well_formed, well_formed_by_numbers, write_class};

@@ -5,7 +5,7 @@ use Rattle.cb_runner.specs.Answer.{EndsIn}
 use Rattle.cb_runner.specs.Asm.{AssemblesText, TooLong, Assembled, Bad}
 use Rattle.cb_runner.specs.Ending.{Ending}
 use Rattle.cb_runner.specs.List.{ListsBytes, ListsFile, OfVersion, OfNoClass, OfItem, Listed}
-use Rattle.cb_runner.specs.Run.{RunsClass, RunsFile, Stopped, Linked}
+use Rattle.cb_runner.specs.Run.{RunsClass, RunsFile, Stopped, Typed, Untyped}
 use Rattle.cb_runner.specs.Words.{Command, RunIn, ListOf, Assemble}
 use Rattle.cb_runner.proofs.Laws.{cut_cause, cut_whole}
 use Rattle.cb_runner.proofs.law.refused_silently.Goals as goal
@@ -21,7 +21,8 @@ silent_file main (Some bytes) ending (inr (none, is)) refused = (ap (λ e. e.out
 
 silent_run : (files : Option Files) (folder main : List ℕ) (ending : Ending) → RunsClass files folder main ending → ending.cause ≡ Refused → (ending.out ≡ []) × (ending.read ≡ 0)
 silent_run files folder main ending (Stopped library refusal reason known stops says is) refused = (ap (λ e. e.out) is, ap (λ e. e.read) is)
-silent_run files folder main ending (Linked library classes method file known loaded good may runs) refused = silent_file main file ending runs refused
+silent_run files folder main ending (Untyped library classes method reason known loaded good untyped is) refused = (ap (λ e. e.out) is, ap (λ e. e.read) is)
+silent_run files folder main ending (Typed library classes method file known loaded good typed may runs) refused = silent_file main file ending runs refused
 
 silent_bytes : (path bytes : List ℕ) (ending : Ending) → ListsBytes path bytes ending → ending.cause ≡ Refused → (ending.out ≡ []) × (ending.read ≡ 0)
 silent_bytes path bytes ending (Listed class listed is) refused = absurd (unrefused ending _ is refl refused)

@@ -1,21 +1,21 @@
-use Rattle.std.proofs.Common.{sym, arith}
-use Rattle.std.specs.Cmp.Lexicographic.{unequal}
-use Rattle.cb_verify.specs.Types.{goes_to}
-use Rattle.cb_verify.proofs.FrameLists.{pair_end, pair_failed, pair_left}
+use Rattle.std.proofs.Common.{nat_eq, sym, ◌∙◌, ap, refl, subst, arith, drop, length}
+use Rattle.std.specs.Prelude.{◌≡◌, ◌+◌}
+use Rattle.cb_verify.specs.Frames.{stack_goes_to}
+use Rattle.cb_verify.proofs.StackWords.{compared_to_end, next_failed, next_taken}
 use Rattle.cb_verify.proofs.type_frame.TypeFrame.stack_goes_to.Goals as goal
 
-pub returns-then-depth : goal.returns-then-depth
-returns-then-depth c = sym (unequal (goes_to c.args.program.now) c.args.self.now.stack c.args.other.now.stack (λ same. c.if-depth.true (omega (arith, same))))
+pub overflow_add-behind : goal.overflow_add-behind
+overflow_add-behind c = omega (arith, c.in-Some.ensures.within, c.depth-all.ensures)
 
-pub returns-then-not-goes_to : goal.returns-then-not-goes_to
-returns-then-not-goes_to c =
-    pair_failed (goes_to c.args.program.now) c.args.self.now.stack c.args.other.now.stack c.loop-place.place
-    c.top.result c.top-in-loop-place.result c.goes_to.result _ c.top.ensures c.top-in-loop-place.ensures c.goes_to.ensures c.if-not-goes_to.true c.loop-place.invariant
+pub returns-in-None : goal.returns-in-None
+returns-in-None c =
+    next_failed c.args.program.now c.args.self.now.stack c.args.other.now.stack c.loop-place.place c.loop-place.behind c.top.result _ c.top.ensures c.in-None.ensures.taken c.loop-place.invariant.1
 
 pub loop-place-preserved : goal.loop-place-preserved
 loop-place-preserved c =
-    pair_left (goes_to c.args.program.now) c.args.self.now.stack c.args.other.now.stack c.loop-place.place
-    c.top.result c.top-in-loop-place.result c.goes_to.result _ c.top.ensures c.top-in-loop-place.ensures c.goes_to.ensures c.if-not-goes_to.false c.loop-place.invariant
+    (c.in-Some.ensures.within, next_taken c.args.program.now c.args.self.now.stack c.args.other.now.stack c.loop-place.place c.loop-place.behind c.in-Some.count c.top.result _ c.top.ensures c.in-Some.ensures.taken c.loop-place.invariant.1)
 
 pub returns : goal.returns
-returns c = pair_end (goes_to c.args.program.now) c.args.self.now.stack c.args.other.now.stack c.loop-place.place _ (omega arith) (omega arith) c.loop-place.invariant
+returns c =
+    subst (λ depth. nat_eq c.loop-place.behind depth ≡ stack_goes_to c.args.program.now c.args.self.now.stack c.args.other.now.stack) (sym c.depth-all.ensures)
+    (compared_to_end c.args.program.now c.args.self.now.stack c.args.other.now.stack c.loop-place.place c.loop-place.behind _ (omega arith) c.loop-place.invariant.0 c.loop-place.invariant.1)

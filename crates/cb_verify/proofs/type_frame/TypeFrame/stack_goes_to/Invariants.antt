@@ -1,8 +1,7 @@
-use Rattle.std.proofs.Common.{◌≡◌, drop}
-use Rattle.std.specs.Cmp.Lexicographic.{pointwise}
-use Rattle.cb_verify.specs.Types.{goes_to}
+use Rattle.std.proofs.Common.{◌≡◌, ◌≤◌, drop, length}
+use Rattle.cb_verify.specs.Frames.{stack_goes_to}
 use Rattle.cb_verify.proofs.type_frame.TypeFrame.stack_goes_to.Given as goal
 
 abbrev pub invariant-loop-place : goal.invariant-loop-place
 invariant-loop-place l =
-    pointwise (goes_to l.program) (drop l.place l.self.stack) (drop l.place l.other.stack) ≡ pointwise (goes_to l.program) l.self.stack l.other.stack
+    (l.behind ≤ length l.other.stack) × (stack_goes_to l.program (drop l.place l.self.stack) (drop l.behind l.other.stack) ≡ stack_goes_to l.program l.self.stack l.other.stack)

@@ -1,0 +1,1 @@
+class AcB extends AcA {}

@@ -1,0 +1,1 @@
+abstract class AcA implements AcI { abstract int g(); }

@@ -1,0 +1,2 @@
+// arguments: one zwei drei=3 é€ 😀 12
+public class Arguments { public static void main(String[] args) { int sum = 0; for (String a : args) { System.out.println(a); System.out.println(a.length()); sum += a.hashCode(); } System.out.println(sum); System.out.println(Integer.parseInt(args[args.length - 1]) + 1); System.out.println(args[0] == "one"); System.out.println(args[0].equals("one")); args[0] = null; System.out.println(args[0]); } }

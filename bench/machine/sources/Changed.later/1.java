@@ -1,0 +1,1 @@
+class ChA implements ChI, ChK { }

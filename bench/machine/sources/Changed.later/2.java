@@ -1,0 +1,1 @@
+interface ChK { default String f() { return "K.f"; } }

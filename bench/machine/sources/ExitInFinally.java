@@ -1,0 +1,1 @@
+public class ExitInFinally { static int f() { try { throw new RuntimeException("lost"); } finally { System.out.println("exit"); System.exit(42); System.out.println("never"); } } public static void main(String[] args) { try { f(); } catch (RuntimeException e) { System.out.println("never"); } finally { System.out.println("never"); } } }

@@ -1,0 +1,7 @@
+public class Flow {
+    static StringBuilder log = new StringBuilder(); static int t(int i) { log.append(i); return i; } static int bad(int i) { log.append('!').append(i); throw new IllegalStateException("bad" + i); }
+    static int order() { int[] a = new int[3]; try { a[t(1)] = t(5) + bad(2); } catch (IllegalStateException e) { log.append(e.getMessage()); } return a[1]; }
+    static int many(int k) { try { try { try { if (k == 1) bad(1); if (k == 2) throw new Error("e"); if (k == 3) return t(3); } catch (IllegalStateException e) { log.append("[in]"); throw new IllegalArgumentException("wrapped", e); } finally { log.append("f1"); } } catch (IllegalArgumentException e) { log.append(e.getCause().getMessage()); return t(7); } finally { log.append("f2"); if (k == 2) return t(8); } } finally { log.append("f3"); } return 0; }
+    static boolean and(boolean a, boolean b) { return a && b; } static long mix(int i, long l, int j) { return i * l - j; }
+    public static void main(String[] args) { System.out.println(order()); for (int k = 0; k < 4; k++) System.out.println(many(k)); System.out.println(log.toString()); System.out.println(and(true, false)); System.out.println(mix(t(2), 3L, t(4))); try { mix(t(1), bad(2), t(3)); } catch (RuntimeException e) { System.out.println(log.length()); } Object lock = null; try { String s = (String) lock; s.length(); } catch (NullPointerException e) { try { throw e; } catch (RuntimeException f) { System.out.println(e == f); } } catch (Throwable x) { System.out.println("no"); } }
+}

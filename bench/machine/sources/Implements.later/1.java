@@ -1,0 +1,1 @@
+class ImA { public int f() { return 1; } }

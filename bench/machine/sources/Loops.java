@@ -1,0 +1,7 @@
+public class Loops {
+    public static void main(String[] args) {
+        outer: for (int i = 0; i < 6; i++) { for (int j = 0; j < 6; j++) { if (j == i) continue outer; if (i * j == 12) break outer; System.out.print(i * 10 + j); System.out.print(' '); } } System.out.println();
+        int n = 27, steps = 0; do { n = (n & 1) == 0 ? n >> 1 : 3 * n + 1; steps++; } while (n != 1 && steps < 60); System.out.println(steps + " " + n); int b = 0; for (int i = 0xF0F; i != 0; i &= i - 1) b++; System.out.println(b); long h = 1125899906842597L; for (char c : "hash me".toCharArray()) h = 31 * h + c; System.out.println(h); int rev = 0; for (int i = 0; i < 32; i++) rev |= ((0x12345678 >>> i) & 1) << (31 - i); System.out.println(Integer.toHexString(rev)); boolean p = true, q = false; System.out.println(p && !q || q && p); System.out.println(p ^ q ? p & q : p | q);
+        for (long l = 3; l > -3; l -= 2) System.out.print(l + ","); System.out.println(); char c = 'a'; while (c < 'f') System.out.print(c++); System.out.println(); int x = 5; x = x++ * 2 + x; System.out.println(x); int y = (x = 3) * x; System.out.println(y); int[] a = { 0, 0, 0 }; int k = 0; a[k++] = k; a[k] = k = 2; System.out.println(a[0] + " " + a[1] + " " + k); {} ; int u = 'a' + 1; System.out.println(u); System.out.println((char) u); System.out.println("" + (char) ('a' + 2)); final int z; if (u > 3) z = 1; else z = 2; System.out.println(z);
+    }
+}

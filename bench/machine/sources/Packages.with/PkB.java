@@ -1,0 +1,2 @@
+package pb;
+public class PkB extends pa.PkA { public void f() { System.out.println("B"); } }

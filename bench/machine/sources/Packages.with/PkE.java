@@ -1,0 +1,2 @@
+package pc;
+public class PkE extends pb.PkB { public void f() { System.out.println("E"); super.f(); } }

@@ -1,0 +1,1 @@
+public class ReadNothing { public static void main(String[] args) throws java.io.IOException { System.out.println(System.in.read()); System.out.println(System.in.read(new byte[2], 0, 1)); System.out.println(System.in.read(new byte[0])); System.out.println(args.length); System.out.println(args.getClass().getName()); } }

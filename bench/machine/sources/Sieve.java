@@ -1,0 +1,1 @@
+public class Sieve { public static void main(String[] args) { boolean[] c = new boolean[120]; int n = 0; for (int i = 2; i < c.length; i++) { if (c[i]) continue; n++; System.out.print(i + " "); for (int j = i * i; j < c.length; j += i) c[j] = true; } System.out.println(n); } }

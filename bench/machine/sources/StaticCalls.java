@@ -1,0 +1,5 @@
+public class StaticCalls {
+    static class P { static int n; static int inc() { return ++n; } static long l(long a, int b, long c) { return a - b - c; } } static class Q extends P { static { System.out.println("Q never"); } } interface S { static int f(int i) { return i + P.inc(); } }
+    static int a0() { return 1; } static long a1(long a) { return a; } static Object a2(Object o) { return o; } static void a3() { return; } static byte a4(int i) { return (byte) i; } static char a5(int i) { return (char) i; } static boolean a6(int i) { return (i & 1) == 1; } static short a7(int i) { return (short) i; } static int[] a8() { return new int[] { 4 }; }
+    public static void main(String[] args) { System.out.println(Q.inc()); System.out.println(S.f(10)); System.out.println(P.n); System.out.println(P.l(1L << 40, 3, 4)); System.out.println(a0() + a1(5) + a4(384) + a5(65536 + 7) + a7(70000)); System.out.println(a2("r")); a3(); System.out.println(a6(3)); System.out.println(a6(4)); System.out.println(a8()[0]); P none = null; System.out.println(none.inc()); }
+}

@@ -1,0 +1,18 @@
+class 52 public+super HandledThisObject java/lang/Object
+method public <init> ()V
+limits 2 1
+L0:
+aload_0
+L1:
+invokespecial java/lang/Object <init> ()V
+L2:
+return
+L3:
+athrow
+catch L1 L2 L3 any
+frame L3 locals object:HandledThisObject stack object:java/lang/Throwable
+end
+method public+static main ([Ljava/lang/String;)V
+limits 0 1
+return
+end

@@ -1,0 +1,2 @@
+class 52 public+interface+abstract Face java/lang/Object
+implements Upper

@@ -1,0 +1,36 @@
+// Lists and names with ample memory.
+use cb_plain::{Marks, Name, Names, Numbers, OutOfMemory, Shape, Shapes, Value};
+
+#[test]
+fn a_list_has_its_items_in_the_order_of_their_pushes(rt: HostRuntime) -> Result<(), OutOfMemory> {
+    let mut list = Numbers::new(rt.alloc());
+    assert!(rt; list.is_empty());
+    for item in [7, 5, 7] {
+        list.push(item)?;
+    }
+    assert!(rt; !list.is_empty());
+    assert_eq!(rt; list.len(), 3);
+    assert_eq!(rt; *list.get(1), 5);
+    assert_eq!(rt; list.as_slice(), [7, 5, 7].as_slice());
+    let mut again = Numbers::with_capacity(rt.alloc(), list.len())?;
+    for item in &list {
+        again.push(*item)?;
+    }
+    assert_eq!(rt; again.as_slice(), [7, 5, 7].as_slice());
+    Ok(())
+}
+
+#[test]
+fn names_values_and_shapes_are_what_they_are_made_of(rt: HostRuntime) -> Result<(), OutOfMemory> {
+    let mut names = Names::new(rt.alloc());
+    names.push(Name::of(rt.alloc(), "a/é")?)?;
+    assert_eq!(rt; names.get(0).text(), "a/é");
+    let mut marks = Marks::new(rt.alloc());
+    marks.push(true)?;
+    let mut shapes = Shapes::new(rt.alloc());
+    shapes.push(Shape::Fields(marks))?;
+    shapes.push(Shape::Elements(false))?;
+    assert!(rt; matches!(shapes.get(1), Shape::Elements(false)));
+    assert!(rt; Value::Ref(0) != Value::Long(0));
+    Ok(())
+}
