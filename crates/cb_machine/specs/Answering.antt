@@ -12,13 +12,13 @@ use Rattle.cb_library.specs.declared.native.Native.{Native}
 use Rattle.cb_library.specs.declared.native.Native.TheVariants as natives
 use Rattle.cb_plain.specs.declared.value.Value.{Value}
 use Rattle.cb_plain.specs.declared.value.Value.TheVariants.{Int, Long, Ref}
+use Rattle.cb_plain.specs.State.{Object, State}
+use Rattle.cb_plain.specs.Updates.{object_at}
 use Rattle.cb_machine.specs.Computing.{throws_by_zero}
 use Rattle.cb_machine.specs.Library as library
 use Rattle.cb_machine.specs.Performing.{Call, Performed, Stops, built_text, gives, gives_int, identity_hash, number_at, on_number, on_object, on_text, stops, text_of, value_slot}
 use Rattle.cb_machine.specs.Sites.{number_format, string_index}
-use Rattle.cb_machine.specs.State.{Object, State}
 use Rattle.cb_machine.specs.Testing.{int_of}
-use Rattle.cb_machine.specs.Updates.{object_at}
 
 abbrev gives_bool : Call → Bool → Option Performed
 gives_bool call is = gives call (int_of is ∷ [])

@@ -1,6 +1,6 @@
 -- Instructions on arrays (JVMS §6.5, iaload to saload, iastore to sastore, arraylength). Of what can go wrong null comes first, then the
 -- index, then the type.
-use Rattle.std.specs.Prelude.{ℤ, pos, ℕ, Bool, true, false, List, [], ◌∷◌, length, Option, Some, None, option_and_then, option_map, slice_get, nat_lt, if◌then◌else◌, zero, suc}
+use Rattle.std.specs.Prelude.{ℤ, pos, ℕ, Bool, true, false, List, [], ◌∷◌, length, Option, Some, None, option_and_then, option_map, slice_get, nat_lt, if◌then◌else◌, zero, suc, slice_set}
 use Rattle.cb_kinds.specs.Basics.{component_of}
 use Rattle.cb_kinds.specs.declared.basic.Basic.{Basic}
 use Rattle.cb_kinds.specs.declared.basic.Basic.TheVariants as basics
@@ -9,15 +9,15 @@ use Rattle.cb_link.specs.Program.{Linked}
 use Rattle.cb_link.specs.Subtypes.{instance}
 use Rattle.cb_plain.specs.declared.value.Value.{Value}
 use Rattle.cb_plain.specs.declared.value.Value.TheVariants.{Int, Ref}
+use Rattle.cb_plain.specs.State.{Content, Object}
+use Rattle.cb_plain.specs.Updates.{object_at, with_contents_at}
 use Rattle.cb_shapes.specs.Sorts.{sort_of_elements}
 use Rattle.cb_shapes.specs.declared.elements.Elements.{Elements}
 use Rattle.cb_shapes.specs.declared.sort.Sort.TheVariants as sorts
 use Rattle.cb_machine.specs.Plans.{Plan, leaving}
 use Rattle.cb_machine.specs.Sites.{array_index, array_store, null_pointer}
 use Rattle.cb_machine.specs.Standing.{Now, leaves, leaves_with, taken}
-use Rattle.cb_machine.specs.State.{Content, Object}
 use Rattle.cb_machine.specs.Throwing.{throws}
-use Rattle.cb_machine.specs.Updates.{object_at, with_contents_at, with_item}
 use Rattle.cb_machine.specs.Values.{content_of, kept_value, value_in, natural}
 
 -- what the elements of an array of a kind are
@@ -57,7 +57,7 @@ loads_element now = option_and_then (loads_taken now) (taken (sorts.Int ∷ sort
 -- an array with another element
 abbrev pub with_element : Now → ℕ → Object → ℕ → Content → List Value → Option Plan
 with_element now serial array index content rest =
-    leaves_with now rest (leaving (with_contents_at now.state serial (with_item array.contents index content)))
+    leaves_with now rest (leaving (with_contents_at now.state serial (slice_set array.contents index content)))
 
 -- stores of numbers keep what the elements hold
 abbrev stores_number : Now → ℕ → ℤ → Value → List Value → Object → Basic → Option Plan

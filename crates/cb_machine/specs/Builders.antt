@@ -1,19 +1,19 @@
 -- Natives that set the fields of their own object: constructors of String and of the boxes, and those of StringBuilder that change it
 -- (Java SE 8 API, java.lang).
 use Rattle.std.specs.Prelude.{ℤ, pos, ℕ, ◌+◌, ◌-◌, ◌*◌, List, [], ◌∷◌, ◌++◌, take, drop, length, min, max, replicate, codes, Option, Some, None, option_and_then, option_map, nat_le, nat_lt, zero, suc, if◌then◌else◌}
+use Rattle.cb_arith.specs.Bits.{low_bits}
 use Rattle.cb_library.specs.declared.native.Native.{Native}
 use Rattle.cb_library.specs.declared.native.Native.TheVariants as natives
-use Rattle.cb_arith.specs.Bits.{low_bits}
 use Rattle.cb_plain.specs.declared.value.Value.{Value}
 use Rattle.cb_plain.specs.declared.value.Value.TheVariants.{Int, Long, Ref}
+use Rattle.cb_plain.specs.State.{Number, Object, Reference, State}
+use Rattle.cb_plain.specs.Updates.{object_at, with_contents_at}
 use Rattle.cb_machine.specs.Machine.{kind_of_site}
 use Rattle.cb_machine.specs.Performing.{Call, Performed, Gives, built_text, count_slot, if_short, most_elements, on_object, on_text, reference_at, stops, units_of, value_slot, with_word}
 use Rattle.cb_machine.specs.Plans.{Plan, leaving, with_left, with_one}
 use Rattle.cb_machine.specs.Sites.{builder_characters, made_characters, negative_size, string_index}
-use Rattle.cb_machine.specs.State.{Number, Object, Reference, State}
 use Rattle.cb_machine.specs.Strings.{unit_contents}
 use Rattle.cb_machine.specs.Texts.{digits, range_of, truth, unit_of}
-use Rattle.cb_machine.specs.Updates.{object_at, with_contents_at}
 
 -- nothing is given back
 abbrev done : Plan → Option Performed

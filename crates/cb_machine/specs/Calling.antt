@@ -2,9 +2,9 @@
 -- of its caller.
 use Rattle.std.specs.Prelude.{ℕ, Bool, false, List, [], ◌∷◌, ◌++◌, map, drop, reverse, Option, Some, None, codes, option_and_then, option_map, slice_get, not, ◌==◌, ◌&&◌, if◌then◌else◌}
 use Rattle.std.specs.List.{list_any}
-use Rattle.cb_text.specs.Naming.{member_at}
 use Rattle.cb_classfile.specs.declared.body.Body.{Body}
 use Rattle.cb_classfile.specs.declared.method.Method.{Method}
+use Rattle.cb_classfile.specs.Pool.{text_at}
 use Rattle.cb_hierarchy.specs.Classes.{superclass}
 use Rattle.cb_hierarchy.specs.Orders.{upwards}
 use Rattle.cb_hierarchy.specs.Resolution.{first_of, most_specific}
@@ -12,6 +12,7 @@ use Rattle.cb_hierarchy.specs.Selection.{declared_upwards, first_or, found, foun
 use Rattle.cb_hierarchy.specs.declared.selected.Selected.{Selected}
 use Rattle.cb_hierarchy.specs.declared.selected.Selected.TheVariants as chosen
 use Rattle.cb_kinds.specs.Texts.{number_of, same_text}
+use Rattle.cb_library.specs.declared.native.Native.{Native}
 use Rattle.cb_link.specs.Calls.{select}
 use Rattle.cb_link.specs.Having.{parameters_at}
 use Rattle.cb_link.specs.Named.{behind_in, code_at, named}
@@ -22,22 +23,21 @@ use Rattle.cb_link.specs.declared.named.Named.{Named}
 use Rattle.cb_link.specs.declared.named.Named.TheVariants as meanings
 use Rattle.cb_plain.specs.declared.value.Value.{Value}
 use Rattle.cb_plain.specs.declared.value.Value.TheVariants.{Ref}
+use Rattle.cb_plain.specs.State.{Frame, MethodFrame, OfMethod}
+use Rattle.cb_plain.specs.Updates.{with_frames}
 use Rattle.cb_shapes.specs.declared.sort.Sort.{Sort}
 use Rattle.cb_shapes.specs.declared.sort.Sort.TheVariants as sorts
-use Rattle.cb_classfile.specs.Pool.{text_at}
+use Rattle.cb_text.specs.Naming.{member_at}
 use Rattle.cb_machine.specs.Arrays.{with_object}
-use Rattle.cb_machine.specs.Depth.{entered_upon}
+use Rattle.cb_machine.specs.Entering.{entered_upon}
 use Rattle.cb_machine.specs.Initialising.{once_ready}
 use Rattle.cb_machine.specs.Machine.{class_declaring, method_numbered}
 use Rattle.cb_machine.specs.Natives.{native_of, performed}
 use Rattle.cb_machine.specs.Performing.{Performed, Gives, Stops}
-use Rattle.cb_library.specs.declared.native.Native.{Native}
 use Rattle.cb_machine.specs.Plans.{Plan, leaving, with_left}
 use Rattle.cb_machine.specs.Sites.{abstract_method, incompatible_class_change}
 use Rattle.cb_machine.specs.Standing.{Now, at_place, taken, with_stack, named_here}
-use Rattle.cb_machine.specs.State.{Frame, MethodFrame, OfMethod}
 use Rattle.cb_machine.specs.Throwing.{throws}
-use Rattle.cb_machine.specs.Updates.{with_frames}
 use Rattle.cb_machine.specs.Values.{sort_of_basic}
 
 -- an answer is laid on the stack of the frame that waits for it, which goes on behind its call

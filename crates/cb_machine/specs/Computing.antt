@@ -4,6 +4,7 @@ use Rattle.cb_link.specs.declared.named.Named.{Named}
 use Rattle.cb_link.specs.declared.named.Named.TheVariants as meanings
 use Rattle.cb_plain.specs.declared.value.Value.{Value}
 use Rattle.cb_plain.specs.declared.value.Value.TheVariants.{Ref}
+use Rattle.cb_plain.specs.State.{State}
 use Rattle.cb_shapes.specs.Computations.{Computed, ByZero, Gives, computed, gives, takes}
 use Rattle.cb_shapes.specs.Shuffles.{shuffled}
 use Rattle.cb_shapes.specs.declared.computation.Computation.{Computation}
@@ -13,7 +14,6 @@ use Rattle.cb_machine.specs.Machine.{Machine}
 use Rattle.cb_machine.specs.Plans.{Plan, leaving}
 use Rattle.cb_machine.specs.Sites.{arithmetic}
 use Rattle.cb_machine.specs.Standing.{Now, leaves, leaves_with, taken, named_here}
-use Rattle.cb_machine.specs.State.{State}
 use Rattle.cb_machine.specs.Strings.{Placed, class_object, constant_string}
 use Rattle.cb_machine.specs.Throwing.{throwing_with}
 use Rattle.cb_machine.specs.Values.{category_of_value, null, numbers_of, of_sort}

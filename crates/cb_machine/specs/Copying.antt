@@ -1,6 +1,5 @@
 -- Natives that give or fill arrays (Java SE 8 API, String.toCharArray, Object.clone, System.arraycopy, Throwable.addSuppressed and
 -- getSuppressed).
-use Rattle.cb_machine.specs.Values.{natural}
 use Rattle.std.specs.Prelude.{ℤ, pos, ℕ, ◌+◌, Bool, true, false, List, [], ◌∷◌, ◌++◌, take, drop, length, Option, Some, None, option_and_then, nat_le, suc, ◌==◌, ◌&&◌, if◌then◌else◌}
 use Rattle.cb_kinds.specs.declared.basic.Basic.{Basic}
 use Rattle.cb_kinds.specs.declared.basic.Basic.TheVariants as basics
@@ -9,15 +8,16 @@ use Rattle.cb_library.specs.declared.native.Native.TheVariants as natives
 use Rattle.cb_link.specs.Subtypes.{instance}
 use Rattle.cb_plain.specs.declared.value.Value.{Value}
 use Rattle.cb_plain.specs.declared.value.Value.TheVariants.{Int, Ref}
+use Rattle.cb_plain.specs.State.{Content, Object, Reference, State}
+use Rattle.cb_plain.specs.Updates.{object_at, with_contents_at}
+use Rattle.cb_machine.specs.Values.{natural}
 use Rattle.cb_machine.specs.Arrays.{element_of, fits_kind}
 use Rattle.cb_machine.specs.Library.{cloneable}
 use Rattle.cb_machine.specs.Machine.{kind_of_site}
 use Rattle.cb_machine.specs.Performing.{Call, Performed, Gives, Stops, array_of, on_object, reference_at, stops, with_word, if_short}
 use Rattle.cb_machine.specs.Plans.{leaving, with_left, with_one}
 use Rattle.cb_machine.specs.Sites.{array_index, array_store, clone_not_supported, illegal_argument, made_characters, suppressed}
-use Rattle.cb_machine.specs.State.{Content, Object, Reference, State}
 use Rattle.cb_machine.specs.Throwing.{throwing}
-use Rattle.cb_machine.specs.Updates.{object_at, with_contents_at}
 
 -- a new object with these contents
 abbrev gives_new : Call → ℕ → ℕ → List Content → Option Performed

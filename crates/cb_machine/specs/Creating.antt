@@ -13,6 +13,7 @@ use Rattle.cb_plain.specs.declared.shape.Shape.{Shape}
 use Rattle.cb_plain.specs.declared.shape.Shape.TheVariants as shapes
 use Rattle.cb_plain.specs.declared.value.Value.{Value}
 use Rattle.cb_plain.specs.declared.value.Value.TheVariants.{Int, Ref}
+use Rattle.cb_plain.specs.State.{Content, Number, blank}
 use Rattle.cb_shapes.specs.declared.sort.Sort.TheVariants as sorts
 use Rattle.cb_machine.specs.Arrays.{element_of}
 use Rattle.cb_machine.specs.Initialising.{once_ready}
@@ -20,9 +21,7 @@ use Rattle.cb_machine.specs.Machine.{Machine, kind_of_site}
 use Rattle.cb_machine.specs.Plans.{Plan, leaving, with_alike, with_one, with_rows}
 use Rattle.cb_machine.specs.Sites.{negative_size}
 use Rattle.cb_machine.specs.Standing.{Now, leaves_with, taken, named_here}
-use Rattle.cb_machine.specs.State.{Content, Number}
 use Rattle.cb_machine.specs.Throwing.{throws}
-use Rattle.cb_machine.specs.Values.{blank}
 
 -- the site of a dimension of what an instruction makes: the machine's own come first
 abbrev is_site : ℕ → ℕ → ℕ → Site → Bool

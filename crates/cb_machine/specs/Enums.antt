@@ -8,12 +8,14 @@ use Rattle.cb_link.specs.Calls.{class_of_kind}
 use Rattle.cb_link.specs.Numbers.{Numbered, or_none}
 use Rattle.cb_link.specs.Program.{Linked}
 use Rattle.cb_link.specs.Slots.{enum_statics, static_at}
+use Rattle.cb_plain.specs.declared.class_state.ClassState.{ClassState}
+use Rattle.cb_plain.specs.declared.class_state.ClassState.TheVariants.{Busy, Done}
 use Rattle.cb_plain.specs.declared.value.Value.{Value}
 use Rattle.cb_plain.specs.declared.value.Value.TheVariants.{Ref}
+use Rattle.cb_plain.specs.State.{Object}
 use Rattle.cb_machine.specs.Initialising.{once_ready}
 use Rattle.cb_machine.specs.Performing.{Call, Performed, Stops, gives, number_at, on_object, on_text, stops, value_slot}
 use Rattle.cb_machine.specs.Sites.{illegal_argument}
-use Rattle.cb_machine.specs.State.{ClassState, Busy, Done, Object}
 
 -- the static field of a constant by its name
 abbrev has_name : List ℕ → Option (Numbered Field) → Bool

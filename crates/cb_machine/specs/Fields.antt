@@ -6,13 +6,13 @@ use Rattle.cb_link.specs.declared.named.Named.{Named}
 use Rattle.cb_link.specs.declared.named.Named.TheVariants as meanings
 use Rattle.cb_plain.specs.declared.value.Value.{Value}
 use Rattle.cb_plain.specs.declared.value.Value.TheVariants.{Ref}
+use Rattle.cb_plain.specs.State.{Object}
+use Rattle.cb_plain.specs.Updates.{with_static}
 use Rattle.cb_shapes.specs.declared.sort.Sort.TheVariants as sorts
 use Rattle.cb_machine.specs.Arrays.{with_element, with_object}
 use Rattle.cb_machine.specs.Initialising.{once_ready}
 use Rattle.cb_machine.specs.Plans.{Plan, leaving}
 use Rattle.cb_machine.specs.Standing.{Now, leaves, leaves_with, taken, named_here}
-use Rattle.cb_machine.specs.State.{Object}
-use Rattle.cb_machine.specs.Updates.{with_static}
 use Rattle.cb_machine.specs.Values.{content_of, kept_value, sort_of_basic, value_in}
 
 -- getstatic, once the class that declares the field is ready

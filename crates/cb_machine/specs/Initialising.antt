@@ -10,16 +10,19 @@ use Rattle.cb_link.specs.Named.{static_initial}
 use Rattle.cb_link.specs.Numbers.{Numbered}
 use Rattle.cb_link.specs.Program.{Linked}
 use Rattle.cb_link.specs.Slots.{static_at, static_basic, statics}
+use Rattle.cb_plain.specs.Depth.{has_room}
+use Rattle.cb_plain.specs.declared.class_state.ClassState.{ClassState}
+use Rattle.cb_plain.specs.declared.class_state.ClassState.TheVariants.{Busy, Done, Failed, Untouched}
 use Rattle.cb_plain.specs.declared.value.Value.{Value}
 use Rattle.cb_plain.specs.declared.value.Value.TheVariants.{Ref}
-use Rattle.cb_machine.specs.Depth.{entered_upon, has_room}
+use Rattle.cb_plain.specs.State.{Frame, Initialising, State}
+use Rattle.cb_plain.specs.Updates.{with_class, with_frames, with_static}
+use Rattle.cb_machine.specs.Entering.{entered_upon}
 use Rattle.cb_machine.specs.Machine.{Machine, body_of}
 use Rattle.cb_machine.specs.Plans.{Plan, leaving, with_left}
 use Rattle.cb_machine.specs.Sites.{no_class_definition, stack_overflow}
-use Rattle.cb_machine.specs.State.{Busy, ClassState, Done, Failed, Frame, Initialising, State, Untouched}
 use Rattle.cb_machine.specs.Strings.{Placed, constant_string}
 use Rattle.cb_machine.specs.Throwing.{throws}
-use Rattle.cb_machine.specs.Updates.{with_class, with_frames, with_static}
 use Rattle.cb_machine.specs.Values.{kept_value}
 
 -- the slots of a class's own static fields, in order
@@ -51,7 +54,7 @@ set_initial machine plan slot = set_to machine slot plan (static_initial machine
 -- room for a frame, nothing else changes
 abbrev pub begun_upon : Machine → State → List Frame → ℕ → Plan
 begun_upon machine state frames class =
-    if has_room machine frames 0 then
+    if has_room machine.frames frames 0 then
     fold (set_initial machine) (leaving (with_class (with_frames state (Initialising class 0 ∷ frames)) class Busy)) (own_statics machine.program class)
     else throws machine state stack_overflow
 

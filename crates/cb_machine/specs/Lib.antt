@@ -8,7 +8,7 @@ pub mod Calling
 pub mod Computing
 pub mod Copying
 pub mod Creating
-pub mod Depth
+pub mod Entering
 pub mod Enums
 pub mod Expression
 pub mod Fields
@@ -22,18 +22,15 @@ pub mod Outside
 pub mod Performing
 pub mod Plans
 pub mod Printing
-pub mod Reach
 pub mod Runs
 pub mod Sites
 pub mod Small
 pub mod Standing
 pub mod Starting
-pub mod State
 pub mod Steps
 pub mod Strings
 pub mod Testing
 pub mod Texts
 pub mod Throwing
 pub mod Unwinding
-pub mod Updates
 pub mod Values

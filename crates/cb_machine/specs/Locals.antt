@@ -1,13 +1,13 @@
 -- Instructions that load and store local variables (JVMS §6.5, iload to aload_3, istore to astore_3, iinc).
-use Rattle.std.specs.Prelude.{ℤ, ◌+ℤ◌, ℕ, ◌+◌, Bool, true, false, List, [], ◌∷◌, length, Option, None, option_and_then, slice_get, nat_le, if◌then◌else◌}
+use Rattle.std.specs.Prelude.{ℤ, ◌+ℤ◌, ℕ, ◌+◌, Bool, true, false, List, [], ◌∷◌, length, Option, None, option_and_then, slice_get, nat_le, if◌then◌else◌, slice_set}
 use Rattle.std.specs.Int.{w32, int_wrap}
+use Rattle.cb_plain.specs.Depth.{slots_of}
 use Rattle.cb_plain.specs.declared.value.Value.{Value}
 use Rattle.cb_plain.specs.declared.value.Value.TheVariants.{Int}
 use Rattle.cb_shapes.specs.declared.sort.Sort.{Sort}
 use Rattle.cb_machine.specs.Plans.{Plan, leaving}
 use Rattle.cb_machine.specs.Standing.{Now, goes_on, leaves, same_sort, taken}
-use Rattle.cb_machine.specs.Updates.{with_item}
-use Rattle.cb_machine.specs.Values.{slots_of, sort_of}
+use Rattle.cb_machine.specs.Values.{sort_of}
 
 -- a value of a sort is loaded
 abbrev loads_if : Now → Value → Bool → Option Plan
@@ -23,7 +23,7 @@ loads now sort local = option_and_then (loads_value now sort) (slice_get now.fra
 -- a value is stored in its slots, from a local variable on
 abbrev pub with_slots : List Value → ℕ → List Value → List Value
 with_slots locals local [] = locals
-with_slots locals local (value ∷ held) = with_slots (with_item locals local value) (local + 1) held
+with_slots locals local (value ∷ held) = with_slots (slice_set locals local value) (local + 1) held
 
 abbrev stores_in : Now → ℕ → List Value → List Value → Option Plan
 stores_in now local rest held =
@@ -40,7 +40,7 @@ stores now sort local = option_and_then (stores_taken now local) (taken (sort �
 -- iinc
 abbrev increases_by : Now → ℕ → ℤ → Value → Option Plan
 increases_by now local by (Int number) =
-    goes_on now (with_item now.frame.locals local (Int (int_wrap w32 (number +ℤ by)))) now.frame.stack (leaving now.state)
+    goes_on now (slice_set now.frame.locals local (Int (int_wrap w32 (number +ℤ by)))) now.frame.stack (leaving now.state)
 increases_by now local by other = None
 
 abbrev pub increases : Now → ℕ → ℤ → Option Plan

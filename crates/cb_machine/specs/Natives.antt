@@ -9,6 +9,7 @@ use Rattle.cb_library.specs.declared.native.NativeForm.{NativeForm}
 use Rattle.cb_library.specs.declared.native.NativeForm.TheVariants.{Text, OwnFields, Table, Array, Outside, Answer}
 use Rattle.cb_link.specs.Program.{Linked}
 use Rattle.cb_plain.specs.declared.value.Value.{Value}
+use Rattle.cb_plain.specs.State.{State}
 use Rattle.cb_machine.specs.Answering.{answer_native}
 use Rattle.cb_machine.specs.Boxes.{box_native}
 use Rattle.cb_machine.specs.Builders.{own_native}
@@ -17,7 +18,6 @@ use Rattle.cb_machine.specs.Enums.{finds_constant}
 use Rattle.cb_machine.specs.Machine.{Machine}
 use Rattle.cb_machine.specs.Outside.{outside_native}
 use Rattle.cb_machine.specs.Performing.{Call, Performed}
-use Rattle.cb_machine.specs.State.{State}
 use Rattle.cb_machine.specs.Texts.{text_native}
 
 -- the row of a method has the class's number and the method's place in its class

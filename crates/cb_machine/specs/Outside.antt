@@ -7,13 +7,13 @@ use Rattle.cb_library.specs.declared.native.Native.{Native}
 use Rattle.cb_library.specs.declared.native.Native.TheVariants as natives
 use Rattle.cb_plain.specs.declared.value.Value.{Value}
 use Rattle.cb_plain.specs.declared.value.Value.TheVariants.{Int, Long, Ref}
+use Rattle.cb_plain.specs.State.{Content, Number, Object}
+use Rattle.cb_plain.specs.Updates.{with_contents_at, with_exit, with_input, with_printed}
 use Rattle.cb_machine.specs.Copying.{overwritten}
 use Rattle.cb_machine.specs.Performing.{Call, Performed, Gives, gives, gives_int, on_object, on_text, stops}
 use Rattle.cb_machine.specs.Plans.{leaving}
 use Rattle.cb_machine.specs.Sites.{index_out_of_bounds}
-use Rattle.cb_machine.specs.State.{Content, Number, Object}
 use Rattle.cb_machine.specs.Texts.{digits, truth, unit_of}
-use Rattle.cb_machine.specs.Updates.{with_contents_at, with_exit, with_input, with_printed}
 
 -- text is printed in UTF-8
 abbrev prints : Call → List ℕ → Option Performed

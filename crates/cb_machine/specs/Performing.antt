@@ -1,15 +1,15 @@
 -- What natives are given and give, and how they read objects.
-use Rattle.std.specs.Prelude.{ℤ, pos, ℕ, ◌∷◌, List, [], map, take, length, Option, Some, None, option_and_then, option_map, slice_get, nat_le, zero, suc, if◌then◌else◌}
+use Rattle.std.specs.Prelude.{ℤ, pos, ℕ, ◌∷◌, List, [], map, take, length, Option, Some, None, option_and_then, option_map, slice_get, nat_le, zero, suc, if◌then◌else◌, slice_set}
 use Rattle.std.specs.Int.{int_rem_euclid}
 use Rattle.cb_plain.specs.declared.value.Value.{Value}
 use Rattle.cb_plain.specs.declared.value.Value.TheVariants.{Int, Ref}
+use Rattle.cb_plain.specs.State.{Content, Number, Object, Reference, State}
+use Rattle.cb_plain.specs.Updates.{object_at, with_contents_at}
 use Rattle.cb_machine.specs.Machine.{Machine}
 use Rattle.cb_machine.specs.Plans.{Plan, leaving}
 use Rattle.cb_machine.specs.Sites.{made_characters, made_strings, negative_size, null_pointer}
-use Rattle.cb_machine.specs.State.{Content, Number, Object, Reference, State}
 use Rattle.cb_machine.specs.Strings.{Placed, with_string}
 use Rattle.cb_machine.specs.Throwing.{throws}
-use Rattle.cb_machine.specs.Updates.{object_at, with_contents_at, with_item}
 
 -- the call of a native
 pub record Call : Type 0 where
@@ -60,7 +60,7 @@ on_number call serial go = on_object call serial (λ object. option_and_then go 
 
 -- an object with another word
 abbrev pub with_word : State → ℕ → Object → ℕ → Content → State
-with_word state serial object slot content = with_contents_at state serial (with_item object.contents slot content)
+with_word state serial object slot content = with_contents_at state serial (slice_set object.contents slot content)
 
 -- the units of an array of chars, of a string, and of a builder, of whose array so many count
 abbrev unit_in : Content → ℕ

@@ -1,8 +1,10 @@
 -- Plans: what a step places, and what it leaves. From a plan follow both the next state and the request for room.
-use Rattle.std.specs.Prelude.{ℕ, ◌+◌, ◌*◌, List, [], ◌∷◌, ◌++◌, map, length, min, replicate, Option, Some, ◌==◌, if◌then◌else◌, zero, suc, ◌^◌}
+use Rattle.std.specs.Prelude.{ℕ, ◌+◌, ◌*◌, List, [], ◌∷◌, ◌++◌, map, length, replicate, Option, Some, zero, suc}
 use Rattle.std.specs.List.{flat_map, fold, range_with_len}
-use Rattle.cb_machine.specs.State.{Content, Object, Reference, State}
-use Rattle.cb_machine.specs.Updates.{with_objects}
+use Rattle.cb_plain.specs.Requests.{add_want}
+use Rattle.cb_plain.specs.declared.want.Want.{Want}
+use Rattle.cb_plain.specs.State.{Content, Object, Reference, State, words_of}
+use Rattle.cb_plain.specs.Updates.{with_objects}
 
 -- objects that are placed one after the other: one with its contents; so many alike, each with so many words that hold the same; and so
 -- many arrays, each of so many references to serials that follow one another
@@ -36,16 +38,7 @@ with_placed objects placing = objects ++ map Some (objects_of placing)
 abbrev pub made : Plan → State
 made plan = with_objects plan.left (fold with_placed plan.left.objects plan.placed)
 
--- the words of an object: three of its header and those of its contents
-abbrev pub words_of : ℕ → ℕ
-words_of size = 3 + size
-
--- how many words are asked for at a site
-pub record Want : Type 0 where
-  pub site : ℕ
-  pub words : ℕ
-
--- of a placing, which asks for none where it places nothing
+-- what is asked for of a placing: none where it places nothing
 abbrev wanted : ℕ → ℕ → ℕ → List Want
 wanted site size zero = []
 wanted site size (suc count) = record { site = site; words = (count + 1) * words_of size } ∷ []
@@ -55,16 +48,7 @@ wants_of (One site kind contents) = wanted site (length contents) 1
 wants_of (Alike site kind content size count) = wanted site size count
 wants_of (Rows site kind first size count) = wanted site size count
 
--- each site once, in the order in which they come, with the sum of its words, which counts up to a limit
-abbrev pub most_words : ℕ
-most_words = 2 ^ 40
-
-abbrev pub add_want : List Want → Want → List Want
-add_want [] want = record { site = want.site; words = min want.words most_words } ∷ []
-add_want (old ∷ wants) want =
-    if old.site == want.site then record { site = old.site; words = min (old.words + want.words) most_words } ∷ wants
-    else old ∷ add_want wants want
-
+-- and of a plan
 abbrev pub asked : Plan → List Want
 asked plan = fold add_want [] (flat_map wants_of plan.placed)
 

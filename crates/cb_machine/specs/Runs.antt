@@ -1,8 +1,8 @@
 -- Runs of a machine: the state after so many steps, what has been printed, and how the run has ended.
 use Rattle.std.specs.Prelude.{ℤ, ℕ, List, [], ◌∷◌, Option, Some, None, zero, suc, ◌==◌, if◌then◌else◌}
+use Rattle.cb_plain.specs.State.{Frame, Roots, State}
 use Rattle.cb_machine.specs.Machine.{Machine}
 use Rattle.cb_machine.specs.Starting.{start}
-use Rattle.cb_machine.specs.State.{Frame, Roots, State}
 use Rattle.cb_machine.specs.Steps.{step}
 use Rattle.cb_machine.specs.declared.outcome.Outcome.{Outcome}
 use Rattle.cb_machine.specs.declared.outcome.Outcome.TheVariants.{Returned, Exited, Uncaught, Running}

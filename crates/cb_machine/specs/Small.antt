@@ -1,12 +1,16 @@
 -- Small programs, for the laws on what they print and how they end.
-use Rattle.std.specs.Prelude.{ℕ, ℤ, pos, ◌+◌, List, [], ◌∷◌, ◌++◌, Some, codes}
+use Rattle.std.specs.Prelude.{ℕ, ℤ, pos, ◌+◌, List, [], ◌∷◌, ◌++◌, Some, codes, Option, map, slice_get, option_map, None}
 use Rattle.cb_classfile.specs.declared.class.ClassFile.{ClassFile}
+use Rattle.cb_classfile.specs.Pool.{text_at}
+use Rattle.cb_classfile.specs.declared.field.Field.{Field}
 use Rattle.cb_insn.specs.declared.insn.Operand.TheVariants as operands
 use Rattle.cb_insn.specs.declared.opcode.TheConstants as opcodes
-use Rattle.cb_library.specs.Flags.{public, static}
+use Rattle.cb_library.specs.Flags.{acc_super, final, private, public, static}
 use Rattle.cb_library.specs.Names as names
 use Rattle.cb_library.specs.Rows as rows
-use Rattle.cb_link.specs.Program.{linked}
+use Rattle.cb_link.specs.Numbers.{Numbered, acc_enum, fields_of, name_of, or_none}
+use Rattle.cb_link.specs.Slots.{object_fields, static_at}
+use Rattle.cb_link.specs.Program.{Linked, linked}
 use Rattle.cb_link.specs.Resolving.{main_method}
 use Rattle.cb_machine.specs.Laid.{HandlerRow, Line, MethodRow, OfKind, Plainly, Row, laid, library}
 use Rattle.cb_machine.specs.Machine.{Machine, or_zero}
@@ -168,3 +172,80 @@ abbrev pub exits : List ClassFile
 exits =
     runs 2 1
     (plain opcodes.ICONST_M1 ∷ calls opcodes.INVOKESTATIC (codes "java/lang/System") (codes "exit") (codes "(I)V") ∷ plain opcodes.RETURN ∷ []) []
+
+-- a switch on the string of the first argument, in the form that javac gives it: by its hash, by the text, and then by a number
+abbrev string_call : List ℕ → List ℕ → Line
+string_call name descriptor = calls opcodes.INVOKEVIRTUAL (codes "java/lang/String") name descriptor
+
+abbrev pub switches : List ClassFile
+switches =
+    runs 2 3
+    (plain opcodes.ALOAD_0 ∷ plain opcodes.ICONST_0 ∷ plain opcodes.AALOAD ∷ plain opcodes.ASTORE_1 ∷ plain opcodes.ICONST_0
+    ∷ plain opcodes.ISTORE_2 ∷ plain opcodes.ALOAD_1 ∷ string_call (codes "hashCode") (codes "()I")
+    ∷ Plainly opcodes.LOOKUPSWITCH (operands.Lookup 40 (record { key = pos 3105; target = 28 } ∷ [])) 18
+    ∷ plain opcodes.ALOAD_1 ∷ loads (codes "ab") ∷ string_call (codes "equals") (codes "(Ljava/lang/Object;)Z")
+    ∷ Plainly opcodes.IFEQ (operands.Branch 40) 3 ∷ plain opcodes.ICONST_1 ∷ plain opcodes.ISTORE_2
+    ∷ out ∷ plain opcodes.ILOAD_2 ∷ Plainly opcodes.TABLESWITCH (operands.Table 72 (pos 0) (72 ∷ 68 ∷ [])) 24
+    ∷ plain opcodes.ICONST_1 ∷ Plainly opcodes.GOTO (operands.Branch 73) 3 ∷ plain opcodes.ICONST_0 ∷ prints (codes "(I)V")
+    ∷ plain opcodes.RETURN ∷ []) []
+
+-- an enum in the form that javac gives it, whose constant is found by its name, and whose constants are counted
+abbrev colour_field : List ℕ → Line
+colour_field name = Row (rows.OfField opcodes.GETSTATIC (codes "Color") name (codes "LColor;"))
+
+abbrev colour : List ℕ → ℕ → List Line
+colour name ordinal =
+    makes (codes "Color") ∷ plain opcodes.DUP ∷ loads name ∷ plain ordinal
+    ∷ calls opcodes.INVOKESPECIAL (codes "Color") (codes "<init>") (codes "(Ljava/lang/String;I)V")
+    ∷ Row (rows.OfField opcodes.PUTSTATIC (codes "Color") name (codes "LColor;")) ∷ []
+
+abbrev entry : ℕ → List ℕ → List Line
+entry place name = plain opcodes.DUP ∷ plain place ∷ colour_field name ∷ plain opcodes.AASTORE ∷ []
+
+abbrev colours : ClassFile
+colours =
+    laid (record {
+      flags = final + acc_super + acc_enum;
+      name = codes "Color";
+      superclass = Some (codes "java/lang/Enum");
+      interfaces = [];
+      fields = rows.field (public + static + final + acc_enum) (codes "RED") (codes "LColor;")
+          ∷ rows.field (public + static + final + acc_enum) (codes "GREEN") (codes "LColor;")
+          ∷ rows.field (private + static + final) (codes "$VALUES") (codes "[LColor;") ∷ [];
+      methods = method (codes "<clinit>") (codes "()V") 4 0
+          (colour (codes "RED") opcodes.ICONST_0 ++ colour (codes "GREEN") opcodes.ICONST_1
+          ++ plain opcodes.ICONST_2 ∷ Row (rows.OfClass opcodes.ANEWARRAY (codes "Color"))
+          ∷ entry opcodes.ICONST_0 (codes "RED") ++ entry opcodes.ICONST_1 (codes "GREEN")
+          ++ Row (rows.OfField opcodes.PUTSTATIC (codes "Color") (codes "$VALUES") (codes "[LColor;")) ∷ plain opcodes.RETURN ∷ []) []
+          ∷ record { flags = private; name = codes "<init>"; descriptor = codes "(Ljava/lang/String;I)V"; body = Some (record { stack = 3; locals = 3; handlers = []; code = plain opcodes.ALOAD_0 ∷ plain opcodes.ALOAD_1 ∷ plain opcodes.ILOAD_2 ∷ calls opcodes.INVOKESPECIAL (codes "java/lang/Enum") (codes "<init>") (codes "(Ljava/lang/String;I)V") ∷ plain opcodes.RETURN ∷ [] }) }
+          ∷ method (codes "values") (codes "()[LColor;") 1 0
+          (Row (rows.OfField opcodes.GETSTATIC (codes "Color") (codes "$VALUES") (codes "[LColor;"))
+          ∷ calls opcodes.INVOKEVIRTUAL (codes "[LColor;") (codes "clone") (codes "()Ljava/lang/Object;")
+          ∷ Row (rows.OfClass opcodes.CHECKCAST (codes "[LColor;")) ∷ plain opcodes.ARETURN ∷ []) []
+          ∷ method (codes "valueOf") (codes "(Ljava/lang/String;)LColor;") 2 1
+          (OfKind opcodes.LDC_W (codes "Color") operands.Pool 3 ∷ plain opcodes.ALOAD_0
+          ∷ calls opcodes.INVOKESTATIC (codes "java/lang/Enum") (codes "valueOf") (codes "(Ljava/lang/Class;Ljava/lang/String;)Ljava/lang/Enum;")
+          ∷ Row (rows.OfClass opcodes.CHECKCAST (codes "Color")) ∷ plain opcodes.ARETURN ∷ []) [] ∷ [];
+    })
+
+abbrev pub enumerates : List ClassFile
+enumerates =
+    runs 2 1
+    (out ∷ loads (codes "GREEN") ∷ calls opcodes.INVOKESTATIC (codes "Color") (codes "valueOf") (codes "(Ljava/lang/String;)LColor;")
+    ∷ calls opcodes.INVOKEVIRTUAL (codes "Color") (codes "ordinal") (codes "()I") ∷ prints (codes "(I)V")
+    ∷ out ∷ calls opcodes.INVOKESTATIC (codes "Color") (codes "values") (codes "()[LColor;") ∷ plain opcodes.ARRAYLENGTH ∷ prints (codes "(I)V")
+    ∷ plain opcodes.RETURN ∷ []) [] ++ colours ∷ []
+
+-- the names of fields: of objects of a class by slot, and of static fields by slot; and those of classes by their numbers
+abbrev name_in : Option (Numbered Field) → List ℕ
+name_in None = []
+name_in (Some field) = or_none (text_at field.pool field.member.name)
+
+abbrev pub field_names : ℕ → List (List ℕ)
+field_names class = map (λ number. name_in (slice_get (fields_of library) number)) (object_fields library class)
+
+abbrev pub static_names : Linked → List ℕ → List (List ℕ)
+static_names program slots = map (λ slot. name_in (static_at program slot)) slots
+
+abbrev pub class_names : List ℕ → List (List ℕ)
+class_names numbers = map (λ number. or_none (option_map name_of (slice_get library number))) numbers

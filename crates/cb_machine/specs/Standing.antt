@@ -1,14 +1,14 @@
 -- Where a machine stands at an instruction, what the instruction takes from the operand stack, and how it goes on (JVMS §2.6).
 use Rattle.std.specs.Prelude.{ℕ, Bool, true, false, List, [], ◌∷◌, Option, Some, None, option_map}
-use Rattle.cb_plain.specs.declared.value.Value.{Value}
-use Rattle.cb_shapes.specs.declared.sort.Sort.{Sort}
-use Rattle.cb_shapes.specs.declared.sort.Sort.TheVariants as sorts
 use Rattle.cb_link.specs.Named.{named}
 use Rattle.cb_link.specs.declared.named.Named.{Named}
+use Rattle.cb_plain.specs.declared.value.Value.{Value}
+use Rattle.cb_plain.specs.State.{Frame, MethodFrame, OfMethod, State}
+use Rattle.cb_plain.specs.Updates.{with_frames}
+use Rattle.cb_shapes.specs.declared.sort.Sort.{Sort}
+use Rattle.cb_shapes.specs.declared.sort.Sort.TheVariants as sorts
 use Rattle.cb_machine.specs.Machine.{Machine}
 use Rattle.cb_machine.specs.Plans.{Plan, leaving, with_left}
-use Rattle.cb_machine.specs.State.{Frame, MethodFrame, OfMethod, State}
-use Rattle.cb_machine.specs.Updates.{with_frames}
 use Rattle.cb_machine.specs.Values.{sort_of}
 
 -- the frame of the method that runs, the frames below it, and the place of the instruction behind this one, if there is one

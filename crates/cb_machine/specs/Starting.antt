@@ -4,17 +4,18 @@ use Rattle.std.specs.List.{fold, range_with_len}
 use Rattle.cb_kinds.specs.declared.basic.Basic.{Basic}
 use Rattle.cb_link.specs.Program.{Linked}
 use Rattle.cb_link.specs.Slots.{static_basic, statics}
+use Rattle.cb_plain.specs.declared.class_state.ClassState.{ClassState}
+use Rattle.cb_plain.specs.declared.class_state.ClassState.TheVariants.{Done, Untouched}
 use Rattle.cb_plain.specs.declared.value.Value.{Value}
 use Rattle.cb_plain.specs.declared.value.Value.TheVariants.{Ref}
-use Rattle.cb_machine.specs.Boxes.{small_chars, small_numbers}
+use Rattle.cb_plain.specs.State.{Content, Reference, Roots, State, Tables, small_chars, small_numbers}
+use Rattle.cb_plain.specs.Updates.{with_argument, with_static}
 use Rattle.cb_machine.specs.Initialising.{own_statics}
 use Rattle.cb_machine.specs.Library as library
 use Rattle.cb_machine.specs.Machine.{Machine, kind_of_site}
 use Rattle.cb_machine.specs.Plans.{Plan, leaving, made, with_left, with_one}
 use Rattle.cb_machine.specs.Sites as sites
-use Rattle.cb_machine.specs.State.{ClassState, Content, Done, Reference, Roots, State, Tables, Untouched}
 use Rattle.cb_machine.specs.Strings.{with_string}
-use Rattle.cb_machine.specs.Updates.{with_argument, with_static}
 use Rattle.cb_machine.specs.Values.{blank_value, null}
 
 -- the library's classes are ready, and no other is touched

@@ -2,7 +2,10 @@
 use Rattle.std.specs.Prelude.{ℕ, List, [], ◌∷◌, Option, Some, None, option_and_then, option_map, ◌==◌, if◌then◌else◌, zero, suc}
 use Rattle.cb_insn.specs.declared.insn.Operand.{Operand}
 use Rattle.cb_link.specs.Named.{behind_in, code_at, insn_in}
+use Rattle.cb_plain.specs.declared.want.Want.{Want}
 use Rattle.cb_plain.specs.declared.value.Value.TheVariants.{Ref}
+use Rattle.cb_plain.specs.State.{Frame, Initialising, MethodFrame, OfMethod, State}
+use Rattle.cb_plain.specs.Updates.{with_argument}
 use Rattle.cb_shapes.specs.Shapes.{action_of}
 use Rattle.cb_shapes.specs.declared.action.Action.{Action}
 use Rattle.cb_shapes.specs.declared.action.Action.TheVariants as actions
@@ -11,17 +14,15 @@ use Rattle.cb_machine.specs.Branching.{branches, switches}
 use Rattle.cb_machine.specs.Calling.{invokes_interface, invokes_special, invokes_static, invokes_virtual, returns}
 use Rattle.cb_machine.specs.Computing.{computes, loads_constant, loads_null, shuffles}
 use Rattle.cb_machine.specs.Creating.{makes_arrays, makes_object}
-use Rattle.cb_machine.specs.Depth.{entered_from}
+use Rattle.cb_machine.specs.Entering.{entered_from}
 use Rattle.cb_machine.specs.Fields.{gets_field, gets_static_field, puts_field, puts_static_field}
 use Rattle.cb_machine.specs.Initialising.{initialising, once_ready}
 use Rattle.cb_machine.specs.Locals.{increases, loads, stores}
 use Rattle.cb_machine.specs.Machine.{Machine, body_of}
-use Rattle.cb_machine.specs.Plans.{Plan, Want, asked, made}
+use Rattle.cb_machine.specs.Plans.{Plan, asked, made}
 use Rattle.cb_machine.specs.Standing.{Now}
-use Rattle.cb_machine.specs.State.{Frame, Initialising, MethodFrame, OfMethod, State}
 use Rattle.cb_machine.specs.Testing.{asks_kind, casts, throws_object}
 use Rattle.cb_machine.specs.Unwinding.{unwinding}
-use Rattle.cb_machine.specs.Updates.{with_argument}
 
 -- an instruction does what its shape says
 abbrev pub done : Now → Operand → Action → Option Plan

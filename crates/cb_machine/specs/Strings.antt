@@ -1,11 +1,12 @@
 -- Strings, those of them that are constants, and class objects (JVMS §5.1, §6.5 ldc; JLS §3.10.5).
 use Rattle.std.specs.Prelude.{ℕ, pos, List, [], ◌∷◌, map, slice_get, zero, suc}
 use Rattle.cb_link.specs.Numbers.{or_none}
+use Rattle.cb_plain.specs.declared.table.Table.TheVariants as tables
+use Rattle.cb_plain.specs.State.{Content, Number, Reference}
+use Rattle.cb_plain.specs.Updates.{with_entry}
 use Rattle.cb_machine.specs.Machine.{Machine, kind_of_site, listed}
 use Rattle.cb_machine.specs.Plans.{Plan, with_left, with_one}
 use Rattle.cb_machine.specs.Sites.{class_objects, constant_characters, constant_strings}
-use Rattle.cb_machine.specs.State.{Content, Number, Reference}
-use Rattle.cb_machine.specs.Updates.{with_item, with_tables}
 
 -- a plan, and the serial of an object that it has placed or that was there
 pub record Placed : Type 0 where
@@ -25,8 +26,7 @@ with_string machine site characters units plan =
 -- one object of its own for each text of the program
 abbrev entered_constant : ℕ → Placed → Placed
 entered_constant text placed =
-    let tables = placed.plan.left.roots.tables in
-    record { serial = placed.serial; plan = with_left placed.plan (with_tables placed.plan.left (record { constants = with_item tables.constants text placed.serial; classes = tables.classes; integers = tables.integers; longs = tables.longs; characters = tables.characters; booleans = tables.booleans })) }
+    record { serial = placed.serial; plan = with_left placed.plan (with_entry placed.plan.left tables.Constants text placed.serial) }
 
 abbrev constant_or_new : Machine → ℕ → Plan → ℕ → Placed
 constant_or_new machine text plan zero =
@@ -39,8 +39,7 @@ constant_string machine text plan = constant_or_new machine text plan (listed pl
 -- and one for the class of each kind, which holds the kind's number
 abbrev entered_class : ℕ → Placed → Placed
 entered_class kind placed =
-    let tables = placed.plan.left.roots.tables in
-    record { serial = placed.serial; plan = with_left placed.plan (with_tables placed.plan.left (record { constants = tables.constants; classes = with_item tables.classes kind placed.serial; integers = tables.integers; longs = tables.longs; characters = tables.characters; booleans = tables.booleans })) }
+    record { serial = placed.serial; plan = with_left placed.plan (with_entry placed.plan.left tables.ClassObjects kind placed.serial) }
 
 abbrev class_or_new : Machine → ℕ → Plan → ℕ → Placed
 class_or_new machine kind plan zero =

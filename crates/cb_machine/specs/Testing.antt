@@ -5,13 +5,13 @@ use Rattle.cb_link.specs.declared.named.Named.{Named}
 use Rattle.cb_link.specs.declared.named.Named.TheVariants as meanings
 use Rattle.cb_plain.specs.declared.value.Value.{Value}
 use Rattle.cb_plain.specs.declared.value.Value.TheVariants.{Int, Ref}
+use Rattle.cb_plain.specs.Updates.{object_at, with_pending}
 use Rattle.cb_shapes.specs.declared.sort.Sort.TheVariants as sorts
 use Rattle.cb_machine.specs.Arrays.{with_object}
 use Rattle.cb_machine.specs.Plans.{Plan, leaving}
 use Rattle.cb_machine.specs.Sites.{class_cast}
 use Rattle.cb_machine.specs.Standing.{Now, leaves, taken, named_here}
 use Rattle.cb_machine.specs.Throwing.{throws}
-use Rattle.cb_machine.specs.Updates.{object_at, with_pending}
 
 -- whether the object of a serial is an instance of a kind: null is none
 abbrev pub is_instance : Now → ℕ → ℕ → Option Bool

@@ -1,5 +1,4 @@
 -- Natives that give a new String (Java SE 8 API, java.lang).
-use Rattle.cb_machine.specs.Values.{natural}
 use Rattle.std.specs.Prelude.{ℤ, pos, ℕ, ◌-◌, false, List, [], ◌∷◌, ◌++◌, map, take, drop, length, codes, Option, None, option_and_then, slice_get, nat_le, zero, suc, ◌==◌, ◌&&◌, if◌then◌else◌}
 use Rattle.std.specs.Fmt.{radix_digits, signed_decimal}
 use Rattle.cb_arith.specs.Bits.{low_bits}
@@ -10,9 +9,10 @@ use Rattle.cb_link.specs.Program.{Linked}
 use Rattle.cb_names.specs.Signs.{slash}
 use Rattle.cb_plain.specs.declared.value.Value.{Value}
 use Rattle.cb_plain.specs.declared.value.Value.TheVariants.{Int, Long, Ref}
+use Rattle.cb_plain.specs.State.{Object}
+use Rattle.cb_machine.specs.Values.{natural}
 use Rattle.cb_machine.specs.Performing.{Call, Performed, built_text, gives_text, on_number, on_object, on_text, stops, units_of}
 use Rattle.cb_machine.specs.Sites.{string_index}
-use Rattle.cb_machine.specs.State.{Object}
 
 -- the words for numbers, units and truth. A boolean counts by its lowest bit, a char by its low 16
 abbrev pub digits : ℤ → List ℕ

@@ -1,9 +1,9 @@
 -- Exceptions of the machine and its natives: an object at the site of its class, which becomes pending. Frames stay as they are.
 use Rattle.std.specs.Prelude.{ℕ, List, [], ◌∷◌}
+use Rattle.cb_plain.specs.State.{Content, Reference, State}
+use Rattle.cb_plain.specs.Updates.{with_pending}
 use Rattle.cb_machine.specs.Machine.{Machine, kind_of_site}
 use Rattle.cb_machine.specs.Plans.{Plan, leaving, with_left, with_one}
-use Rattle.cb_machine.specs.State.{Content, Reference, State}
-use Rattle.cb_machine.specs.Updates.{with_pending}
 
 -- what an exception holds: a message, a cause, and what was suppressed, which is nothing at first. These are the fields of Throwable, and
 -- the library's exceptions have no more

@@ -5,15 +5,16 @@ use Rattle.cb_classfile.specs.declared.handler.Handler.{Handler}
 use Rattle.cb_link.specs.Named.{handlers_at, kind_at}
 use Rattle.cb_link.specs.Program.{Linked}
 use Rattle.cb_link.specs.Subtypes.{instance}
+use Rattle.cb_plain.specs.declared.class_state.ClassState.TheVariants.{Failed}
 use Rattle.cb_plain.specs.declared.value.Value.TheVariants.{Ref}
+use Rattle.cb_plain.specs.State.{Frame, Initialising, MethodFrame, OfMethod, State}
+use Rattle.cb_plain.specs.Updates.{object_at, with_class, with_frames, with_pending}
 use Rattle.cb_machine.specs.Library.{error}
 use Rattle.cb_machine.specs.Machine.{Machine, class_declaring}
 use Rattle.cb_machine.specs.Plans.{Plan, leaving}
 use Rattle.cb_machine.specs.Sites.{exception_in_initializer}
 use Rattle.cb_machine.specs.Standing.{at_place}
-use Rattle.cb_machine.specs.State.{Failed, Frame, Initialising, MethodFrame, OfMethod, State}
 use Rattle.cb_machine.specs.Throwing.{throwing_with}
-use Rattle.cb_machine.specs.Updates.{object_at, with_class, with_frames, with_pending}
 
 -- a handler takes an exception of a kind at a place: one without a class takes all
 abbrev is_caught_as : Linked → ℕ → Option ℕ → Bool

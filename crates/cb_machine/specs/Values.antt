@@ -7,11 +7,11 @@ use Rattle.cb_kinds.specs.declared.basic.Basic.{Basic}
 use Rattle.cb_kinds.specs.declared.basic.Basic.TheVariants as basics
 use Rattle.cb_plain.specs.declared.value.Value.{Value}
 use Rattle.cb_plain.specs.declared.value.Value.TheVariants.{Int, Long, Ref}
+use Rattle.cb_plain.specs.State.{Content, Number, Reference}
 use Rattle.cb_shapes.specs.declared.sort.Sort.{Sort}
 use Rattle.cb_shapes.specs.declared.sort.Sort.TheVariants as sorts
 use Rattle.cb_shapes.specs.Sorts.{category_of}
 use Rattle.cb_shapes.specs.declared.sort.Category.{Category}
-use Rattle.cb_machine.specs.State.{Content, Number, Reference}
 
 -- the sort of a value, and its category
 abbrev pub sort_of : Value → Sort
@@ -46,10 +46,6 @@ abbrev pub blank_value : Basic → Value
 blank_value basics.Long = Long (pos 0)
 blank_value (basics.Reference kind) = null
 blank_value other = Int (pos 0)
-
-abbrev pub blank : Bool → Content
-blank true = Reference 0
-blank false = Number (pos 0)
 
 -- what is kept of a value in a field or an element of a type: of a boolean the lowest bit, of bytes, chars and shorts the low bits
 abbrev pub kept_int : Basic → ℤ → ℤ
@@ -87,8 +83,3 @@ with_number one other = None
 abbrev pub numbers_of : List Value → Option (List ℤ)
 numbers_of [] = Some []
 numbers_of (value ∷ held) = with_number (number_of value) (numbers_of held)
-
--- a value in the slots of local variables: a long takes two, of which the second holds the int 0
-abbrev pub slots_of : Value → List Value
-slots_of (Long number) = Long number ∷ Int (pos 0) ∷ []
-slots_of other = other ∷ []

@@ -16,6 +16,6 @@ mod law;
 mod operator;
 mod outcome;
 
-pub use law::{small_failures, small_requests, small_runs};
+pub use law::{numbers_as_said, small_failures, small_requests, small_runs, small_switches};
 pub use operator::Operator;
 pub use outcome::Outcome;

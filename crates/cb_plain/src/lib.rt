@@ -1,18 +1,27 @@
-//! Plain types that the layers of the machine share: lists as contracts see them, names, values, shapes of objects, and
-//! want of memory.
+//! Plain types that the layers of the machine share: lists as contracts see them, names, values, shapes of objects, requests for room, and
+//! want of memory. `specs/` has besides the state of a machine (`State`), roots and states with one thing changed (`Roots`, `Updates`), the
+//! frame of a method that is entered (`Depth`), and what can be reached (`Reach`).
 //!
 //! No clause says that memory is to be had: that `push`, `with_capacity` and `Name::of` don't always give up is shown by
 //! tests alone. Nor does a clause speak of the room that `with_capacity` takes.
 #![tactic(auto)]
 
+mod class_state;
 mod list;
 mod memory;
 mod name;
+mod request;
 mod shape;
+mod table;
 mod value;
+mod want;
 
-pub use list::{List, Marks, Numbers};
+pub use class_state::ClassState;
+pub use list::{List, Marks, Numbers, Places};
 pub use memory::OutOfMemory;
 pub use name::{Name, Names};
+pub use request::Request;
 pub use shape::{Shape, Shapes};
+pub use table::Table;
 pub use value::Value;
+pub use want::Want;

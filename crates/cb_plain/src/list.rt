@@ -1,5 +1,5 @@
 // A list that contracts see as its items.
-ghost use Rattle.std.specs.Prelude.{◌≡◌, ◌^◌, ◌<◌, ◌↔◌, [], ◌∷◌, ◌++◌, length, slice_get, IsTrue, IfOk, OnOk, OnErr, Some};
+ghost use Rattle.std.specs.Prelude.{◌≡◌, ◌^◌, ◌<◌, ◌↔◌, [], ◌∷◌, ◌++◌, length, slice_get, slice_set, IsTrue, IfOk, OnOk, OnErr, Some};
 ghost use Rattle.std.specs.Iterator.Runs.{EveryRun, ItemsMapTo};
 ghost use Rattle.std.specs.Slice.Iter.{iter_rest, iter_steps};
 
@@ -19,6 +19,9 @@ pub type Numbers = List<u32>;
 
 /// A list of marks.
 pub type Marks = List<bool>;
+
+/// A list of places in a store.
+pub type Places = List<u64>;
 
 impl<T> Model for List<T> {
     ghost use Rattle.std.specs.Prelude.{List as Items};
@@ -78,6 +81,16 @@ impl<T> List<T> {
     {
         self.items.push(item)?;
         Ok(())
+    }
+
+    /// Puts another item at a place below the length.
+    pub fn set(&mut self, i: usize, item: T)
+    where
+        T: Drop,
+        requires { i < length self.old }
+        ensures { self.new ≡ slice_set self.old i item }
+    {
+        self.items[i] = item;
     }
 
     /// All items, in order.

@@ -1,21 +1,9 @@
-//! The tests of the other crates, each in the file of its crate: a crate that has tests of its own is proved twice. The cases of the whole
-//! machine are those of `cb_cases`.
+//! The tests of the crates that don't read or write whole class records, each in the file of its crate: a crate that has tests of its own
+//! is proved twice. Those of class records and assembly are in `cb_record_tests`, and the cases of the whole machine in `cb_cases`.
 #![tactic(auto)]
 
 #[cfg(test)]
 mod arith;
-#[cfg(test)]
-mod asm;
-#[cfg(test)]
-mod asm_line;
-#[cfg(test)]
-mod asm_list;
-#[cfg(test)]
-mod asm_record;
-#[cfg(test)]
-mod classfile;
-#[cfg(test)]
-mod core_records;
 #[cfg(test)]
 mod first_form;
 #[cfg(test)]
@@ -35,10 +23,6 @@ mod persistent;
 #[cfg(test)]
 mod plain;
 #[cfg(test)]
-mod runner;
-#[cfg(test)]
 mod shapes;
 #[cfg(test)]
 mod text;
-#[cfg(test)]
-mod writer;

@@ -1,5 +1,6 @@
 -- The state of a machine: what runs, what there is, and what has come in and gone out (JVMS §2.5, §2.6, §5.5).
-use Rattle.std.specs.Prelude.{ℤ, ℕ, List, Option}
+use Rattle.std.specs.Prelude.{ℤ, pos, ℕ, ◌+◌, Bool, true, false, List, Option}
+use Rattle.cb_plain.specs.declared.class_state.ClassState.{ClassState}
 use Rattle.cb_plain.specs.declared.value.Value.{Value}
 
 -- a method that runs: its place, how many slots it has room for, its local variables, of which a long takes two, and its operand stack,
@@ -16,13 +17,6 @@ pub data Frame : Type 0 where
   OfMethod : MethodFrame → Frame
   Initialising : (class place : ℕ) → Frame
 
--- how far the initialisation of a class is
-pub data ClassState : Type 0 where
-  Untouched : ClassState
-  Busy : ClassState
-  Done : ClassState
-  Failed : ClassState
-
 -- objects that are placed once, by what they stand for, 0 where there is none yet: strings by texts, class objects by kinds, and boxes
 -- from the least number that has one
 pub record Tables : Type 0 where
@@ -32,6 +26,13 @@ pub record Tables : Type 0 where
   pub longs : List ℕ
   pub characters : List ℕ
   pub booleans : List ℕ
+
+-- how many ints and longs have one box each, from -128 on, and how many chars, from 0 on (JLS §5.1.7)
+abbrev pub small_numbers : ℕ
+small_numbers = 256
+
+abbrev pub small_chars : ℕ
+small_chars = 128
 
 -- what names objects from outside: the frames, the topmost first; the pending exception, 0 where there is none; the static fields by
 -- slot; the tables; and the array of arguments while it waits for `main`, else 0. With how far each class is
@@ -48,10 +49,19 @@ pub data Content : Type 0 where
   Number : ℤ → Content
   Reference : ℕ → Content
 
+-- what a word holds at first, by whether it holds a reference
+abbrev pub blank : Bool → Content
+blank true = Reference 0
+blank false = Number (pos 0)
+
 pub record Object : Type 0 where
   pub site : ℕ
   pub kind : ℕ
   pub contents : List Content
+
+-- the words that an object takes: three of its header and those of its contents
+abbrev pub words_of : ℕ → ℕ
+words_of size = 3 + size
 
 -- the object of a serial stands at the place one below it, where it is kept. Of the input there is what is left
 pub record State : Type 0 where

@@ -1,9 +1,10 @@
 -- What can be reached: from the roots along references in objects.
-use Rattle.std.specs.Prelude.{◌≡◌, ℕ, ◌+◌, List, [], ◌∷◌, ◌++◌, Some, slice_get, zero, suc, ◌<◌}
+use Rattle.std.specs.Prelude.{◌≡◌, ℕ, List, [], ◌∷◌, ◌++◌, Some, zero, suc, ◌<◌, Option}
 use Rattle.std.specs.List.{Contains, flat_map}
 use Rattle.cb_plain.specs.declared.value.Value.{Value}
 use Rattle.cb_plain.specs.declared.value.Value.TheVariants as values
-use Rattle.cb_machine.specs.State.{Frame, Initialising, Object, OfMethod, Reference, Roots, State, Tables}
+use Rattle.cb_plain.specs.Updates.{object_in}
+use Rattle.cb_plain.specs.State.{Frame, Initialising, Object, OfMethod, Reference, Roots, Tables}
 
 -- a serial, where it isn't null; and the references in values, whatever their types are said to be
 abbrev pub unless_null : ℕ → List ℕ
@@ -31,15 +32,13 @@ root_references roots =
     flat_map frame_references roots.frames ++ references_in roots.statics ++ table_references roots.tables ++ unless_null roots.pending ++ unless_null roots.argument
 
 -- an object points to another where a word of it holds its serial, which isn't null
-pub record Points (state : State) (one other : ℕ) : Type 0 where
+pub record Points (objects : List (Option Object)) (one other : ℕ) : Type 0 where
   pub object : Object
-  pub place : ℕ
-  pub is : one ≡ place + 1
-  pub there : slice_get state.objects place ≡ Some (Some object)
+  pub there : object_in objects one ≡ Some object
   pub holds : Contains object.contents (Reference other)
   pub is_some : 0 < other
 
 -- an object is reached where a path leads to it from a root
-pub data IsReached (state : State) : ℕ → Type 0 where
-  AtRoot : (serial : ℕ) → Contains (root_references state.roots) serial → IsReached state serial
-  Behind : (one other : ℕ) → IsReached state one → Points state one other → IsReached state other
+pub data IsReached (roots : Roots) (objects : List (Option Object)) : ℕ → Type 0 where
+  AtRoot : (serial : ℕ) → Contains (root_references roots) serial → IsReached roots objects serial
+  Behind : (one other : ℕ) → IsReached roots objects one → Points objects one other → IsReached roots objects other

@@ -1,0 +1,6 @@
+pub mod Depth
+pub mod Reach
+pub mod Requests
+pub mod Roots
+pub mod State
+pub mod Updates
