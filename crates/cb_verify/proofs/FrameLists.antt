@@ -1,8 +1,8 @@
 -- Lists of types that are gone through from their front.
-use Rattle.std.proofs.Common.{◌≡◌, ◌∙◌, ap, ap₂, refl, sym, arith, ℕ, zero, suc, ◌+◌, ◌<◌, ◌≤◌, Bool, true, false, cond, ◌&&◌, ◌||◌, List, [], ◌∷◌, ◌++◌, Option, Some, None, append_assoc, drop, length, length-append, length-drop, map, slice_set, take}
+use Rattle.std.proofs.Common.{◌≡◌, ◌∙◌, ap, ap₂, sym, arith, ℕ, ◌+◌, ◌<◌, ◌≤◌, Bool, true, false, cond, ◌&&◌, ◌||◌, List, [], ◌∷◌, ◌++◌, Option, Some, None, append_assoc, drop, length, length-append, length-drop, map, slice_set, take}
 use Rattle.std.specs.Cmp.Lexicographic.{pointwise}
 use Rattle.std.specs.List.{list_any, slice_get}
-use Rattle.std.proofs.lemmas.List.{append-nil, drop-drop, drop_more, get_or-take, length-map, length-take, length-take-le, map-append, set_at, take_all, take_more}
+use Rattle.std.proofs.lemmas.List.{append-nil, drop-drop, get_or-take, length-map, length-take, length-take-le, map-append, set_at, take_all, take_more}
 use Rattle.std.proofs.lemmas.Option.{get_or_from_slice_get, slice_get-get_or, slice_get_within}
 use Rattle.cb_shapes.specs.declared.sort.Category.{Category}
 use Rattle.cb_shapes.specs.declared.sort.Category.TheVariants.{One}

@@ -1,11 +1,11 @@
 -- Values in local variables, when one is added at the end or taken off.
-use Rattle.std.proofs.Common.{◌≡◌, ◌∙◌, ap, sym, refl, arith, ℕ, zero, suc, ◌+◌, ◌-◌, ◌<◌, ◌≤◌, Bool, true, false, List, [], ◌∷◌, ◌++◌, length, slice_set, replicate, append_assoc, length-append, Option, Some, None, nat_le, nat_lt, cond, ◌||◌}
+use Rattle.std.proofs.Common.{◌≡◌, ◌∙◌, ap, sym, refl, arith, ℕ, suc, ◌+◌, ◌-◌, ◌<◌, ◌≤◌, Bool, true, false, List, [], ◌∷◌, ◌++◌, length, slice_set, replicate, append_assoc, length-append, Some, None, nat_le, nat_lt, cond, ◌||◌}
 use Rattle.std.specs.List.{flat_map}
 use Rattle.std.proofs.lemmas.Bool.{cond-true, cond-false, le-leb, leb-false, leb-true, lt-leb, lt-ltb}
 use Rattle.std.proofs.lemmas.List.{append-nil, length-replicate, set_at}
 use Rattle.std.proofs.lemmas.Option.{cond_some}
 use Rattle.cb_verify.specs.declared.verification_type.VerificationType.{VerificationType}
-use Rattle.cb_verify.specs.declared.verification_type.VerificationType.TheVariants.{Top, Int, Long, Null, This, Object, New}
+use Rattle.cb_verify.specs.declared.verification_type.VerificationType.TheVariants.{Top, Long, This}
 use Rattle.cb_verify.specs.Frames.{has_this, height, in_words, is_this, laid}
 use Rattle.cb_verify.specs.Laid.{this_count}
 use Rattle.cb_verify.specs.Types.{words}

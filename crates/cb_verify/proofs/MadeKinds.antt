@@ -1,13 +1,12 @@
 -- The kind of the objects of an instruction's site is that of what it makes.
-use Rattle.std.proofs.Common.{◌≡◌, refl, ap, sym, ◌∙◌, arith, ℕ, zero, suc, ◌+◌, List, [], ◌∷◌, ◌++◌, length, map, Option, Some, option_map}
+use Rattle.std.proofs.Common.{◌≡◌, ap, sym, ◌∙◌, arith, ℕ, suc, ◌+◌, List, [], ◌∷◌, ◌++◌, length, map, Some, option_map}
 use Rattle.std.proofs.lemmas.Option.{slice_get-map}
 use Rattle.std.specs.List.{slice_get}
 use Rattle.cb_kinds.specs.Basics.{kind_number}
 use Rattle.cb_link.specs.declared.linked.Site.{Site}
 use Rattle.cb_link.specs.Having.{site_kinds}
-use Rattle.cb_link.specs.Named.{IsSite, made_at, site_of}
+use Rattle.cb_link.specs.Named.{IsSite, made_at}
 use Rattle.cb_link.specs.Program.{Linked}
-use Rattle.cb_verify.specs.declared.verification_type.VerificationType.{VerificationType}
 use Rattle.cb_verify.specs.declared.verification_type.VerificationType.TheVariants.{Object}
 
 get_behind : {X : Type 0} (front back : List X) (i : ℕ) → slice_get (front ++ back) (length front + i) ≡ slice_get back i

@@ -1,10 +1,9 @@
 -- The words of what a member takes, counted one after the other.
-use Rattle.std.proofs.Common.{◌≡◌, ap, ◌∙◌, arith, ℕ, zero, suc, ◌+◌, ◌≤◌, ◌<◌, Bool, false, ◌==◌, nat_eq, List, [], ◌∷◌, ◌++◌, length, drop, map, Some}
+use Rattle.std.proofs.Common.{◌≡◌, ap, ◌∙◌, arith, ℕ, zero, suc, ◌+◌, ◌≤◌, ◌<◌, false, ◌==◌, nat_eq, List, [], ◌∷◌, length, drop, map, Some}
 use Rattle.std.proofs.lemmas.Bool.Decides.{nat_tests}
 use Rattle.std.specs.List.{slice_get}
 use Rattle.cb_kinds.specs.declared.basic.Basic.{Basic}
 use Rattle.cb_verify.specs.declared.verification_type.VerificationType.{VerificationType}
-use Rattle.cb_verify.specs.declared.verification_type.VerificationType.TheVariants.{Object}
 use Rattle.cb_verify.specs.Calls.{on_object}
 use Rattle.cb_verify.specs.Frames.{height}
 use Rattle.cb_verify.specs.Types.{type_of, words}

@@ -1,17 +1,15 @@
 -- Methods of a program by their numbers.
-use Rattle.std.proofs.Common.{◌≡◌, ◌∙◌, ap, refl, sym, arith, ℕ, zero, suc, ◌+◌, ◌<◌, Bool, not, ◌&&◌, List, [], ◌∷◌, ◌++◌, Option, Some, None, length, map}
+use Rattle.std.proofs.Common.{◌≡◌, ◌∙◌, ap, refl, sym, arith, ℕ, zero, suc, ◌+◌, Bool, not, ◌&&◌, List, [], ◌∷◌, ◌++◌, Option, Some, None, map}
 use Rattle.std.specs.Prelude.{option_and_then, option_map, slice_get, ◌==◌}
 use Rattle.std.specs.List.{range_with_len}
 use Rattle.cb_classfile.specs.declared.body.Body.{Body}
-use Rattle.cb_classfile.specs.declared.class.ClassFile.{ClassFile}
 use Rattle.cb_classfile.specs.declared.method.Method.{Method}
-use Rattle.cb_classfile.specs.Pool.{text_at}
 use Rattle.cb_link.specs.declared.linked.LinkedMethod.{LinkedMethod}
 use Rattle.cb_link.specs.Named.{code_at, code_in, code_of}
-use Rattle.cb_link.specs.Numbers.{Numbered, acc_static, has_flag, methods_of, or_none}
-use Rattle.cb_link.specs.Program.{Linked, linked_method}
+use Rattle.cb_link.specs.Numbers.{Numbered, acc_static, has_flag, methods_of}
+use Rattle.cb_link.specs.Program.{Linked}
 use Rattle.cb_link.specs.Resolving.{object}
-use Rattle.cb_verify.specs.Within.{Within, is_init, method_at, of_class, text_in, with_body, within}
+use Rattle.cb_verify.specs.Within.{is_init, method_at, of_class, text_in, with_body, within}
 
 -- one more number, and what is taken of each
 range_more : (first count : ℕ) → range_with_len first (suc count) ≡ range_with_len first count ++ (first + count) ∷ []

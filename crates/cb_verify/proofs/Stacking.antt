@@ -1,5 +1,5 @@
 -- Types on the operand stack, one after the other.
-use Rattle.std.proofs.Common.{◌≡◌, ◌∙◌, ap, sym, refl, arith, ℕ, ◌+◌, ◌<◌, ◌≤◌, Bool, true, false, List, [], ◌∷◌, ◌++◌, append_assoc, drop, get_or, length, take, Option, Some, None, option_map, nat_le, cond}
+use Rattle.std.proofs.Common.{◌≡◌, ◌∙◌, ap, sym, refl, arith, ℕ, ◌+◌, ◌<◌, ◌≤◌, Bool, true, false, List, [], ◌∷◌, ◌++◌, drop, get_or, length, take, Option, Some, None, option_map, nat_le, cond}
 use Rattle.std.proofs.lemmas.Bool.{cond-true, cond-false, leb-false, lt-leb}
 use Rattle.std.proofs.lemmas.List.{take-append-drop, take_more, take_all}
 use Rattle.std.proofs.lemmas.Option.{cond_some, same_Some}
@@ -7,7 +7,6 @@ use Rattle.cb_verify.specs.declared.verification_type.VerificationType.{Verifica
 use Rattle.cb_verify.specs.Expansion.{frame_of, reversed}
 use Rattle.cb_verify.specs.Frames.{Frame, has_this, height, is_legal, laid, with_stack}
 use Rattle.cb_verify.specs.Laid.{IsLaid, Laid, bare}
-use Rattle.cb_verify.specs.Types.{words}
 use Rattle.cb_verify.specs.Within.{Within}
 use Rattle.cb_verify.proofs.LaidValues.{height-append}
 

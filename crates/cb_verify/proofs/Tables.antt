@@ -4,7 +4,7 @@ use Rattle.std.specs.Prelude.{option_and_then, slice_get, if◌then◌else◌}
 use Rattle.std.specs.List.{find}
 use Rattle.std.proofs.lemmas.Bool.Decides.{nat_tests}
 use Rattle.std.proofs.lemmas.Option.{slice_get_past, slice_get_read}
-use Rattle.cb_verify.specs.Tabled.{below, entered_turn, turn_in}
+use Rattle.cb_verify.specs.Tabled.{below, entered_turn}
 use Rattle.cb_verify.proofs.Dropped.{drop_next}
 
 -- a number is that of an item where it is one of as many

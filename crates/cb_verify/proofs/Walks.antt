@@ -1,7 +1,7 @@
 -- What comes of a walk over instructions.
-use Rattle.std.proofs.Common.{◌≡◌, ◌∙◌, ap, ap₂, refl, sym, arith, ℕ, ◌+◌, ◌<◌, ◌≤◌, Bool, true, false, ◌&&◌, ◌||◌, not, List, [], ◌∷◌, ◌++◌, Option, Some, None, drop, get_or, length, map, min}
+use Rattle.std.proofs.Common.{◌≡◌, ◌∙◌, ap, ap₂, refl, sym, arith, ℕ, ◌+◌, ◌<◌, Bool, true, false, ◌||◌, not, List, [], ◌∷◌, ◌++◌, Option, Some, None, drop, get_or, length, map, min}
 use Rattle.std.specs.Prelude.{filter, if◌then◌else◌, ◌==◌}
-use Rattle.std.specs.List.{flat_map, list_any}
+use Rattle.std.specs.List.{list_any}
 use Rattle.std.proofs.lemmas.List.{append_assoc, drop_more}
 use Rattle.cb_insn.specs.declared.insn.Insn.{Insn}
 use Rattle.cb_verify.specs.declared.pass.Walk.{Walk}

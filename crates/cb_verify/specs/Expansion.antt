@@ -1,5 +1,5 @@
 -- The frames that a method declares, in full (JVMS §4.7.4, §4.10.1.4), and the one with which it begins (§4.10.1.6).
-use Rattle.std.specs.Prelude.{ℕ, ◌+◌, ◌-◌, Bool, true, false, List, [], ◌∷◌, ◌++◌, length, map, take, Option, Some, None, option_and_then, option_map, nat_le, ◌==◌, ◌&&◌, if◌then◌else◌}
+use Rattle.std.specs.Prelude.{ℕ, ◌+◌, ◌-◌, List, [], ◌∷◌, ◌++◌, length, map, take, Option, Some, None, option_and_then, option_map, nat_le, ◌==◌, if◌then◌else◌}
 use Rattle.std.specs.List.{find}
 use Rattle.cb_classfile.specs.declared.frame_form.FrameForm.{FrameForm}
 use Rattle.cb_classfile.specs.declared.frame_form.FrameForm.TheVariants as forms

@@ -1,10 +1,9 @@
 -- What an instruction leaves of the frame before it, where its rule is met (JVMS §4.10.1.9).
-use Rattle.std.specs.Prelude.{ℕ, Bool, true, false, List, [], ◌∷◌, ◌++◌, map, Option, Some, None, option_and_then, option_map, slice_get, not, ◌==◌, ◌||◌, ◌&&◌, if◌then◌else◌}
+use Rattle.std.specs.Prelude.{ℕ, Bool, true, false, List, [], ◌∷◌, Option, Some, None, option_and_then, option_map, slice_get, not, ◌==◌, ◌||◌, ◌&&◌, if◌then◌else◌}
 use Rattle.std.specs.List.{list_any}
 use Rattle.cb_insn.specs.declared.insn.Insn.{Insn}
 use Rattle.cb_hierarchy.specs.Classes.{listed}
 use Rattle.cb_kinds.specs.Kinds.{is_array}
-use Rattle.cb_kinds.specs.Texts.{same_text}
 use Rattle.cb_link.specs.Named.{code_at, insn_in, kind_at}
 use Rattle.cb_link.specs.Numbers.{or_none}
 use Rattle.cb_shapes.specs.declared.action.Action.{Action}

@@ -1,5 +1,5 @@
 -- What the member that an instruction names takes from the operand stack and gives, and what arrays hold (JVMS §4.3, §4.10.1.2).
-use Rattle.std.specs.Prelude.{ℕ, Bool, true, false, List, [], ◌∷◌, map, Option, Some, None, reverse, slice_get}
+use Rattle.std.specs.Prelude.{ℕ, Bool, true, false, List, [], map, Option, Some, None, reverse, slice_get}
 use Rattle.cb_hierarchy.specs.Classes.{listed}
 use Rattle.cb_kinds.specs.declared.basic.Basic.{Basic}
 use Rattle.cb_kinds.specs.declared.basic.Basic.TheVariants as basics
@@ -15,7 +15,7 @@ use Rattle.cb_shapes.specs.declared.elements.Elements.{Elements}
 use Rattle.cb_shapes.specs.declared.elements.Elements.TheVariants.{BooleansOrBytes, Chars, Shorts, Ints, Longs}
 use Rattle.cb_verify.specs.declared.verification_type.VerificationType.{VerificationType}
 use Rattle.cb_verify.specs.declared.verification_type.VerificationType.TheVariants.{Null, Object}
-use Rattle.cb_verify.specs.Types.{goes_to, type_of}
+use Rattle.cb_verify.specs.Types.{type_of}
 use Rattle.cb_verify.specs.Within.{Within}
 
 -- a field takes a value and gives one; a method takes its arguments, the last one on top, and gives its result, if it has one

@@ -1,8 +1,7 @@
 -- What instructions that name no member give for what they take (JVMS §4.10.1.9), by shape. Calls and fields are in Calls.antt,
 -- and those that do more to a frame in Leaving.antt.
-use Rattle.std.specs.Prelude.{ℕ, Bool, true, false, List, [], ◌∷◌, map, Option, Some, None, length, option_and_then, option_map, slice_get, nat_le, ◌==◌, ◌&&◌, if◌then◌else◌}
+use Rattle.std.specs.Prelude.{ℕ, Bool, true, false, List, [], ◌∷◌, Option, Some, None, length, option_and_then, option_map, slice_get, nat_le, ◌==◌, ◌&&◌, if◌then◌else◌}
 use Rattle.std.specs.List.{take_while}
-use Rattle.cb_hierarchy.specs.Classes.{listed}
 use Rattle.cb_kinds.specs.Basics.{kind_number}
 use Rattle.cb_names.specs.Signs.{bracket}
 use Rattle.cb_plain.specs.declared.value.Value.TheVariants as values

@@ -8,7 +8,6 @@ use Rattle.cb_classfile.specs.declared.method.Method.{Method}
 use Rattle.cb_classfile.specs.Pool.{text_at}
 use Rattle.cb_kinds.specs.declared.basic.Basic.{Basic}
 use Rattle.cb_kinds.specs.Texts.{same_text}
-use Rattle.cb_link.specs.declared.linked.LinkedMethod.{LinkedMethod}
 use Rattle.cb_link.specs.Having.{parameters_at}
 use Rattle.cb_link.specs.Named.{kind_at}
 use Rattle.cb_link.specs.Numbers.{acc_static, has_flag, methods_of, or_none}

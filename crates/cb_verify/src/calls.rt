@@ -5,6 +5,7 @@ ghost use Rattle.cb_verify.specs.Calls.{call_interface, call_on, call_special, c
 ghost use Rattle.cb_verify.specs.Frames.{height};
 ghost use Rattle.cb_verify.specs.Members.{given_types, taken_types};
 
+use crate::access::Access;
 use crate::exchange::put;
 use crate::member::Member;
 use crate::names::is_callable;
@@ -111,13 +112,16 @@ fn for_object(
 /// What `getfield` leaves.
 pub(crate) fn get_field(
     alloc: Global,
-    method: &Within<'_>,
+    access: &Access<'_>,
     index: u16,
-    member: &Member<'_>,
-    frame: &TypeFrame,
 ) -> Result<Option<TypeFrame>, OutOfMemory>
-    ensures { IfOk result (λ left. left ≡ get_field method.now index member.now frame.now) }
+    ensures { IfOk result (λ left. left ≡ get_field access.now.method.now index access.now.member.now access.now.frame.now) }
 {
+    let Access {
+        method,
+        member,
+        frame,
+    } = *access;
     match method.holder(index) {
         Some(kind) => for_value(
             alloc,
@@ -133,13 +137,16 @@ pub(crate) fn get_field(
 /// What `invokestatic` leaves.
 pub(crate) fn call_static(
     alloc: Global,
-    method: &Within<'_>,
+    access: &Access<'_>,
     index: u16,
-    member: &Member<'_>,
-    frame: &TypeFrame,
 ) -> Result<Option<TypeFrame>, OutOfMemory>
-    ensures { IfOk result (λ left. left ≡ call_static method.now index member.now frame.now) }
+    ensures { IfOk result (λ left. left ≡ call_static access.now.method.now index access.now.member.now access.now.frame.now) }
 {
+    let Access {
+        method,
+        member,
+        frame,
+    } = *access;
     if !is_callable(method.name_at(index)) {
         return Ok(None);
     }
@@ -149,14 +156,17 @@ pub(crate) fn call_static(
 /// What a call on an object of a kind leaves.
 fn call_on(
     alloc: Global,
-    method: &Within<'_>,
+    access: &Access<'_>,
     index: u16,
-    member: &Member<'_>,
-    frame: &TypeFrame,
     kind: u32,
 ) -> Result<Option<TypeFrame>, OutOfMemory>
-    ensures { IfOk result (λ left. left ≡ call_on method.now index member.now frame.now kind) }
+    ensures { IfOk result (λ left. left ≡ call_on access.now.method.now index access.now.member.now access.now.frame.now kind) }
 {
+    let Access {
+        method,
+        member,
+        frame,
+    } = *access;
     if !is_callable(method.name_at(index)) {
         return Ok(None);
     }
@@ -166,15 +176,13 @@ fn call_on(
 /// What `invokevirtual` leaves.
 pub(crate) fn call_virtual(
     alloc: Global,
-    method: &Within<'_>,
+    access: &Access<'_>,
     index: u16,
-    member: &Member<'_>,
-    frame: &TypeFrame,
 ) -> Result<Option<TypeFrame>, OutOfMemory>
-    ensures { IfOk result (λ left. left ≡ call_virtual method.now index member.now frame.now) }
+    ensures { IfOk result (λ left. left ≡ call_virtual access.now.method.now index access.now.member.now access.now.frame.now) }
 {
-    match method.holder(index) {
-        Some(kind) => call_on(alloc, method, index, member, frame, kind),
+    match access.method.holder(index) {
+        Some(kind) => call_on(alloc, access, index, kind),
         None => Ok(None),
     }
 }
@@ -199,13 +207,16 @@ fn has_this(frame: &TypeFrame, place: usize) -> bool
 /// What `putfield` leaves that sets a field of a constructor's object, before another is called.
 fn put_early(
     alloc: Global,
-    method: &Within<'_>,
+    access: &Access<'_>,
     index: u16,
-    member: &Member<'_>,
-    frame: &TypeFrame,
 ) -> Result<Option<TypeFrame>, OutOfMemory>
-    ensures { IfOk result (λ left. left ≡ put_early method.now index member.now frame.now) }
+    ensures { IfOk result (λ left. left ≡ put_early access.now.method.now index access.now.member.now access.now.frame.now) }
 {
+    let Access {
+        method,
+        member,
+        frame,
+    } = *access;
     if !may_set_early(method, index) || !has_arguments(method.program, frame, member) {
         return Ok(None);
     }
@@ -219,14 +230,17 @@ fn put_early(
 /// What `putfield` leaves.
 pub(crate) fn put_field(
     alloc: Global,
-    method: &Within<'_>,
+    access: &Access<'_>,
     index: u16,
-    member: &Member<'_>,
-    frame: &TypeFrame,
 ) -> Result<Option<TypeFrame>, OutOfMemory>
-    ensures { IfOk result (λ left. left ≡ put_field method.now index member.now frame.now) }
+    ensures { IfOk result (λ left. left ≡ put_field access.now.method.now index access.now.member.now access.now.frame.now) }
 {
-    let early = put_early(alloc, method, index, member, frame)?;
+    let early = put_early(alloc, access, index)?;
+    let Access {
+        method,
+        member,
+        frame,
+    } = *access;
     match method.holder(index) {
         Some(kind) if early.is_none() => for_object(alloc, method, frame, member, kind, None),
         _ => Ok(early),
@@ -236,13 +250,16 @@ pub(crate) fn put_field(
 /// What `invokespecial` leaves of a method that is no constructor.
 pub(crate) fn call_special(
     alloc: Global,
-    method: &Within<'_>,
+    access: &Access<'_>,
     index: u16,
-    member: &Member<'_>,
-    frame: &TypeFrame,
 ) -> Result<Option<TypeFrame>, OutOfMemory>
-    ensures { IfOk result (λ left. left ≡ call_special method.now index member.now frame.now) }
+    ensures { IfOk result (λ left. left ≡ call_special access.now.method.now index access.now.member.now access.now.frame.now) }
 {
+    let Access {
+        method,
+        member,
+        frame,
+    } = *access;
     let Some(kind) = method.holder(index) else {
         return Ok(None);
     };
@@ -251,7 +268,7 @@ pub(crate) fn call_special(
     {
         return Ok(None);
     }
-    call_on(alloc, method, index, member, frame, method.class)
+    call_on(alloc, access, index, method.class)
 }
 
 /// Whether a count is that of the words of what a member takes and of the object below it.
@@ -272,18 +289,16 @@ fn is_count(member: &Member<'_>, count: u8) -> bool
 /// What `invokeinterface` leaves.
 pub(crate) fn call_interface(
     alloc: Global,
-    method: &Within<'_>,
+    access: &Access<'_>,
     index: u16,
     count: u8,
-    member: &Member<'_>,
-    frame: &TypeFrame,
 ) -> Result<Option<TypeFrame>, OutOfMemory>
-    ensures { IfOk result (λ left. left ≡ call_interface method.now index count member.now frame.now) }
+    ensures { IfOk result (λ left. left ≡ call_interface access.now.method.now index count access.now.member.now access.now.frame.now) }
 {
-    if !is_count(member, count) {
+    if !is_count(access.member, count) {
         return Ok(None);
     }
-    call_virtual(alloc, method, index, member, frame)
+    call_virtual(alloc, access, index)
 }
 
 /// What a return leaves: of a result that is what the method gives, and of none, which ends a constructor only when another was

@@ -5,6 +5,7 @@ ghost use Rattle.cb_verify.specs.Calls.{exchanged};
 ghost use Rattle.cb_verify.specs.Members.{given_types};
 ghost use Rattle.cb_verify.specs.Leaving.{construct, constructed, finished, increase, left, left_with, load, make, makes_object, store};
 
+use crate::access::Access;
 use crate::calls::{
     call_interface, call_special, call_static, call_virtual, for_arguments, get_field, given_of,
     put_field, return_with,
@@ -140,13 +141,16 @@ fn constructed(
 /// What `invokespecial` leaves of a constructor.
 fn construct(
     alloc: Global,
-    method: &Within<'_>,
+    access: &Access<'_>,
     index: u16,
-    member: &Member<'_>,
-    frame: &TypeFrame,
 ) -> Result<Option<TypeFrame>, OutOfMemory>
-    ensures { IfOk result (λ left. left ≡ construct method.now index member.now frame.now) }
+    ensures { IfOk result (λ left. left ≡ construct access.now.method.now index access.now.member.now access.now.frame.now) }
 {
+    let Access {
+        method,
+        member,
+        frame,
+    } = *access;
     let Some(kind) = method.holder(index) else {
         return Ok(None);
     };
@@ -179,24 +183,27 @@ fn left_with(
 ) -> Result<Option<TypeFrame>, OutOfMemory>
     ensures { IfOk result (λ left. left ≡ left_with method.now pc member.now action frame.now) }
 {
+    let access = Access {
+        method,
+        member,
+        frame,
+    };
     match action {
         Action::Load { sort, local } => load(alloc, method, sort, local, frame),
         Action::Store { sort, local } => store(alloc, method, sort, local, frame),
         Action::Increase { local, .. } => increase(local, frame),
         Action::Shuffle(shuffle) => frame.shuffled(alloc, method.body.max_stack, shuffle),
         Action::New(index) => make(alloc, method, pc, index, frame),
-        Action::GetField(index) => get_field(alloc, method, index, member, frame),
-        Action::PutField(index) => put_field(alloc, method, index, member, frame),
+        Action::GetField(index) => get_field(alloc, &access, index),
+        Action::PutField(index) => put_field(alloc, &access, index),
         Action::Return(sort) => return_with(alloc, method, sort, frame),
-        Action::InvokeStatic(index) => call_static(alloc, method, index, member, frame),
+        Action::InvokeStatic(index) => call_static(alloc, &access, index),
         Action::InvokeSpecial(index) if is_init(method.name_at(index)) => construct(
-            alloc, method, index, member, frame,
+            alloc, &access, index,
         ),
-        Action::InvokeSpecial(index) => call_special(alloc, method, index, member, frame),
-        Action::InvokeVirtual(index) => call_virtual(alloc, method, index, member, frame),
-        Action::InvokeInterface { index, count } => call_interface(
-            alloc, method, index, count, member, frame,
-        ),
+        Action::InvokeSpecial(index) => call_special(alloc, &access, index),
+        Action::InvokeVirtual(index) => call_virtual(alloc, &access, index),
+        Action::InvokeInterface { index, count } => call_interface(alloc, &access, index, count),
         Action::GetStatic(_) => get_static(alloc, method, member, frame),
         Action::PutStatic(_) => for_arguments(alloc, method, frame, member, None),
         _ => exchange(alloc, method, pc, action, frame),

@@ -6,6 +6,7 @@
 //! (`Typed`, with `Framed` and `Refused`); the other files are for the crate itself. No clause says that memory is to be had.
 #![tactic(auto)]
 
+mod access;
 mod arrays;
 mod arriving;
 mod calls;

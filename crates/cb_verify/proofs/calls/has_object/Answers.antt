@@ -1,7 +1,7 @@
-use Rattle.std.proofs.Common.{rules, ◌≡◌, ◌∙◌, ap, sym, subst, ◌∷◌, [], ◌+◌, drop, length, Bool, List, Option, Some, None, if◌then◌else◌}
+use Rattle.std.proofs.Common.{◌≡◌, ◌∙◌, ap, sym, subst, ◌∷◌, [], ◌+◌, drop, length, Bool, List, Option, Some, None, if◌then◌else◌}
 use Rattle.cb_verify.specs.declared.verification_type.VerificationType.{VerificationType}
 use Rattle.cb_verify.specs.declared.verification_type.VerificationType.TheVariants as types
-use Rattle.cb_verify.specs.Calls.{on_object, popped}
+use Rattle.cb_verify.specs.Calls.{popped}
 use Rattle.cb_verify.specs.Members.{taken_types}
 use Rattle.cb_verify.specs.Within.{Within}
 use Rattle.cb_verify.proofs.Prefixes.{popped_nothing, popped_object}

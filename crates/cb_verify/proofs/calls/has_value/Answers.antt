@@ -1,5 +1,4 @@
-use Rattle.std.proofs.Common.{rules, ◌∙◌, ap, sym, ◌∷◌, [], ◌+◌, drop, Some, None, if◌then◌else◌, subst, List, Option, ◌≡◌}
-use Rattle.cb_link.specs.Program.{Linked}
+use Rattle.std.proofs.Common.{◌∷◌, [], ◌+◌, drop, Some, None, if◌then◌else◌, subst, ◌≡◌}
 use Rattle.cb_verify.specs.Calls.{popped}
 use Rattle.cb_verify.specs.Within.{Within}
 use Rattle.cb_verify.proofs.Prefixes.{popped_one}

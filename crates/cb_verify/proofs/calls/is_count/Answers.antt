@@ -1,4 +1,4 @@
-use Rattle.std.proofs.Common.{rules, ◌≡◌, ◌∙◌, ap, arith, ◌≤◌, length}
+use Rattle.std.proofs.Common.{◌≡◌, ◌∙◌, ap, arith, ◌≤◌, length}
 use Rattle.cb_verify.specs.Types.{type_of, words}
 use Rattle.cb_verify.proofs.MemberWords.{one_left, too_few, words_at}
 use Rattle.cb_verify.proofs.calls.is_count.Goals as goal

@@ -1,4 +1,4 @@
-use Rattle.std.proofs.Common.{rules, ◌∙◌, ap, arith, replicate, take}
+use Rattle.std.proofs.Common.{◌∙◌, ap, arith, replicate, take}
 use Rattle.cb_shapes.specs.declared.sort.Sort.TheVariants as sorts
 use Rattle.cb_verify.proofs.Prefixes.{take_filled}
 use Rattle.cb_verify.proofs.exchange.counts.Goals as goal

@@ -1,8 +1,7 @@
-use Rattle.std.proofs.Common.{rules, ◌≡◌, ◌∙◌, ap, sym, Some, None, option_map, drop, ◌+◌}
-use Rattle.cb_verify.specs.declared.verification_type.VerificationType.{VerificationType}
+use Rattle.std.proofs.Common.{◌∙◌, ap, sym, Some, option_map, drop, ◌+◌}
 use Rattle.cb_verify.specs.declared.verification_type.VerificationType.TheVariants as types
 use Rattle.cb_verify.specs.Frames.{Frame}
-use Rattle.cb_verify.specs.Leaving.{all_replaced, constructed, finished}
+use Rattle.cb_verify.specs.Leaving.{all_replaced}
 use Rattle.cb_verify.proofs.Tops.{constructed_one}
 use Rattle.cb_verify.proofs.leaving.constructed.Goals as goal
 

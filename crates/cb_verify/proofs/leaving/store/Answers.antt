@@ -1,4 +1,4 @@
-use Rattle.std.proofs.Common.{rules, ◌≡◌, ◌∙◌, sym, subst}
+use Rattle.std.proofs.Common.{◌≡◌, ◌∙◌, sym, subst}
 use Rattle.cb_verify.specs.Frames.{with_stack}
 use Rattle.cb_verify.specs.Within.{Within}
 use Rattle.cb_verify.proofs.Tops.{store_left}

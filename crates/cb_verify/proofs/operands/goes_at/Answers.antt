@@ -1,4 +1,4 @@
-use Rattle.std.proofs.Common.{rules, ◌∙◌, ap, arith, ◌+◌, ◌&&◌, drop, nat_lt, length, sym}
+use Rattle.std.proofs.Common.{◌∙◌, ap, arith, ◌+◌, ◌&&◌, drop, nat_lt, sym}
 use Rattle.cb_verify.specs.Prefixes.{begins_as}
 use Rattle.cb_verify.specs.Prefixes.{is_wanted}
 use Rattle.cb_verify.specs.Types.{goes_to}

@@ -1,4 +1,4 @@
-use Rattle.std.proofs.Common.{◌≡◌, ◌∙◌, ap, arith, sym, ℕ, List, [], Option, None, drop}
+use Rattle.std.proofs.Common.{◌≡◌, ◌∙◌, ap, sym, ℕ, List, [], Option, None, drop}
 use Rattle.cb_insn.specs.declared.insn.Insn.{Insn}
 use Rattle.cb_verify.specs.declared.pass.Walk.{Walk}
 use Rattle.cb_verify.specs.Passing.{walked}

@@ -1,5 +1,4 @@
 use Rattle.std.proofs.Common.{◌≡◌, [], None, drop}
-use Rattle.cb_verify.specs.declared.pass.Walk.{Walk}
 use Rattle.cb_verify.specs.Passing.{walked}
 use Rattle.cb_verify.proofs.pass.walk_over.Given as goal
 

@@ -1,4 +1,4 @@
-use Rattle.std.proofs.Common.{rules, ◌≡◌, Some, subst}
+use Rattle.std.proofs.Common.{◌≡◌, Some, subst}
 use Rattle.cb_verify.specs.declared.verification_type.VerificationType.TheVariants.{Object}
 use Rattle.cb_verify.specs.Rules.{made_type}
 use Rattle.cb_verify.specs.Within.{Within}

@@ -1,4 +1,4 @@
-use Rattle.std.proofs.Common.{◌≡◌, ◌∙◌, sym, ◌+◌, [], take}
+use Rattle.std.proofs.Common.{◌∙◌, sym, ◌+◌}
 use Rattle.cb_verify.specs.declared.verification_type.VerificationType.TheVariants.{Top}
 use Rattle.cb_verify.proofs.Stacking.{stack_more, stack_never}
 use Rattle.cb_verify.proofs.stacked.stacked.Goals as goal

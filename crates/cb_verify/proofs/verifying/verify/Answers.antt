@@ -1,4 +1,4 @@
-use Rattle.std.proofs.Common.{◌≡◌, ◌∙◌, ap₂, below_more, sym, ℕ, List, [], ◌∷◌, ◌++◌}
+use Rattle.std.proofs.Common.{◌∙◌, ap₂, below_more, sym, ℕ, List, [], ◌∷◌, ◌++◌}
 use Rattle.cb_verify.specs.Framed.{frames_in}
 use Rattle.cb_verify.specs.Frames.{Frame}
 use Rattle.cb_verify.specs.Within.{within}

@@ -1,6 +1,4 @@
-use Rattle.std.proofs.Common.{◌≡◌, ◌++◌, drop, option_map, IfSome}
-use Rattle.cb_verify.specs.Expansion.{declared, declared_behind}
-use Rattle.cb_verify.specs.Laid.{IsLaid}
+use Rattle.std.proofs.Common.{drop}
 use Rattle.cb_verify.proofs.Declaring.{IsDeclared}
 use Rattle.cb_verify.proofs.expansion.Declared.of.Given as goal
 

@@ -1,4 +1,4 @@
-use Rattle.std.proofs.Common.{◌≡◌, ◌∙◌, ap, sym, List, [], ◌∷◌, ◌++◌, ◌+◌, get_or, length, take}
+use Rattle.std.proofs.Common.{◌≡◌, ◌∙◌, ap, sym, [], ◌∷◌, ◌++◌, ◌+◌, get_or, length, take}
 use Rattle.cb_verify.specs.declared.verification_type.VerificationType.TheVariants.{Top}
 use Rattle.cb_verify.specs.Laid.{laid_in}
 use Rattle.cb_verify.proofs.LaidSteps.{added_more, added_never, holds, step_said}

@@ -1,5 +1,5 @@
-use Rattle.std.proofs.Common.{◌≡◌, ◌∙◌, ap, sym, subst, [], nat_lt, length}
-use Rattle.cb_verify.specs.Frames.{Frame, has_this}
+use Rattle.std.proofs.Common.{◌≡◌, ◌∙◌, ap, sym, subst, [], nat_lt}
+use Rattle.cb_verify.specs.Frames.{has_this}
 use Rattle.cb_verify.specs.Laid.{Laid, bare}
 use Rattle.cb_verify.proofs.LaidValues.{some_this}
 use Rattle.cb_verify.proofs.laid.Laid.bare.Goals as goal

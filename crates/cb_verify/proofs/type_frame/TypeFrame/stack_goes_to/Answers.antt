@@ -1,5 +1,5 @@
-use Rattle.std.proofs.Common.{nat_eq, sym, ◌∙◌, ap, refl, subst, arith, drop, length}
-use Rattle.std.specs.Prelude.{◌≡◌, ◌+◌}
+use Rattle.std.proofs.Common.{nat_eq, sym, subst, arith}
+use Rattle.std.specs.Prelude.{◌≡◌}
 use Rattle.cb_verify.specs.Frames.{stack_goes_to}
 use Rattle.cb_verify.proofs.StackWords.{compared_to_end, next_failed, next_taken}
 use Rattle.cb_verify.proofs.type_frame.TypeFrame.stack_goes_to.Goals as goal

@@ -1,4 +1,4 @@
-use Rattle.std.proofs.Common.{nat_eq, sym, ◌∙◌, ap, refl, subst, arith, length}
+use Rattle.std.proofs.Common.{nat_eq, sym, subst, arith}
 use Rattle.std.specs.Prelude.{◌≡◌, [], ◌∷◌}
 use Rattle.cb_verify.specs.Frames.{stack_goes_to}
 use Rattle.cb_verify.proofs.StackWords.{taken_alone}
