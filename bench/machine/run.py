@@ -41,10 +41,10 @@ use Rattle.cb_machine.specs.Machine.{Machine}
 use Rattle.cb_machine.specs.Performing.{reference_at, text_of}
 use Rattle.cb_machine.specs.Runs.{outcome}
 use Rattle.cb_machine.specs.Starting.{start}
-use Rattle.cb_machine.specs.State.{Object, State}
+use Rattle.cb_plain.specs.State.{Object, State}
 use Rattle.cb_machine.specs.Steps.{step}
 use Rattle.cb_machine.specs.Texts.{class_name, digits}
-use Rattle.cb_machine.specs.Updates.{object_at}
+use Rattle.cb_plain.specs.Updates.{object_at}
 use Rattle.cb_machine.specs.declared.outcome.Outcome.{Outcome}
 use Rattle.cb_machine.specs.declared.outcome.Outcome.TheVariants.{Returned, Exited, Uncaught, Running}
 
