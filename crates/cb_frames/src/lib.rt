@@ -1,0 +1,32 @@
+//! The roots of a machine that runs: frames with their local variables and stacks, static fields, tables of objects that there are once,
+//! and how far each class is initialised. Contracts see them as the record of the machine's definitions, with places in place of serials.
+//!
+//! `specs/` says what each call does to that record (`Tops`, and `Roots` of `cb_plain`), how the roots are counted through (`Entries`), and
+//! what they are at first (`Beginning`).
+//!
+//! No clause says that memory is to be had: that `make` doesn't always give up is shown by tests alone. Nor does a clause say that no
+//! other call takes memory.
+#![tactic(auto)]
+
+mod arguments;
+mod calls;
+mod deep;
+mod fields;
+mod frame;
+mod frame_changes;
+mod frame_references;
+mod frame_stack;
+mod law;
+mod object_tables;
+mod operands;
+mod references;
+mod roots;
+mod sizes;
+mod slots;
+mod standing;
+
+pub use deep::Deep;
+pub use frame::Frame;
+pub use law::entries_are_roots;
+pub use roots::Roots;
+pub use sizes::RootSizes;

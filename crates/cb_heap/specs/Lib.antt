@@ -1,0 +1,10 @@
+pub mod Closed
+pub mod Grants
+pub mod Kept
+pub mod Laws
+pub mod Occupancy
+pub mod Reading
+pub mod Rules
+pub mod Shaped
+pub mod StandsFor
+pub mod Store

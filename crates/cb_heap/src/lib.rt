@@ -1,0 +1,18 @@
+//! Stores of objects: the trait `Store` over which a machine runs, and what roots and a store are seen as. Objects are named by places, and
+//! seen by their serials, so that a store may move what it keeps and let go what nothing reaches.
+//!
+//! `specs/` says in this order: which objects are kept (`Kept`) and of which shapes (`Shaped`); how places are read (`Reading`); what a
+//! collection is (`Closed`); what is granted (`Grants`); what a store does beyond what every store does (`Rules`); the words of the trait
+//! (`Store`); what a view stands for (`StandsFor`); the room that partitions take, and what a collection of some of them leaves
+//! (`Occupancy`); and what holds of all stores (`Laws`), for whoever shows something of code over any store. `linked` of `src/trial.rt` is
+//! such code, small, and proved from the trait's clauses alone.
+#![tactic(auto)]
+
+mod law;
+mod no_room;
+mod store;
+mod trial;
+
+pub use law::{closes_again, keeps_changes, keeps_reached, reads_through};
+pub use no_room::NoRoom;
+pub use store::Store;

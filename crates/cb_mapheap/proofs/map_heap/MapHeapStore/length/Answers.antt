@@ -1,0 +1,22 @@
+use Rattle.std.proofs.Common.{◌∙◌, ◌-◌, ◌/◌, ◌^◌, length, ap, arith, get_or, option_map, Some}
+use Rattle.cb_mapheap.proofs.Found.{found, header_within, object_length, word_read}
+use Rattle.cb_mapheap.proofs.map_heap.MapHeapStore.length.Goals as goal
+
+pub place_of-requires-clause-high : goal.place_of-requires-clause-high
+place_of-requires-clause-high c = omega (arith, (found c.args.at c.self.invariant c.self.view_is c.requires).high, c.deref.ensures.len, c.self.inside.starts.ok)
+
+pub place_of-requires-clause-fits : goal.place_of-requires-clause-fits
+place_of-requires-clause-fits c =
+    let within = header_within {at = c.args.at} 0 (omega arith) (found c.args.at c.self.invariant c.self.view_is c.requires) in
+    rw c.deref.ensures.value (omega (arith, within, c.self.inside.words.ok, c.self.inside.words.small))
+
+pub index-requires : goal.index-requires
+index-requires c =
+    let within = header_within {at = c.args.at} 0 (omega arith) (found c.args.at c.self.invariant c.self.view_is c.requires) in
+    omega (arith, within, c.self.inside.words.ok, c.place_of.ensures, ap (λ starts. get_or starts (c.args.at - 1) 0) c.deref.ensures.value)
+
+pub returns : goal.returns
+returns c =
+    let here = found c.args.at c.self.invariant c.self.view_is c.requires in
+    let word = word_read c.self.inside.words.items c.args.at 0 c.deref.ensures.value c.place_of.ensures (header_within {at = c.args.at} 0 (omega arith) here) c.index.ensures in
+    ap (option_map (λ object. length object.contents)) here.object ∙ ap Some (object_length here) ∙ ap (λ word. Some (word / 2 ^ 32)) word

@@ -1,0 +1,12 @@
+//! A store of objects that never lets one go: its objects lie one behind the other, in the order in which they were placed, and the place
+//! of an object is its serial.
+//!
+//! No clause says that memory is to be had: that `make_room` doesn't always give up is shown by tests alone.
+#![tactic(auto)]
+
+mod grant;
+mod limits;
+mod map_heap;
+mod object;
+
+pub use map_heap::MapHeap;
