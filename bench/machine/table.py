@@ -47,7 +47,8 @@ def shape_of(name):
 
 
 def executed(source, folder, jdi):
-    """Which instructions ran, by class, method, descriptor and place, with how often; without a debugger, all of its code."""
+    """Which instructions ran, by class, method, descriptor and place, with how often, and none where the debugger hung; without a debugger, all
+    of its code."""
     if jdi is None: return [line.split(" ") for line in all_of(source, folder).decode().splitlines()]
     kept = f"{folder}/executed-{source.label}"
     if not os.path.exists(kept):
@@ -60,8 +61,8 @@ def executed(source, folder, jdi):
         except subprocess.TimeoutExpired:
             os.killpg(runs.pid, signal.SIGKILL)
             said = b""
-            print(f"{source.label}: the debugger hung, so its code is counted as if all of it ran once")
-        open(kept, "wb").write(said or all_of(source, folder))
+            print(f"{source.label}: the debugger hung, so nothing of it is counted")
+        open(kept, "wb").write(said)
     return [line.split(" ") for line in open(kept).read().splitlines()]
 
 

@@ -4,14 +4,12 @@
 //! `specs/` says in this order: which objects are kept (`Kept`) and of which shapes (`Shaped`); how places are read (`Reading`); what a
 //! collection is (`Closed`); what is granted (`Grants`); what a store does beyond what every store does (`Rules`); the words of the trait
 //! (`Store`); what a view stands for (`StandsFor`); the room that partitions take, and what a collection of some of them leaves
-//! (`Occupancy`); and what holds of all stores (`Laws`), for whoever shows something of code over any store. `linked` of `src/trial.rt` is
-//! such code, small, and proved from the trait's clauses alone.
+//! (`Occupancy`); and what holds of all stores (`Laws`), for whoever shows something of code over any store.
 #![tactic(auto)]
 
 mod law;
 mod no_room;
 mod store;
-mod trial;
 
 pub use law::{closes_again, keeps_changes, keeps_reached, reads_through};
 pub use no_room::NoRoom;

@@ -123,6 +123,7 @@ impl Store for MapHeap {
         Ok(())
     }
 
+    /// Takes time in the words of the object, and in the number of sites that room was made for.
     fn place(&mut self, site: u32, kind: u32, size: u32) -> u64 {
         let start = self.words.len();
         let serial = self.starts.len() as u64 + 1;

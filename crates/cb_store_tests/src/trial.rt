@@ -1,17 +1,23 @@
 // That code over any store is proved from its clauses alone.
-ghost use Rattle.std.specs.Prelude.{◌≡◌, ◌+◌, ◌<◌, ◌^◌, ◌==◌, ℕ, Bool, true, length, slice_get, IfOk, Some};
-ghost use Rattle.cb_plain.specs.declared.shape.Shape.TheVariants.{Elements};
+ghost use Rattle.std.specs.Prelude.{◌≡◌, ◌+◌, ◌<◌, ◌^◌, ℕ, Bool, true, [], ◌∷◌, length, IfOk, IsTrue};
+ghost use Rattle.cb_plain.specs.State.{Reference};
 ghost use Rattle.cb_heap.specs.Closed.{IsClosed};
 ghost use Rattle.cb_heap.specs.Reading.{seen};
+ghost use Rattle.cb_heap.specs.Shaped.{has_size, new_object};
 
-use crate::{NoRoom, Store};
 use cb_frames::Roots;
+use cb_heap::{NoRoom, Store};
 use cb_plain::Request;
 
-/// Places two arrays of one reference each, links the first to the second, collects, and reads the second's serial back from the first.
-fn linked<S: Store>(store: &mut S, roots: &mut Roots, request: &mut Request) -> Result<u64, NoRoom>
+/// Places two objects of one reference each, links the first to the second, collects, and reads the second's serial back from the first.
+pub fn linked<S: Store>(
+    store: &mut S,
+    roots: &mut Roots,
+    request: &mut Request,
+) -> Result<u64, NoRoom>
     requires closed { IsClosed (seen (S.index store.old) (S.kept store.old) roots.old.roots) }
-    requires shaped { slice_get (S.shapes store.old) 1 ≡ Some (Elements true) }
+    requires sized { IsTrue (has_size (S.shapes store.old) 1 1) }
+    requires blank { (new_object (S.shapes store.old) 0 1 1).contents ≡ Reference 0 ∷ [] }
     requires serials { length (S.kept store.old) + 3 < 2 ^ 63 }
     requires allows { (one other : ℕ) → S.allows store.old one other ≡ true }
     ensures { IfOk result (λ serial. serial ≡ length (S.kept store.old) + 2) }

@@ -1,5 +1,4 @@
-use Rattle.std.proofs.Common.{arith, ◌≡◌, ◌∙◌, ap, sym, subst, ◌+◌, true, length, slice_get, Some, List, Option}
-use Rattle.cb_plain.specs.declared.shape.Shape.TheVariants.{Elements}
+use Rattle.std.proofs.Common.{arith, ◌≡◌, ◌∙◌, ap, sym, subst, ◌+◌, length, Some, List, [], ◌∷◌, Option}
 use Rattle.cb_plain.specs.Roots.{with_pending}
 use Rattle.cb_plain.specs.State.{Object, Reference}
 use Rattle.cb_plain.specs.Updates.{object_in}
@@ -9,8 +8,8 @@ use Rattle.cb_heap.specs.Reading.{seen, serial_of}
 use Rattle.cb_heap.specs.Shaped.{new_object}
 use Rattle.cb_heap.specs.Store.{ReadsAsBefore, may_point}
 use Rattle.cb_heap.proofs.Laws as laws
-use Rattle.cb_heap.proofs.Linked.{and, blank_array, first_place, first_there, held_where, linked_closed, same_word, second_place, second_there, word_back, word_there}
-use Rattle.cb_heap.proofs.trial.linked.Goals as goal
+use Rattle.cb_store_tests.proofs.Linked.{and, first_place, first_there, held_where, linked_closed, same_word, second_place, second_there, word_back, word_there}
+use Rattle.cb_store_tests.proofs.trial.linked.Goals as goal
 
 pub put_ref-requires-clause-there : goal.put_ref-requires-clause-there
 put_ref-requires-clause-there g c =
@@ -24,7 +23,7 @@ put_ref-requires-clause-there g c =
     ap is_reference
     (ap (λ kept. content_at kept (serial_of (g.S.Store.index c.place-other.new.self) c.place-one.result) 0) both
     ∙ ap (λ serial. content_at (and (and objects one) other) serial 0) place
-    ∙ word_there objects one other (blank_array (g.S.Store.shapes c.make_room.new.self) (ap (λ shapes. slice_get shapes 1) c.make_room.ensures.shapes ∙ c.requires.shaped)))
+    ∙ word_there objects one other (ap (λ shapes. (new_object shapes 0 1 1).contents) c.make_room.ensures.shapes ∙ c.requires.blank))
 
 pub put_ref-requires-clause-held : goal.put_ref-requires-clause-held
 put_ref-requires-clause-held g c =
@@ -68,7 +67,7 @@ collect_all-requires g c =
     first_place objects one (g.S.Store.index c.place-one.new.self) (g.S.Store.index c.place-other.new.self) c.place-one.result again c.place-one.ensures.serial in
     let second : serial_of (g.S.Store.index c.place-other.new.self) c.place-other.result ≡ length objects + 2 =
     second_place objects one (g.S.Store.index c.place-other.new.self) c.place-other.result (c.place-other.ensures.serial ∙ ap (λ kept. length kept + 1) c.place-one.ensures.kept) in
-    let shaped : slice_get (g.S.Store.shapes c.make_room.new.self) 1 ≡ Some (Elements true) = ap (λ shapes. slice_get shapes 1) c.make_room.ensures.shapes ∙ c.requires.shaped in
+    let blank : (new_object (g.S.Store.shapes c.make_room.new.self) 0 1 1).contents ≡ Reference 0 ∷ [] = ap (λ shapes. (new_object shapes 0 1 1).contents) c.make_room.ensures.shapes ∙ c.requires.blank in
     let whole : g.S.Store.kept c.put_ref.new.self ≡ with_content (and (and objects one) other) (length objects + 1) 0 (Reference (length objects + 2)) =
     c.put_ref.ensures.kept
     ∙ ap (λ kept. with_content kept (serial_of (g.S.Store.index c.place-other.new.self) c.place-one.result) 0 (Reference (serial_of (g.S.Store.index c.place-other.new.self) c.place-other.result))) both
@@ -80,8 +79,8 @@ collect_all-requires g c =
           (subst (λ index. IsClosed (seen index (g.S.Store.kept c.put_ref.new.self) (with_pending c.make_room.new.roots.roots c.place-one.result))) (sym c.put_ref.ensures.places)
           (subst (λ kept. IsClosed (seen (g.S.Store.index c.place-other.new.self) kept (with_pending c.make_room.new.roots.roots c.place-one.result))) (sym whole)
           (linked_closed objects one other (g.S.Store.index c.make_room.new.self) (g.S.Store.index c.place-one.new.self) (g.S.Store.index c.place-other.new.self) c.make_room.new.roots.roots c.place-one.result
-          (blank_array (g.S.Store.shapes c.make_room.new.self) shaped)
-          (blank_array (g.S.Store.shapes c.place-one.new.self) (ap (λ shapes. slice_get shapes 1) c.place-one.ensures.shapes ∙ shaped))
+          blank
+          (ap (λ shapes. (new_object shapes 0 1 1).contents) c.place-one.ensures.shapes ∙ blank)
           c.make_room.ensures.collected.closed c.place-one.ensures.places again first)));
     }
 
@@ -97,7 +96,7 @@ get_ref-back-requires g c =
     first_place objects one (g.S.Store.index c.place-one.new.self) (g.S.Store.index c.place-other.new.self) c.place-one.result again c.place-one.ensures.serial in
     let second : serial_of (g.S.Store.index c.place-other.new.self) c.place-other.result ≡ length objects + 2 =
     second_place objects one (g.S.Store.index c.place-other.new.self) c.place-other.result (c.place-other.ensures.serial ∙ ap (λ kept. length kept + 1) c.place-one.ensures.kept) in
-    let shaped : slice_get (g.S.Store.shapes c.make_room.new.self) 1 ≡ Some (Elements true) = ap (λ shapes. slice_get shapes 1) c.make_room.ensures.shapes ∙ c.requires.shaped in
+    let blank : (new_object (g.S.Store.shapes c.make_room.new.self) 0 1 1).contents ≡ Reference 0 ∷ [] = ap (λ shapes. (new_object shapes 0 1 1).contents) c.make_room.ensures.shapes ∙ c.requires.blank in
     let whole : g.S.Store.kept c.put_ref.new.self ≡ with_content (and (and objects one) other) (length objects + 1) 0 (Reference (length objects + 2)) =
     c.put_ref.ensures.kept
     ∙ ap (λ kept. with_content kept (serial_of (g.S.Store.index c.place-other.new.self) c.place-one.result) 0 (Reference (serial_of (g.S.Store.index c.place-other.new.self) c.place-other.result))) both
@@ -108,7 +107,7 @@ get_ref-back-requires g c =
     let back : content_at (g.S.Store.kept c.collect_all.new.self) (serial_of (g.S.Store.index c.collect_all.new.self) c.collect_all.new.roots.roots.pending) 0 ≡ Some (Reference (length objects + 2)) =
     word_back objects one other (seen (g.S.Store.index c.put_ref.new.self) (g.S.Store.kept c.put_ref.new.self) c.set_pending.new.self.roots)
     (seen (g.S.Store.index c.collect_all.new.self) (g.S.Store.kept c.collect_all.new.self) c.collect_all.new.roots.roots)
-    (blank_array (g.S.Store.shapes c.make_room.new.self) shaped) whole named c.collect_all.ensures.collected in
+    blank whole named c.collect_all.ensures.collected in
     ap is_reference (ap (λ place. content_at (g.S.Store.kept c.collect_all.new.self) (serial_of (g.S.Store.index c.collect_all.new.self) place) 0) c.pending.ensures ∙ back)
 
 pub serial-requires : goal.serial-requires
@@ -123,7 +122,7 @@ serial-requires g c =
     first_place objects one (g.S.Store.index c.place-one.new.self) (g.S.Store.index c.place-other.new.self) c.place-one.result again c.place-one.ensures.serial in
     let second : serial_of (g.S.Store.index c.place-other.new.self) c.place-other.result ≡ length objects + 2 =
     second_place objects one (g.S.Store.index c.place-other.new.self) c.place-other.result (c.place-other.ensures.serial ∙ ap (λ kept. length kept + 1) c.place-one.ensures.kept) in
-    let shaped : slice_get (g.S.Store.shapes c.make_room.new.self) 1 ≡ Some (Elements true) = ap (λ shapes. slice_get shapes 1) c.make_room.ensures.shapes ∙ c.requires.shaped in
+    let blank : (new_object (g.S.Store.shapes c.make_room.new.self) 0 1 1).contents ≡ Reference 0 ∷ [] = ap (λ shapes. (new_object shapes 0 1 1).contents) c.make_room.ensures.shapes ∙ c.requires.blank in
     let whole : g.S.Store.kept c.put_ref.new.self ≡ with_content (and (and objects one) other) (length objects + 1) 0 (Reference (length objects + 2)) =
     c.put_ref.ensures.kept
     ∙ ap (λ kept. with_content kept (serial_of (g.S.Store.index c.place-other.new.self) c.place-one.result) 0 (Reference (serial_of (g.S.Store.index c.place-other.new.self) c.place-other.result))) both
@@ -134,7 +133,7 @@ serial-requires g c =
     let back : content_at (g.S.Store.kept c.collect_all.new.self) (serial_of (g.S.Store.index c.collect_all.new.self) c.collect_all.new.roots.roots.pending) 0 ≡ Some (Reference (length objects + 2)) =
     word_back objects one other (seen (g.S.Store.index c.put_ref.new.self) (g.S.Store.kept c.put_ref.new.self) c.set_pending.new.self.roots)
     (seen (g.S.Store.index c.collect_all.new.self) (g.S.Store.kept c.collect_all.new.self) c.collect_all.new.roots.roots)
-    (blank_array (g.S.Store.shapes c.make_room.new.self) shaped) whole named c.collect_all.ensures.collected in
+    blank whole named c.collect_all.ensures.collected in
     let found : content_at (g.S.Store.kept c.collect_all.new.self) (serial_of (g.S.Store.index c.collect_all.new.self) c.pending.result) 0 ≡ Some (Reference (length objects + 2)) =
     ap (λ place. content_at (g.S.Store.kept c.collect_all.new.self) (serial_of (g.S.Store.index c.collect_all.new.self) place) 0) c.pending.ensures ∙ back in
     let serial : serial_of (g.S.Store.index c.collect_all.new.self) c.get_ref-back.result ≡ length objects + 2 = same_word (sym c.get_ref-back.ensures ∙ found) in
@@ -154,7 +153,7 @@ returns g c =
     first_place objects one (g.S.Store.index c.place-one.new.self) (g.S.Store.index c.place-other.new.self) c.place-one.result again c.place-one.ensures.serial in
     let second : serial_of (g.S.Store.index c.place-other.new.self) c.place-other.result ≡ length objects + 2 =
     second_place objects one (g.S.Store.index c.place-other.new.self) c.place-other.result (c.place-other.ensures.serial ∙ ap (λ kept. length kept + 1) c.place-one.ensures.kept) in
-    let shaped : slice_get (g.S.Store.shapes c.make_room.new.self) 1 ≡ Some (Elements true) = ap (λ shapes. slice_get shapes 1) c.make_room.ensures.shapes ∙ c.requires.shaped in
+    let blank : (new_object (g.S.Store.shapes c.make_room.new.self) 0 1 1).contents ≡ Reference 0 ∷ [] = ap (λ shapes. (new_object shapes 0 1 1).contents) c.make_room.ensures.shapes ∙ c.requires.blank in
     let whole : g.S.Store.kept c.put_ref.new.self ≡ with_content (and (and objects one) other) (length objects + 1) 0 (Reference (length objects + 2)) =
     c.put_ref.ensures.kept
     ∙ ap (λ kept. with_content kept (serial_of (g.S.Store.index c.place-other.new.self) c.place-one.result) 0 (Reference (serial_of (g.S.Store.index c.place-other.new.self) c.place-other.result))) both
@@ -165,7 +164,7 @@ returns g c =
     let back : content_at (g.S.Store.kept c.collect_all.new.self) (serial_of (g.S.Store.index c.collect_all.new.self) c.collect_all.new.roots.roots.pending) 0 ≡ Some (Reference (length objects + 2)) =
     word_back objects one other (seen (g.S.Store.index c.put_ref.new.self) (g.S.Store.kept c.put_ref.new.self) c.set_pending.new.self.roots)
     (seen (g.S.Store.index c.collect_all.new.self) (g.S.Store.kept c.collect_all.new.self) c.collect_all.new.roots.roots)
-    (blank_array (g.S.Store.shapes c.make_room.new.self) shaped) whole named c.collect_all.ensures.collected in
+    blank whole named c.collect_all.ensures.collected in
     let found : content_at (g.S.Store.kept c.collect_all.new.self) (serial_of (g.S.Store.index c.collect_all.new.self) c.pending.result) 0 ≡ Some (Reference (length objects + 2)) =
     ap (λ place. content_at (g.S.Store.kept c.collect_all.new.self) (serial_of (g.S.Store.index c.collect_all.new.self) place) 0) c.pending.ensures ∙ back in
     let serial : serial_of (g.S.Store.index c.collect_all.new.self) c.get_ref-back.result ≡ length objects + 2 = same_word (sym c.get_ref-back.ensures ∙ found) in

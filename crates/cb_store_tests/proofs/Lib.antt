@@ -1,0 +1,4 @@
+mod CellLaws
+mod Empty
+mod Linked
+mod MapHeaps
