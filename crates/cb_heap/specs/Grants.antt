@@ -1,20 +1,10 @@
--- The room that is left of what was asked for.
-use Rattle.std.specs.Prelude.{ℕ, ◌+◌, ◌-◌, ◌/◌, ◌^◌, ◌<◌, ◌≤◌, ◌≡◌, ◌==◌, Bool, true, false, List, [], ◌∷◌, Some, if◌then◌else◌, slice_get}
+-- Bounds of what is granted.
+use Rattle.std.specs.Prelude.{ℕ, ◌+◌, ◌/◌, ◌^◌, ◌<◌, ◌≤◌, ◌≡◌, Bool, true, false, List, Some, slice_get}
 use Rattle.std.specs.List.{sum_by}
 use Rattle.cb_plain.specs.declared.want.Want.{Want}
 use Rattle.cb_plain.specs.Requests.{most_words}
 
--- how many words there are for a site
-abbrev pub words_at : List Want → ℕ → ℕ
-words_at [] site = 0
-words_at (want ∷ wants) site = if want.site == site then want.words else words_at wants site
-
--- what is left when so many of them are taken
-abbrev pub spent : List Want → ℕ → ℕ → List Want
-spent [] site words = []
-spent (want ∷ wants) site words =
-    if want.site == site then record { site = want.site; words = want.words - words } ∷ wants else want ∷ spent wants site words
-
+-- all words that it has
 abbrev pub words_granted : List Want → ℕ
 words_granted wants = sum_by (λ want. want.words) wants
 

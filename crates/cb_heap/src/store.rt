@@ -3,11 +3,12 @@ ghost use Rattle.std.specs.Prelude.{◌≡◌, ◌+◌, ◌<◌, ◌≤◌, ◌^
 ghost use Rattle.std.specs.Int.{int_wrap, w64};
 ghost use Rattle.cb_plain.specs.declared.shape.Shape.{Shape};
 ghost use Rattle.cb_plain.specs.declared.want.Want.{Want};
+ghost use Rattle.cb_plain.specs.Requests.{spent, words_at};
 ghost use Rattle.cb_plain.specs.State.{Number, Object, Reference, words_of};
 ghost use Rattle.cb_plain.specs.Updates.{object_in};
 ghost use Rattle.cb_io.specs.Faults.{CountsFaults};
 ghost use Rattle.cb_heap.specs.Closed.{Collects, IsClosed};
-ghost use Rattle.cb_heap.specs.Grants.{IsBounded, spent, words_at};
+ghost use Rattle.cb_heap.specs.Grants.{IsBounded};
 ghost use Rattle.cb_heap.specs.Kept.{content_at, is_held, is_kept, is_number, is_reference, residents, with_content};
 ghost use Rattle.cb_heap.specs.Reading.{seen, serial_of};
 ghost use Rattle.cb_heap.specs.Rules.{Rules};

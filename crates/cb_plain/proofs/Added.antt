@@ -16,26 +16,26 @@ with_more old words = record { site = old.site; words = min (old.words + words) 
 abbrev pub want_of : ℕ → ℕ → Want
 want_of site words = record { site = site; words = words }
 
-abbrev place_in : ℕ → List Want → ℕ
+abbrev pub place_in : ℕ → List Want → ℕ
 place_in site wants = prefix_len (λ want. not (want.site == site)) wants
 
 -- what a place that is found tells, and what none does
-found_if : (place size : ℕ) (is : Bool) (at : ℕ) → nat_lt place size ≡ is → cond is (Some place) None ≡ Some at → (at ≡ place) × (at < size)
+pub found_if : (place size : ℕ) (is : Bool) (at : ℕ) → nat_lt place size ≡ is → cond is (Some place) None ≡ Some at → (at ≡ place) × (at < size)
 found_if place size true at is some = (sym (same_Some place at some), omega (arith, same_Some place at some, ltb-true place size is))
 found_if place size false at is some = absurd (none-some at some)
 
-none_if : (place size : ℕ) (is : Bool) → nat_lt place size ≡ is → cond is (Some place) None ≡ None → size ≤ place
+pub none_if : (place size : ℕ) (is : Bool) → nat_lt place size ≡ is → cond is (Some place) None ≡ None → size ≤ place
 none_if place size true is none = absurd (none-some place (sym none))
 none_if place size false is none = ltb-false place size is
 
-found : (wants : List Want) (site place : ℕ) → position (is_at site) wants ≡ Some place → (place ≡ place_in site wants) × (place < length wants)
+pub found : (wants : List Want) (site place : ℕ) → position (is_at site) wants ≡ Some place → (place ≡ place_in site wants) × (place < length wants)
 found wants site place some = found_if (place_in site wants) (length wants) (nat_lt (place_in site wants) (length wants)) place refl some
 
-lacking : (wants : List Want) (site : ℕ) → position (is_at site) wants ≡ None → length wants ≤ place_in site wants
+pub lacking : (wants : List Want) (site : ℕ) → position (is_at site) wants ≡ None → length wants ≤ place_in site wants
 lacking wants site none = none_if (place_in site wants) (length wants) (nat_lt (place_in site wants) (length wants)) refl none
 
 -- the first so many of a list with another item among them
-take_set : {X : Type 0} (items : List X) (count place : ℕ) (item : X) → place < count → take count (slice_set items place item) ≡ slice_set (take count items) place item
+pub take_set : {X : Type 0} (items : List X) (count place : ℕ) (item : X) → place < count → take count (slice_set items place item) ≡ slice_set (take count items) place item
 take_set [] zero place item below = refl
 take_set [] (suc count) place item below = refl
 take_set (first ∷ items) zero place item below = absurd (omega (arith, below))

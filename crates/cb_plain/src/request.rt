@@ -1,6 +1,6 @@
 // What room is asked for at once.
-ghost use Rattle.std.specs.Prelude.{◌≡◌, ◌<◌, ◌↔◌, ◌⊎◌, ◌==◌, [], length, position, slice_get, IsTrue, Some};
-ghost use Rattle.cb_plain.specs.Requests.{add_want, has_site};
+ghost use Rattle.std.specs.Prelude.{◌≡◌, ◌<◌, ◌≤◌, ◌↔◌, ◌⊎◌, ◌==◌, [], length, position, slice_get, IsTrue, Some};
+ghost use Rattle.cb_plain.specs.Requests.{add_want, has_site, spent, words_at};
 
 use crate::Want;
 use std::marker::Model;
@@ -40,7 +40,8 @@ impl Request {
 
     /// How many sites it asks for.
     pub fn len(&self) -> u32
-        ensures { result ≡ length self.now }
+        ensures is { result ≡ length self.now }
+        ensures most { result ≤ 256 }
     {
         self.count as u32
     }
@@ -79,6 +80,26 @@ impl Request {
                 self.count += 1;
             }
         }
+    }
+
+    /// Takes so many words of those of a site. Takes time in the number of sites.
+    pub fn spend(&mut self, site: u32, words: u64)
+        requires { words ≤ words_at self.old site }
+        ensures { self.new ≡ spent self.old site words }
+    {
+        if let Some(place) = place_of(&self.wants[..self.count], site) {
+            self.wants[place].words -= words;
+        }
+    }
+
+    /// Asks for what another one asks for, and nothing else. Takes time in the number of its sites.
+    pub fn copy_from(&mut self, other: &Request)
+        ensures { self.new ≡ other.now }
+    {
+        for i in 0..other.count {
+            self.wants[i] = other.wants[i];
+        }
+        self.count = other.count;
     }
 
     /// Asks for nothing any more.

@@ -1,7 +1,7 @@
 // The store that never lets an object go, with ample memory.
 ghost use Rattle.std.specs.Prelude.{◌≡◌, ◌+◌, ◌*◌, ◌≤◌, ◌<◌, ◌^◌, [], ◌∷◌, IfOk, Some, map};
 ghost use Rattle.cb_plain.specs.Reach.{root_references};
-ghost use Rattle.cb_heap.specs.Grants.{spent, words_at};
+ghost use Rattle.cb_plain.specs.Requests.{spent, words_at};
 ghost use Rattle.cb_store_tests.specs.Cells.{HasArray, cells, two_kinds};
 
 use cb_frames::{RootSizes, Roots};
