@@ -9,7 +9,8 @@ use Rattle.cb_plain.specs.Requests.{most_words}
 use Rattle.cb_plain.specs.State.{Object, Roots, words_of}
 use Rattle.cb_heap.specs.declared.no_room.NoRoom.TheVariants.{Full}
 use Rattle.cb_heap.specs.Closed.{Collects, IsClosed}
-use Rattle.cb_heap.specs.Grants.{IsBounded, spent, words_at, words_granted}
+use Rattle.cb_plain.specs.Requests.{spent, words_at}
+use Rattle.cb_heap.specs.Grants.{IsBounded, words_granted}
 use Rattle.cb_heap.specs.Kept.{keep, residents, words_kept}
 use Rattle.cb_heap.specs.Reading.{View, seen, serial_of}
 use Rattle.cb_heap.specs.Shaped.{has_size, new_object}

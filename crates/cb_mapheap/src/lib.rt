@@ -4,7 +4,6 @@
 //! No clause says that memory is to be had: that `make_room` doesn't always give up is shown by tests alone.
 #![tactic(auto)]
 
-mod grant;
 mod limits;
 mod map_heap;
 mod object;

@@ -2,12 +2,11 @@
 ghost use Rattle.std.specs.Prelude.{◌≡◌, ◌+◌, ◌/◌, ◌<◌, ◌^◌, [], length, OnErr, OnOk};
 ghost use Rattle.cb_heap.specs.Grants.{words_granted};
 
-use crate::grant::{replace, spend};
 use crate::limits::{one_reaches, words_asked};
 use crate::object::{HALF, place_of, write};
 use cb_frames::Roots;
 use cb_heap::{NoRoom, Store};
-use cb_plain::{OutOfMemory, Request, Shapes, Want};
+use cb_plain::{OutOfMemory, Request, Shapes};
 use std::alloc::{AllocError, Global};
 use std::marker::Model;
 
@@ -24,7 +23,7 @@ pub struct MapHeap {
     shapes: Shapes,
     starts: Vec<usize>,
     words: Vec<u64>,
-    granted: Vec<Want>,
+    granted: Request,
 }
 
 impl Model for MapHeap {
@@ -36,9 +35,9 @@ impl Model for MapHeap {
 
     ghost Value = { Placed };
 
-    ghost view = { λ heap. record { shapes = heap.shapes; objects = objects_in heap.shapes (length heap.starts.items) heap.words.items; granted = heap.granted.items } };
+    ghost view = { λ heap. record { shapes = heap.shapes; objects = objects_in heap.shapes (length heap.starts.items) heap.words.items; granted = heap.granted } };
 
-    ghost invariant = { λ heap. IsStore heap.shapes heap.starts.items heap.words.items heap.granted.items (vec_capacity heap.starts) (vec_capacity heap.words) };
+    ghost invariant = { λ heap. IsStore heap.shapes heap.starts.items heap.words.items heap.granted (vec_capacity heap.starts) (vec_capacity heap.words) };
 }
 
 impl MapHeap {
@@ -50,7 +49,7 @@ impl MapHeap {
             shapes,
             starts: Vec::new(alloc),
             words: Vec::new(alloc),
-            granted: Vec::new(alloc),
+            granted: Request::new(),
         }
     }
 
@@ -68,10 +67,9 @@ impl MapHeap {
         if (self.starts.len() as u64).saturating_add(objects) >= MOST_OBJECTS {
             return Err(AllocError);
         }
-        self.granted.reserve(request.len() as usize)?;
         self.words.reserve(words as usize)?;
         self.starts.reserve(objects as usize)?;
-        replace(&mut self.granted, request);
+        self.granted.copy_from(request);
         Ok(())
     }
 }
@@ -129,7 +127,7 @@ impl Store for MapHeap {
         let serial = self.starts.len() as u64 + 1;
         write(&mut self.words, serial, site, kind, size);
         self.starts.push_reserved(start);
-        spend(&mut self.granted, site, 3 + size as u64);
+        self.granted.spend(site, 3 + size as u64);
         serial
     }
 
@@ -145,6 +143,7 @@ impl Store for MapHeap {
         self.words[place_of(&self.starts, at, 2)] as u32
     }
 
+    /// A place is a serial here, so the place itself would do as well.
     fn serial(&self, at: u64) -> u64 {
         self.words[place_of(&self.starts, at, 1)]
     }

@@ -1,6 +1,6 @@
 use Rattle.std.proofs.Common.{◌≡◌, ◌+◌, ◌≤◌, ◌<◌, ◌^◌, IsTrue, sym, subst, arith, length}
 use Rattle.cb_plain.specs.State.{words_of}
-use Rattle.cb_heap.specs.Grants.{words_at}
+use Rattle.cb_plain.specs.Requests.{words_at}
 use Rattle.cb_heap.specs.Shaped.{has_size}
 use Rattle.cb_mapheap.specs.Placed.{Placed}
 use Rattle.cb_mapheap.proofs.Calls.{count_now, enough, placed_objects, placed_serial, placed_store}
@@ -9,12 +9,12 @@ use Rattle.cb_mapheap.proofs.map_heap.MapHeapStore.place.Goals as goal
 pub write-requires : goal.write-requires
 write-requires c =
     let fits = subst (λ (now : Placed). words_of c.args.size ≤ words_at now.granted c.args.site) (sym c.self.view_is) c.requires.granted in
-    omega (arith, enough c.self.inside.granted.items c.args.site (words_of c.args.size) fits, c.self.invariant.word_room)
+    omega (arith, enough c.self.inside.granted c.args.site (words_of c.args.size) fits, c.self.invariant.word_room)
 
 pub push_reserved-requires : goal.push_reserved-requires
 push_reserved-requires c =
     let fits = subst (λ (now : Placed). words_of c.args.size ≤ words_at now.granted c.args.site) (sym c.self.view_is) c.requires.granted in
-    omega (arith, enough c.self.inside.granted.items c.args.site (words_of c.args.size) fits, c.self.invariant.start_room, c.self.inside.starts.ok)
+    omega (arith, enough c.self.inside.granted c.args.site (words_of c.args.size) fits, c.self.invariant.start_room, c.self.inside.starts.ok)
 
 pub invariant_of-self : goal.invariant_of-self
 invariant_of-self c =
