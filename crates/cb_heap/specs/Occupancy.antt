@@ -1,5 +1,5 @@
 -- The room that kept objects take in partitions, and what a collection of some partitions leaves.
-use Rattle.std.specs.Prelude.{◌≡◌, ℕ, ◌+◌, ◌/◌, ◌≤◌, ◌==◌, ◌↔◌, ◌⊎◌, Bool, true, false, List, Option, Some, None, if◌then◌else◌, length, slice_get}
+use Rattle.std.specs.Prelude.{◌≡◌, ℕ, ◌+◌, ◌-◌, ◌/◌, ◌≤◌, ◌==◌, ◌↔◌, ◌⊎◌, Bool, true, false, List, Option, Some, None, if◌then◌else◌, length, slice_get}
 use Rattle.std.specs.List.{range_with_len, sum_by}
 use Rattle.cb_plain.specs.declared.want.Want.{Want}
 use Rattle.cb_plain.specs.Reach.{IsReached}
@@ -26,7 +26,7 @@ abbrev pub block_words : ℕ
 block_words = 256
 
 abbrev pub blocks_of : ℕ → ℕ
-blocks_of words = (words + 255) / block_words
+blocks_of words = (words + (block_words - 1)) / block_words
 
 abbrev pub blocks : (parts : ℕ) → (ℕ → ℕ) → ℕ
 blocks parts words_of_part = sum_by (λ part. blocks_of (words_of_part part)) (range_with_len 0 parts)

@@ -1,6 +1,7 @@
 // A store of objects.
 ghost use Rattle.std.specs.Prelude.{◌≡◌, ◌+◌, ◌<◌, ◌≤◌, ◌^◌, ◌++◌, ℕ, Bool, List, Option, Result, [], ◌∷◌, false, length, option_map, pos, IsTrue, IsErr, OnOk, Some};
 ghost use Rattle.std.specs.Int.{int_wrap, w64};
+ghost use Rattle.std.specs.List.{AllByRecursion};
 ghost use Rattle.cb_plain.specs.declared.shape.Shape.{Shape};
 ghost use Rattle.cb_plain.specs.declared.want.Want.{Want};
 ghost use Rattle.cb_plain.specs.Requests.{spent, words_at};
@@ -33,11 +34,15 @@ pub trait Store {
     /// The objects that it keeps.
     ghost kept: { Self → List (Option Object) };
 
-    /// How many objects were placed before the one at a place.
+    /// How many objects were placed before the one at a place. A number that is no place of an object is to be read as an object that isn't
+    /// kept, so that nothing can be asked of it: as many as there are objects will do.
     ghost index: { Self → ℕ → ℕ };
 
     /// The shapes of the objects of each kind.
     ghost shapes: { Self → List Shape };
+
+    /// Whether room can be made for objects of a site.
+    ghost knows: { Self → ℕ → Bool };
 
     /// Whether objects of one site may refer to those of another.
     ghost allows: { Self → ℕ → ℕ → Bool };
@@ -57,6 +62,7 @@ pub trait Store {
     /// roots, also where it refuses.
     fn make_room(&mut self, request: &Request, roots: &mut Roots) -> Result<(), NoRoom>
         requires closed { IsClosed (seen (index self.old) (kept self.old) roots.old.roots) }
+        requires sites { AllByRecursion (λ want. IsTrue (knows self.old want.site)) request.now }
         ensures collected { Collects (seen (index self.old) (kept self.old) roots.old.roots) (seen (index self.new) (kept self.new) roots.new.roots) }
         ensures limit { roots.new.limit ≡ roots.old.limit }
         ensures ruled { rules.makes_room (facts self.old) (seen (index self.old) (kept self.old) roots.old.roots) request.now result (record { facts = facts self.new; residents = residents (kept self.new) }) }
@@ -64,6 +70,7 @@ pub trait Store {
         ensures bounded { OnOk result (IsBounded FIXED (length (kept self.new)) request.now) }
         ensures memory { WantsMemory result → FIXED ≡ false }
         ensures counted { CountsFaults (faults self.old) (faults self.new) (IsFault result) }
+        ensures knows { knows self.new ≡ knows self.old }
         ensures allows { allows self.new ≡ allows self.old }
         ensures shapes { shapes self.new ≡ shapes self.old };
 
@@ -75,6 +82,7 @@ pub trait Store {
         ensures ruled { rules.collects_all (facts self.old) (seen (index self.old) (kept self.old) roots.old.roots) result (record { facts = facts self.new; residents = residents (kept self.new) }) }
         ensures refused { IsErr result → IsFault result }
         ensures counted { CountsFaults (faults self.old) (faults self.new) (IsFault result) }
+        ensures knows { knows self.new ≡ knows self.old }
         ensures allows { allows self.new ≡ allows self.old }
         ensures shapes { shapes self.new ≡ shapes self.old };
 
@@ -89,6 +97,7 @@ pub trait Store {
         ensures facts { facts self.new ≡ rules.placed (facts self.old) site size }
         ensures granted { granted self.new ≡ spent (granted self.old) site (words_of size) }
         ensures faults { faults self.new ≡ faults self.old }
+        ensures knows { knows self.new ≡ knows self.old }
         ensures allows { allows self.new ≡ allows self.old }
         ensures shapes { shapes self.new ≡ shapes self.old };
 
@@ -107,7 +116,7 @@ pub trait Store {
         requires { IsTrue (is_kept (kept self.now) (serial_of (index self.now) at)) }
         ensures { option_map (λ object. object.site) (object_in (kept self.now) (serial_of (index self.now) at)) ≡ Some result };
 
-    /// Its serial, which is never 0 and stays the same wherever it lies.
+    /// Its serial, which is never 0 and stays the same wherever it lies. Two references name one object where their serials are the same.
     fn serial(&self, at: u64) -> u64
         requires { IsTrue (is_kept (kept self.now) (serial_of (index self.now) at)) }
         ensures { result ≡ serial_of (index self.now) at };
@@ -125,6 +134,7 @@ pub trait Store {
         ensures facts { facts self.new ≡ facts self.old }
         ensures granted { granted self.new ≡ granted self.old }
         ensures faults { faults self.new ≡ faults self.old }
+        ensures knows { knows self.new ≡ knows self.old }
         ensures allows { allows self.new ≡ allows self.old }
         ensures shapes { shapes self.new ≡ shapes self.old };
 
@@ -143,6 +153,7 @@ pub trait Store {
         ensures facts { facts self.new ≡ facts self.old }
         ensures granted { granted self.new ≡ granted self.old }
         ensures faults { faults self.new ≡ faults self.old }
+        ensures knows { knows self.new ≡ knows self.old }
         ensures allows { allows self.new ≡ allows self.old }
         ensures shapes { shapes self.new ≡ shapes self.old };
 }

@@ -1,6 +1,6 @@
 -- Natives that give a number, an object that was there, or nothing (Java SE 8 API, java.lang).
-use Rattle.std.specs.Prelude.{ℤ, pos, negsuc, ◌+ℤ◌, ◌-ℤ◌, ◌*ℤ◌, ℕ, ◌+◌, ◌-◌, ◌*◌, Bool, false, List, [], ◌∷◌, take, drop, length, Option, Some, None, option_and_then, option_map, slice_get, int_div, int_lt, nat_le, nat_lt, unsigned_abs, zero, suc, ◌==◌, ◌&&◌, ◌||◌, if◌then◌else◌}
-use Rattle.std.specs.Int.{Width, w32, w64, int_wrap}
+use Rattle.std.specs.Prelude.{ℤ, neg_ℤ, pos, negsuc, ◌+ℤ◌, ◌-ℤ◌, ◌*ℤ◌, ℕ, ◌+◌, ◌-◌, ◌*◌, Bool, false, List, [], ◌∷◌, take, drop, length, Option, Some, None, option_and_then, option_map, slice_get, int_lt, nat_le, nat_lt, unsigned_abs, zero, suc, ◌==◌, ◌&&◌, if◌then◌else◌}
+use Rattle.std.specs.Int.{Width, w32, w64, int_div_euclid, int_wrap}
 use Rattle.std.specs.List.{fold, position}
 use Rattle.std.specs.Ordering.{int_eq}
 use Rattle.cb_arith.specs.Bits.{bits_xor}
@@ -145,12 +145,9 @@ smaller one other = if int_lt other one then other else one
 abbrev absolute : ℤ → ℤ
 absolute number = pos (unsigned_abs number)
 
--- a quotient rounded down, and what is left of the number by it (JLS §15.17 rounds toward zero)
+-- the greatest whole number that isn't above the quotient, and what is left of the number by it (Math.floorDiv and floorMod)
 abbrev pub floor_quotient : ℤ → ℤ → ℤ
-floor_quotient a b =
-    let quotient = int_div a b in
-    if int_eq (quotient *ℤ b) a || int_eq (pos 0) b then quotient
-    else if (if int_lt a (pos 0) then int_lt (pos 0) b else int_lt b (pos 0)) then quotient -ℤ pos 1 else quotient
+floor_quotient a b = if int_lt b (pos 0) then int_div_euclid (neg_ℤ a) (neg_ℤ b) else int_div_euclid a b
 
 abbrev pub floor_remainder : ℤ → ℤ → ℤ
 floor_remainder a b = a -ℤ floor_quotient a b *ℤ b

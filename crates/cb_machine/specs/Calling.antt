@@ -7,7 +7,7 @@ use Rattle.cb_classfile.specs.declared.method.Method.{Method}
 use Rattle.cb_classfile.specs.Pool.{text_at}
 use Rattle.cb_hierarchy.specs.Classes.{superclass}
 use Rattle.cb_hierarchy.specs.Orders.{upwards}
-use Rattle.cb_hierarchy.specs.Resolution.{first_of, most_specific}
+use Rattle.cb_hierarchy.specs.Resolution.{first_of, is_private, method_is, most_specific}
 use Rattle.cb_hierarchy.specs.Selection.{declared_upwards, first_or, found, found_among}
 use Rattle.cb_hierarchy.specs.declared.selected.Selected.{Selected}
 use Rattle.cb_hierarchy.specs.declared.selected.Selected.TheVariants as chosen
@@ -119,14 +119,19 @@ named_class program (Some method) index = option_map (λ member. member.class) (
 abbrev holder_name : Now → ℕ → Option (List ℕ)
 holder_name now index = named_class now.machine.program (method_numbered now.machine.program now.frame.method) index
 
--- invokeinterface does where the object's class implements the interface; else it ends as where several are selected
+-- invokeinterface selects where the object's class implements the interface, and else ends as where several are selected. A private
+-- method can't be invoked so, whatever the object (§6.5 invokeinterface)
 abbrev implementing : Linked → ℕ → Option ℕ → ℕ → Selected
 implementing program method None kind = chosen.Several
 implementing program method (Some interface) kind = if instance program kind interface then select program kind method else chosen.Several
 
+abbrev is_private_method : Linked → ℕ → Bool
+is_private_method program method = method_is (ranked_methods program.classes) (λ own. is_private own.visibility) method
+
 abbrev calls_interface : Now → ℕ → Named → Option Plan
 calls_interface now index (meanings.Method method) =
-    calls now (implementing now.machine.program method (option_and_then (number_of now.machine.program.kinds) (holder_name now index))) method
+    if is_private_method now.machine.program method then Some (throws now.machine now.state incompatible_class_change)
+    else calls now (implementing now.machine.program method (option_and_then (number_of now.machine.program.kinds) (holder_name now index))) method
 calls_interface now index other = None
 
 abbrev pub invokes_interface : Now → ℕ → Option Plan

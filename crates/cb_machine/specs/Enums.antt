@@ -29,8 +29,7 @@ abbrev gives_static : Call → Option ℕ → Option Performed
 gives_static call None = stops call illegal_argument
 gives_static call (Some slot) = option_and_then (λ value. gives call (value ∷ [])) (slice_get call.state.roots.statics slot)
 
--- a class that is ready gives it; another stops the call
-
+-- the call goes on once the class is ready, and is stopped where it has failed or has to be initialised
 abbrev once_class : Call → ℕ → Option Performed → ClassState → Option Performed
 once_class call class ready Busy = ready
 once_class call class ready Done = ready

@@ -1,5 +1,5 @@
 -- What natives are given and give, and how they read objects.
-use Rattle.std.specs.Prelude.{ℤ, pos, ℕ, ◌∷◌, List, [], map, take, length, Option, Some, None, option_and_then, option_map, slice_get, nat_le, zero, suc, if◌then◌else◌, slice_set}
+use Rattle.std.specs.Prelude.{ℤ, pos, ℕ, ◌-◌, ◌^◌, ◌∷◌, List, [], map, take, length, Option, Some, None, option_and_then, option_map, slice_get, nat_le, zero, suc, if◌then◌else◌, slice_set}
 use Rattle.std.specs.Int.{int_rem_euclid}
 use Rattle.cb_plain.specs.declared.value.Value.{Value}
 use Rattle.cb_plain.specs.declared.value.Value.TheVariants.{Int, Ref}
@@ -92,7 +92,7 @@ built_text state builder =
 
 -- no array is longer than this
 abbrev pub most_elements : ℕ
-most_elements = 2147483647
+most_elements = 2 ^ 31 - 1
 
 abbrev pub if_short : Call → ℕ → Option Performed → Option Performed
 if_short call count go = if nat_le count most_elements then go else stops call negative_size
@@ -107,4 +107,4 @@ gives_text call units =
 
 -- the identity hash of an object
 abbrev pub identity_hash : ℕ → ℤ
-identity_hash serial = int_rem_euclid (pos serial) (pos 2147483648)
+identity_hash serial = int_rem_euclid (pos serial) (pos (2 ^ 31))

@@ -53,13 +53,9 @@ abbrev with_arguments : Machine → List (List ℕ) → Plan → Plan
 with_arguments machine arguments plan = fold (with_argument_string machine) (with_argument_array machine (length arguments) plan) arguments
 
 -- the streams stand in the two static fields of System
-abbrev set_first : Plan → List ℕ → ℕ → Plan
-set_first plan [] serial = plan
-set_first plan (slot ∷ slots) serial = with_left plan (with_static plan.left slot (Ref serial))
-
 abbrev set_streams : Plan → List ℕ → ℕ → Plan
 set_streams plan [] serial = plan
-set_streams plan (slot ∷ slots) serial = set_first (with_left plan (with_static plan.left slot (Ref serial))) slots (serial + 1)
+set_streams plan (slot ∷ slots) serial = set_streams (with_left plan (with_static plan.left slot (Ref serial))) slots (serial + 1)
 
 abbrev with_streams : Machine → Plan → Plan
 with_streams machine plan =

@@ -1,10 +1,10 @@
 //! The meaning of programs.
 //!
 //! `specs/` says what a linked and typed program does: the machine that never frees an object. Its files are to be read in this order:
-//! the state and what can be reached (`State`, `Reach`); machines, numbers of classes and sites (`Machine`, `Library`, `Sites`); states
-//! with one thing changed (`Updates`); what a step places and leaves (`Plans`); values, and where a machine stands at an instruction
-//! (`Values`, `Standing`); exceptions, strings, frames, initialisation and handlers (`Throwing`, `Strings`, `Depth`, `Initialising`,
-//! `Unwinding`); the shapes of instructions (`Computing`, `Locals`, `Branching`, `Arrays`, `Fields`, `Creating`, `Testing`); the natives
+//! in `cb_plain` the state, what can be reached, states with one thing changed, how deep frames go and how room is asked for (`State`,
+//! `Reach`, `Roots`, `Updates`, `Depth`, `Requests`); machines, numbers of classes and sites (`Machine`, `Library`, `Sites`); what a step
+//! places and leaves (`Plans`); values, and where a machine stands at an instruction (`Values`, `Standing`); exceptions, strings, the entry
+//! of methods, initialisation and handlers (`Throwing`, `Strings`, `Entering`, `Initialising`, `Unwinding`); the shapes of instructions (`Computing`, `Locals`, `Branching`, `Arrays`, `Fields`, `Creating`, `Testing`); the natives
 //! (`Performing`, `Texts`, `Builders`, `Boxes`, `Copying`, `Outside`, `Answering`, `Enums`, `Natives`); calls (`Calling`); the step, the
 //! start and runs (`Steps`, `Starting`, `Runs`). Nothing runs by them yet. Small programs (`Laid`, `Small`) are computed by the check.
 //!

@@ -91,6 +91,8 @@ impl Store for MapHeap {
 
     ghost shapes = { λ heap. heap.shapes };
 
+    ghost knows = { λ heap site. true };
+
     ghost allows = { λ heap one other. true };
 
     ghost granted = { λ heap. heap.granted };

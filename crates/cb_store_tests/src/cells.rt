@@ -210,6 +210,8 @@ impl Store for CellStore {
 
     ghost shapes = { λ store. cell_shapes };
 
+    ghost knows = { λ store site. true };
+
     ghost allows = { λ store one other. true };
 
     ghost granted = { λ store. store.granted };

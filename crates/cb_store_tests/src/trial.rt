@@ -19,6 +19,7 @@ pub fn linked<S: Store>(
     requires sized { IsTrue (has_size (S.shapes store.old) 1 1) }
     requires blank { (new_object (S.shapes store.old) 0 1 1).contents ≡ Reference 0 ∷ [] }
     requires serials { length (S.kept store.old) + 3 < 2 ^ 63 }
+    requires knows { S.knows store.old 0 ≡ true }
     requires allows { (one other : ℕ) → S.allows store.old one other ≡ true }
     ensures { IfOk result (λ serial. serial ≡ length (S.kept store.old) + 2) }
 {

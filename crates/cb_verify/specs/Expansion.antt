@@ -1,5 +1,5 @@
 -- The frames that a method declares, in full (JVMS §4.7.4, §4.10.1.4), and the one with which it begins (§4.10.1.6).
-use Rattle.std.specs.Prelude.{ℕ, ◌+◌, ◌-◌, List, [], ◌∷◌, ◌++◌, length, map, take, Option, Some, None, option_and_then, option_map, nat_le, ◌==◌, if◌then◌else◌}
+use Rattle.std.specs.Prelude.{ℕ, ◌+◌, ◌-◌, List, [], ◌∷◌, ◌++◌, length, map, take, Option, Some, None, is_some, option_and_then, option_map, nat_le, ◌==◌, ◌&&◌, if◌then◌else◌}
 use Rattle.std.specs.List.{find}
 use Rattle.cb_classfile.specs.declared.frame_form.FrameForm.{FrameForm}
 use Rattle.cb_classfile.specs.declared.frame_form.FrameForm.TheVariants as forms
@@ -12,7 +12,7 @@ use Rattle.cb_verify.specs.declared.verification_type.VerificationType.TheVarian
 use Rattle.cb_verify.specs.Frames.{Frame, has_this, is_legal, laid}
 use Rattle.cb_verify.specs.Leaving.{new_kind}
 use Rattle.cb_verify.specs.Types.{type_of}
-use Rattle.cb_verify.specs.Within.{Within, kind_named, parameters}
+use Rattle.cb_verify.specs.Within.{Within, kind_named, parameters, result_of}
 
 -- each of some, or none where one is missing
 abbrev pub all_of : {Item : Type 0} → List (Option Item) → Option (List Item)
@@ -54,9 +54,9 @@ frame_of method values stacked =
     then option_map (λ locals. record { locals = locals; stack = reversed [] stacked; unfinished = has_this values }) (laid method.body.max_locals values)
     else None
 
--- the frame with which a method begins, if it has room for its parameters
+-- the frame with which a method begins, if it has room for its parameters. A constructor gives nothing (§4.3.3)
 abbrev pub start : Within → Option Frame
-start method = frame_of method (start_types method) []
+start method = if method.is_constructor && is_some (result_of method) then None else frame_of method (start_types method) []
 
 -- the values in the local variables of a frame by those before it, if both are there
 abbrev pub without_last : ℕ → List VerificationType → Option (List VerificationType)

@@ -48,6 +48,10 @@ made_type method pc =
 abbrev pub dimensions_of : List ℕ → ℕ
 dimensions_of name = length (take_while (λ unit. unit == bracket) name)
 
+-- an array has no more than this (§4.9.1), so what its components are has fewer
+abbrev pub most_dimensions : ℕ
+most_dimensions = 255
+
 abbrev pub has_dimensions : Within → ℕ → ℕ → Bool
 has_dimensions method index dimensions =
     nat_le dimensions (dimensions_of (or_none (option_and_then (slice_get method.program.kinds) (kind_named method index))))
@@ -68,7 +72,7 @@ module _ (method : Within) (pc : ℕ) where
   given actions.StoreReference (value ∷ index ∷ array ∷ []) =
       only_if (is_initialised value && is_array_of method.program are_references array) None
   given (actions.NewNumbers code) types = option_map Some (made_type method pc)
-  given (actions.NewReferences index) types = option_map Some (made_type method pc)
+  given (actions.NewReferences index) types = if has_dimensions method index most_dimensions then None else option_map Some (made_type method pc)
   given (actions.NewArrays index dimensions) types =
       if has_dimensions method index dimensions then option_map Some (made_type method pc) else None
   given (actions.Cast index) (object ∷ []) =

@@ -85,10 +85,13 @@ impl Declared {
     }
 }
 
-/// The frame with which a method begins, if it has room for its parameters.
+/// The frame with which a method begins, if it has room for its parameters. A constructor that gives something has none.
 pub(crate) fn start(alloc: Global, method: &Within<'_>) -> Result<Option<TypeFrame>, OutOfMemory>
     ensures { IfOk result (λ frame. frame ≡ start method.now) }
 {
+    if method.is_constructor && method.result_of().is_some() {
+        return Ok(None);
+    }
     match start_laid(alloc, method)? {
         Some(laid) => frame_of(alloc, method, &laid, &[]),
         None => Ok(None),

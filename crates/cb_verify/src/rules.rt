@@ -22,6 +22,9 @@ pub(crate) const THROWABLE: u32 = 22;
 /// The bracket with which the name of an array begins (JVMS §4.4.1).
 pub(crate) const BRACKET: u16 = b'[' as u16;
 
+// An array has no more dimensions than this (JVMS §4.9.1).
+const MOST_DIMENSIONS: u8 = 255;
+
 /// What an instruction gives.
 pub(crate) type Given = Option<VerificationType>;
 
@@ -88,7 +91,10 @@ fn given_by_sorts(method: &Within<'_>, pc: u32, action: Action) -> Option<Given>
         Action::Null => Some(Some(VerificationType::Null)),
         Action::Constant(_) => Some(Some(constant_type(method.program.named(method.number, pc))?)),
         Action::Branch(_) | Action::Switch => Some(None),
-        Action::NewNumbers(_) | Action::NewReferences(_) => Some(Some(made_type(method, pc)?)),
+        Action::NewNumbers(_) => Some(Some(made_type(method, pc)?)),
+        Action::NewReferences(index) if !has_dimensions(method, index, MOST_DIMENSIONS) => {
+            Some(Some(made_type(method, pc)?))
+        }
         Action::NewArrays { index, dimensions } if has_dimensions(method, index, dimensions) => {
             Some(Some(made_type(method, pc)?))
         }
