@@ -1,5 +1,5 @@
 -- What comes of a walk over instructions.
-use Rattle.std.proofs.Common.{◌≡◌, ◌∙◌, ap, ap₂, refl, sym, arith, ℕ, ◌+◌, ◌<◌, Bool, true, false, ◌||◌, not, List, [], ◌∷◌, ◌++◌, Option, Some, None, drop, get_or, length, map, min}
+use Rattle.std.proofs.Common.{◌≡◌, ◌∙◌, ap, ap₂, refl, sym, arith, ℕ, ◌+◌, ◌<◌, Bool, true, false, ◌||◌, not, List, [], ◌∷◌, ◌++◌, Option, Some, None, drop, get_or, length, map, min, is_none}
 use Rattle.std.specs.Prelude.{filter, if◌then◌else◌, ◌==◌}
 use Rattle.std.specs.List.{list_any}
 use Rattle.std.proofs.lemmas.List.{append_assoc, drop_more}
@@ -9,7 +9,7 @@ use Rattle.cb_verify.specs.Expansion.{declared, start}
 use Rattle.cb_verify.specs.Framed.{framed, framed_at}
 use Rattle.cb_verify.specs.Frames.{Frame}
 use Rattle.cb_verify.specs.Passing.{failing_at, is_stranded, lesser, stepped, stranded, unfit, walked}
-use Rattle.cb_verify.specs.Typed.{Declared, Placed, after, begins, failing_in, first_failing, first_place, fits, fits_with, frame_at, is_lost, is_missing, least, least_with, onwards, placed_behind}
+use Rattle.cb_verify.specs.Typed.{Declared, Placed, after, begins, failing_in, first_failing, first_place, fits, fits_with, frame_at, is_lost, least, least_with, onwards, placed_behind}
 use Rattle.cb_verify.specs.Within.{Within}
 
 -- the lesser of numbers, of which some aren't there
@@ -91,7 +91,7 @@ pub lost_stranded : (method : Within) (frames : Declared) (arrived : Option Fram
     → filter (is_lost (placed_behind method frames arrived code)) entries ≡ filter (is_stranded code) entries
 lost_stranded method frames arrived code [] = refl
 lost_stranded method frames arrived code (entry ∷ entries) =
-    ap₂ (λ (lost : Bool) (rest : List (ℕ × Option Frame)). if is_missing entry.1 || not lost then entry ∷ rest else rest) (any_placed method frames arrived code entry.0) (lost_stranded method frames arrived code entries)
+    ap₂ (λ (lost : Bool) (rest : List (ℕ × Option Frame)). if is_none entry.1 || not lost then entry ∷ rest else rest) (any_placed method frames arrived code entry.0) (lost_stranded method frames arrived code entries)
 
 -- the first place that fails
 pub first_failing_of : (method : Within) (frames : Declared) (arrived : Option Frame) (code : List (ℕ × Insn))

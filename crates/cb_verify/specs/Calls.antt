@@ -1,5 +1,5 @@
 -- Instructions on fields and methods (JVMS §4.10.1.9, getfield to invokeinterface) and the returns.
-use Rattle.std.specs.Prelude.{ℕ, Bool, true, false, List, [], ◌∷◌, ◌++◌, Option, Some, None, option_and_then, not, ◌==◌, ◌||◌, ◌&&◌, if◌then◌else◌}
+use Rattle.std.specs.Prelude.{ℕ, Bool, true, false, List, [], ◌∷◌, ◌++◌, Option, Some, None, option_and_then, not, ◌==◌, ◌||◌, ◌&&◌, if◌then◌else◌, is_none}
 use Rattle.std.specs.Option.{option_or}
 use Rattle.cb_kinds.specs.declared.basic.Basic.{Basic}
 use Rattle.cb_link.specs.Program.{Linked}
@@ -91,10 +91,6 @@ abbrev return_of : Within → Sort → Frame → Basic → Option Frame
 return_of method sort frame result =
     if is_of sort (type_of result) then exchanged method frame [] (type_of result ∷ []) else None
 
-abbrev gives_nothing : {Item : Type 0} → Option Item → Bool
-gives_nothing None = true
-gives_nothing (Some item) = false
-
 abbrev pub return_with : Within → Option Sort → Frame → Option Frame
-return_with method None frame = if gives_nothing (result_of method) && not frame.unfinished then Some frame else None
+return_with method None frame = if is_none (result_of method) && not frame.unfinished then Some frame else None
 return_with method (Some sort) frame = option_and_then (return_of method sort frame) (result_of method)

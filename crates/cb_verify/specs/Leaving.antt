@@ -1,5 +1,5 @@
 -- What an instruction leaves of the frame before it, where its rule is met (JVMS §4.10.1.9).
-use Rattle.std.specs.Prelude.{ℕ, Bool, true, false, List, [], ◌∷◌, Option, Some, None, option_and_then, option_map, slice_get, not, ◌==◌, ◌||◌, ◌&&◌, if◌then◌else◌}
+use Rattle.std.specs.Prelude.{ℕ, Bool, true, false, List, [], ◌∷◌, Option, Some, None, option_and_then, option_map, slice_get, not, ◌==◌, ◌||◌, ◌&&◌, if◌then◌else◌, is_none}
 use Rattle.std.specs.List.{list_any}
 use Rattle.cb_insn.specs.declared.insn.Insn.{Insn}
 use Rattle.cb_hierarchy.specs.Classes.{listed}
@@ -87,13 +87,9 @@ abbrev pub constructed : Within → ℕ → Frame → List VerificationType → 
 constructed method kind frame [] = None
 constructed method kind frame (object ∷ rest) = option_map (λ type. all_replaced object type frame rest) (finished method kind object)
 
-abbrev is_missing : {Item : Type 0} → Option Item → Bool
-is_missing None = true
-is_missing (Some item) = false
-
 abbrev pub construct : Within → ℕ → Member → Frame → Option Frame
 construct method index member frame =
-    if is_missing member.gives
+    if is_none member.gives
     then option_and_then (λ kind. option_and_then (constructed method kind frame) (popped method.program (taken_types member) frame.stack)) (holder method index)
     else None
 

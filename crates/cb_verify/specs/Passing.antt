@@ -1,11 +1,11 @@
 -- What goes from instruction to instruction as a method is passed over.
-use Rattle.std.specs.Prelude.{ℕ, Bool, List, [], ◌∷◌, ◌++◌, filter, map, Option, Some, None, min, not, ◌==◌, ◌||◌, if◌then◌else◌}
+use Rattle.std.specs.Prelude.{ℕ, Bool, List, [], ◌∷◌, ◌++◌, filter, map, Option, Some, None, min, not, ◌==◌, ◌||◌, if◌then◌else◌, is_none}
 use Rattle.std.specs.List.{list_any}
 use Rattle.cb_insn.specs.declared.insn.Insn.{Insn}
 use Rattle.cb_verify.specs.declared.pass.Walk.{Walk}
 use Rattle.cb_verify.specs.Framed.{framed_at}
 use Rattle.cb_verify.specs.Frames.{Frame}
-use Rattle.cb_verify.specs.Typed.{Declared, Placed, after, first_place, fits, fits_with, frame_at, is_missing, onwards}
+use Rattle.cb_verify.specs.Typed.{Declared, Placed, after, first_place, fits, fits_with, frame_at, onwards}
 use Rattle.cb_verify.specs.Within.{Within}
 
 -- the lesser of two numbers, where they are there
@@ -35,7 +35,7 @@ walked method frames walk (placed ∷ code) = walked method frames (stepped meth
 
 -- a frame that can't be had, or at whose place none of the instructions stands
 abbrev pub is_stranded : List (ℕ × Insn) → ℕ × Option Frame → Bool
-is_stranded code entry = is_missing entry.1 || not (list_any (λ placed. placed.0 == entry.0) code)
+is_stranded code entry = is_none entry.1 || not (list_any (λ placed. placed.0 == entry.0) code)
 
 abbrev pub stranded : List (ℕ × Insn) → Declared → List ℕ
 stranded code frames = map (λ entry. entry.0) (filter (is_stranded code) frames)

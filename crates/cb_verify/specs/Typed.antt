@@ -1,5 +1,5 @@
 -- Whether a program is typed (JVMS §4.10.1): what fits, and what fails first.
-use Rattle.std.specs.Prelude.{◌≡◌, ℕ, ◌<◌, Bool, true, false, List, [], ◌∷◌, ◌++◌, filter, map, Option, Some, None, length, min, option_and_then, nat_le, nat_lt, not, ◌==◌, ◌||◌, ◌&&◌, if◌then◌else◌}
+use Rattle.std.specs.Prelude.{◌≡◌, ℕ, ◌<◌, Bool, true, false, List, [], ◌∷◌, ◌++◌, filter, map, Option, Some, None, length, min, option_and_then, nat_le, nat_lt, not, ◌==◌, ◌||◌, ◌&&◌, if◌then◌else◌, is_none}
 use Rattle.std.specs.List.{list_all, list_any}
 use Rattle.cb_insn.specs.declared.insn.Insn.{Insn}
 use Rattle.cb_classfile.specs.declared.handler.Handler.{Handler}
@@ -120,12 +120,8 @@ begins method frames = begun (start method) where
 
 -- the places that fail: of instructions that don't fit, the first one's where the method's beginning doesn't, and of frames that
 -- can't be expanded or at which no instruction stands
-abbrev pub is_missing : {Item : Type 0} → Option Item → Bool
-is_missing None = true
-is_missing (Some item) = false
-
 abbrev pub is_lost : List Placed → ℕ × Option Frame → Bool
-is_lost placed entry = is_missing entry.1 || not (list_any (λ own. own.place == entry.0) placed)
+is_lost placed entry = is_none entry.1 || not (list_any (λ own. own.place == entry.0) placed)
 
 abbrev pub failing_in : Within → Declared → List Placed → List ℕ
 failing_in method frames placed =

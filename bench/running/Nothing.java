@@ -1,0 +1,4 @@
+class Nothing {
+    public static void main(String[] args) {
+    }
+}
