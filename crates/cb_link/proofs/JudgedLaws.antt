@@ -10,9 +10,9 @@ use Rattle.cb_hierarchy.specs.Bad.{AreGood}
 use Rattle.cb_link.specs.declared.refusal.Quantity.TheVariants.{Sites}
 use Rattle.cb_link.specs.declared.refusal.Refusal.{Refusal}
 use Rattle.cb_link.specs.declared.refusal.Refusal.TheVariants as refusals
-use Rattle.cb_link.specs.Inside.{HindersProgram, IsTooMany}
+use Rattle.cb_link.specs.Judging.{HasManySites, HindersProgram, site_count, site_limit}
+use Rattle.cb_link.specs.Inside.{IsTooMany}
 use Rattle.cb_link.specs.Judged.{IsBegun}
-use Rattle.cb_link.specs.Judging.{HasManySites, site_count, site_limit}
 use Rattle.cb_link.specs.Lacking.{first_lacking, lacks, lacks_in}
 use Rattle.cb_link.specs.Numbers.{hierarchy, ranked_methods}
 

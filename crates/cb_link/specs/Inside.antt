@@ -7,9 +7,9 @@ use Rattle.cb_hierarchy.specs.declared.class.Class.{Class as Ranked}
 use Rattle.cb_hierarchy.specs.declared.member.Field.{Field as RankedField}
 use Rattle.cb_hierarchy.specs.declared.member.Method.{Method as RankedMethod}
 use Rattle.cb_link.specs.declared.refusal.Refusal.{Refusal}
-use Rattle.cb_link.specs.declared.refusal.Refusal.TheVariants.{FolderFault, OutOfMemory, TooLarge}
+use Rattle.cb_link.specs.declared.refusal.Refusal.TheVariants.{OutOfMemory, TooLarge}
 use Rattle.cb_link.specs.declared.refusal.Quantity.TheVariants.{Sites}
-use Rattle.cb_link.specs.Judging.{IsNoProgram, site_limit}
+use Rattle.cb_link.specs.Judging.{site_limit}
 use Rattle.cb_link.specs.Numbers.{field_texts, hierarchy, method_texts, name_of, ranked_fields, ranked_methods}
 
 -- the names of a member that a program holds
@@ -24,12 +24,6 @@ pub record Resolves (classes : List ClassFile) (names : List (List ℕ)) (fields
   pub fields_ranked : ranked_field ≡ ranked_fields classes
   pub methods_ranked : ranked_method ≡ ranked_methods classes
   pub classes_ranked : ranked ≡ hierarchy classes
-
--- what a refusal says of classes that were loaded: want of memory says nothing, and no fault of a folder comes any more
-abbrev pub HindersProgram : List ClassFile → List ℕ → Refusal → Type 0
-HindersProgram classes main OutOfMemory = Unit {0}
-HindersProgram classes main FolderFault = ⊥
-HindersProgram classes main refusal = IsNoProgram classes main refusal
 
 -- a refusal for too many sites, or want of memory
 abbrev pub IsTooMany : Type 0 → Refusal → Type 0

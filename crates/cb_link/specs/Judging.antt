@@ -5,13 +5,16 @@ use Rattle.cb_classfile.specs.declared.class.ClassFile.{ClassFile}
 use Rattle.cb_hierarchy.specs.Bad.{AreGood, IsFirstBad}
 use Rattle.cb_link.specs.declared.refusal.Quantity.TheVariants.{Methods, Sites}
 use Rattle.cb_link.specs.declared.refusal.Refusal.{Refusal}
-use Rattle.cb_link.specs.declared.refusal.Refusal.TheVariants.{BadHierarchy, MissingMember, NoMain, TooLarge}
+use Rattle.cb_link.specs.declared.refusal.Refusal.TheVariants.{BadHierarchy, FolderFault, MissingMember, NoMain, OutOfMemory, TooLarge}
 use Rattle.cb_link.specs.Lacking.{first_lacking}
 use Rattle.cb_link.specs.Making.{fixed_kinds, makings}
 use Rattle.cb_link.specs.Numbers.{hierarchy, methods_of, name_of, ranked_methods}
 use Rattle.cb_link.specs.Resolving.{main_method}
 
--- the most methods, and the most sites, of which the machine's own are some
+-- the most classes, of which the library's are some; the most methods; and the most sites, of which the machine's own are some
+abbrev pub class_limit : ℕ
+class_limit = 1024
+
 abbrev pub method_limit : ℕ
 method_limit = 16384
 
@@ -44,3 +47,9 @@ pub data IsNoProgram (classes : List ClassFile) (main : List ℕ) : Refusal → 
   HasManySites : (method : ℕ) → AreGood (hierarchy classes) (ranked_methods classes) → first_lacking classes ≡ None
       → main_method classes main ≡ Some method → length (methods_of classes) ≤ method_limit → site_limit < site_count classes
       → IsNoProgram classes main (TooLarge Sites (site_limit + 1) site_limit)
+
+-- what a refusal says of classes: want of memory says nothing, and no folder is asked that could fail
+abbrev pub HindersProgram : List ClassFile → List ℕ → Refusal → Type 0
+HindersProgram classes main OutOfMemory = Unit {0}
+HindersProgram classes main FolderFault = ⊥
+HindersProgram classes main refusal = IsNoProgram classes main refusal

@@ -7,9 +7,8 @@ use Rattle.cb_insn.specs.declared.insn.Insn.{Insn}
 use Rattle.cb_classfile.specs.declared.body.Body.{Body}
 use Rattle.cb_classfile.specs.declared.class.ClassFile.{ClassFile}
 use Rattle.cb_hierarchy.specs.Resolution.{first_some}
-use Rattle.cb_link.specs.Closure.{same_name}
+use Rattle.cb_link.specs.Numbers.{class_number, ranked_fields, ranked_methods, same_name}
 use Rattle.cb_link.specs.Lacking.{lacks, suits_field, suits_method}
-use Rattle.cb_link.specs.Numbers.{class_number, ranked_fields, ranked_methods}
 use Rattle.cb_link.specs.Resolving.{found_field, found_method}
 
 -- whether what is found is what an instruction asks for

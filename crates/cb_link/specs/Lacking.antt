@@ -12,9 +12,7 @@ use Rattle.cb_classfile.specs.Needed.{index_in}
 use Rattle.cb_hierarchy.specs.declared.member.Field.{Field as RankedField}
 use Rattle.cb_hierarchy.specs.declared.member.Method.{Method as RankedMethod}
 use Rattle.cb_hierarchy.specs.Resolution.{first_some}
-use Rattle.cb_link.specs.Closure.{same_name}
-use Rattle.cb_link.specs.Loading.{library_size}
-use Rattle.cb_link.specs.Numbers.{acc_abstract, class_number, has_flag, ranked_fields, ranked_methods}
+use Rattle.cb_link.specs.Numbers.{acc_abstract, class_number, has_flag, library_size, ranked_fields, ranked_methods, same_name}
 use Rattle.cb_link.specs.Resolving.{found_field, found_method}
 
 -- a class of the library, by its number
@@ -41,7 +39,8 @@ suits_field class opcode (Some field) =
     if is_static_field opcode then field.is_static
     else not field.is_static && (is_of_library class || not (is_of_library field.declared.class))
 
--- a method is: static or not; and a constructor is one of the very class that is named (§5.4.3.3 would find a superclass's)
+-- a method is: static or not; and a constructor is one of the very class that is named (§6.5 invokespecial; §5.4.3.3 alone would find a
+-- superclass's)
 abbrev pub suits_method : ℕ → Option ℕ → Bool → Option RankedMethod → Bool
 suits_method opcode named is_init None = false
 suits_method opcode named is_init (Some method) =

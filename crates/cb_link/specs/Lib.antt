@@ -1,23 +1,15 @@
 pub mod Calls
-pub mod Closure
 pub mod Counting
-pub mod Entering
-pub mod Examples
-pub mod Files
 pub mod Formed
 pub mod Having
-pub mod Inner
 pub mod Inside
 pub mod Judged
 pub mod Judging
 pub mod Lacked
 pub mod Kinded
 pub mod Lacking
-pub mod Linking
-pub mod Loading
 pub mod Making
 pub mod Named
-pub mod Names
 pub mod Numbers
 pub mod Parts
 pub mod Places
@@ -28,10 +20,4 @@ pub mod Sited
 pub mod Slots
 pub mod Subtypes
 pub mod Tabled
-pub mod Using
 pub mod Turned
-pub mod Turning
--- what the public clauses cite of the crates below
-pub use Rattle.cb_classfile.specs.Library
-pub use Rattle.cb_io.specs.Faults
-pub use Rattle.cb_io.specs.Folder

@@ -24,7 +24,7 @@ use Rattle.cb_kinds.specs.Kinds.{array_of, kinds_of_name, kinds_of_type}
 use Rattle.cb_kinds.specs.Texts.{firsts}
 use Rattle.cb_link.specs.Numbers.{acc_static, has_flag, methods_of, name_of, or_none}
 
--- the array of the base type of a code (JVMS table 6.5.newarray-A)
+-- the letter of the base type of a code (JVMS table 6.5.newarray-A)
 abbrev pub letter_of_code : ℕ → ℕ
 letter_of_code code =
     if code == array_codes.BOOLEAN then letter_boolean

@@ -1,5 +1,6 @@
 -- The classes and members of a program by their numbers, as resolution and selection see them (JVMS §4.1, §4.5, §4.6).
-use Rattle.std.specs.Prelude.{ℕ, Bool, false, List, [], ◌∷◌, map, Option, Some, None, option_and_then, bit_and, ◌==◌, if◌then◌else◌}
+use Rattle.std.specs.Prelude.{ℕ, Bool, false, List, [], ◌∷◌, map, Option, Some, None, option_and_then, bit_and, nat_eq, ◌==◌, if◌then◌else◌}
+use Rattle.std.specs.Cmp.Lexicographic.{pointwise}
 use Rattle.std.specs.List.{enumerate_from, flat_map, list_any}
 use Rattle.cb_text.specs.declared.constant.Constant.{Constant}
 use Rattle.cb_classfile.specs.declared.class.ClassFile.{ClassFile}
@@ -15,9 +16,8 @@ use Rattle.cb_hierarchy.specs.Classes.{listed}
 use Rattle.cb_kinds.specs.Basics.{kind_number}
 use Rattle.cb_kinds.specs.Texts.{number_of, own_number}
 use Rattle.cb_names.specs.Signs.{slash}
-use Rattle.cb_link.specs.Closure.{same_name}
 
--- the access flags that linking looks at (JVMS tables 4.1-B, 4.5-A and 4.6-A)
+-- the access flags that linking looks at (JVMS tables 4.1-A, 4.5-A and 4.6-A)
 abbrev pub acc_public : ℕ
 acc_public = 0x0001
 
@@ -44,6 +44,14 @@ acc_enum = 0x4000
 
 abbrev pub has_flag : ℕ → ℕ → Bool
 has_flag flag flags = bit_and flags flag == flag
+
+-- how many classes are the library's, which are the first
+abbrev pub library_size : ℕ
+library_size = 50
+
+-- whether two names are the same
+abbrev pub same_name : List ℕ → List ℕ → Bool
+same_name one other = pointwise nat_eq one other
 
 -- a text, or none
 abbrev pub or_none : Option (List ℕ) → List ℕ

@@ -13,7 +13,7 @@ use Rattle.cb_link.specs.Numbers.{class_number, field_texts, hierarchy, method_t
 abbrev pub object : ℕ
 object = 0
 
--- the class in which a member is looked up: an array's members are those of Object (JVMS §4.4.1)
+-- the class in which a member is looked up: an array's superclass is Object (JVMS §5.4.3.2, §5.4.3.3; JLS §10.8)
 abbrev pub holder : List ClassFile → List ℕ → Option ℕ
 holder classes name = if is_array name then Some object else class_number classes name
 

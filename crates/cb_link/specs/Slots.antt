@@ -68,7 +68,7 @@ is_enum_static classes field =
     && (same_text (or_none (text_at field.pool field.member.descriptor)) (type_of_name (or_none (option_map name_of (slice_get classes field.class))))
     && is_enum classes field.class (class_number classes enum_name))
 
--- the slots of a class's
+-- the slots of a class's constants, if it is an enum's, in the order of its fields
 abbrev pub enum_statics : List ClassFile → ℕ → List ℕ
 enum_statics classes class =
     map (λ entry. slot_of classes entry.0) (filter (λ entry. (entry.1.class == class) && is_enum_static classes entry.1) (enumerate_from 0 (fields_of classes)))

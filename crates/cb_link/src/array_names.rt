@@ -3,7 +3,7 @@ ghost use Rattle.std.specs.Prelude.{◌≡◌, [], ◌∷◌, IfOk, MatchOption,
 ghost use Rattle.cb_kinds.specs.Kinds.{kinds_of_type};
 ghost use Rattle.cb_link.specs.Making.{base_array, letter_of_code};
 
-use crate::class_of::units_of;
+use crate::units::units_of;
 use cb_classfile::array_code;
 use cb_kinds::class_name;
 use cb_plain::{List, OutOfMemory};

@@ -1,25 +1,25 @@
-// The program of classes that were loaded.
+// The program of classes.
 ghost use Rattle.std.specs.Prelude.{◌≡◌, ◌≤◌, ◌<◌, ℕ, length, map, IfErr, IfOk};
 ghost use Rattle.std.specs.List.{AllByRecursion};
 ghost use Rattle.cb_hierarchy.specs.Bad.{AreGood};
 ghost use Rattle.cb_kinds.specs.Basics.{kind_number};
 ghost use Rattle.cb_link.specs.Having.{HasOwnName};
-ghost use Rattle.cb_link.specs.Inside.{HindersProgram, IsTooMany};
+ghost use Rattle.cb_link.specs.Inside.{IsTooMany};
 ghost use Rattle.cb_link.specs.Judged.{IsBegun};
+ghost use Rattle.cb_link.specs.Judging.{HindersProgram, IsProgram, class_limit, site_count, site_limit};
 ghost use Rattle.cb_link.specs.Parts.{AreParts, HasParts, linked_with};
-ghost use Rattle.cb_link.specs.Judging.{IsProgram, site_count, site_limit};
 ghost use Rattle.cb_link.specs.Making.{constants, fixed_kinds, kinds, makings};
 ghost use Rattle.cb_link.specs.Numbers.{fields_of, hierarchy, methods_of, name_of, ranked_methods};
 ghost use Rattle.cb_link.specs.Program.{linked, linked_field, linked_method, linked_site};
 
 use crate::all_tables::Tables;
 use crate::base::Base;
-use crate::class_of::units_of;
 use crate::kinds::{constants_of, kinds_of};
 use crate::lacking::first_lacking;
 use crate::resolver::Resolver;
 use crate::sites::sites_by_number;
 use crate::tables::{fields_by_number, fixed_by_number, methods_by_number};
+use crate::units::units_of;
 use crate::{LinkedFields, LinkedMethods, Program, Quantity, Refusal, Sites};
 use cb_classfile::{ClassFile, Classes};
 use cb_kinds::Texts;
@@ -30,11 +30,17 @@ use std::alloc::Global;
 /// The most methods of a program.
 const METHOD_LIMIT: usize = 16_384;
 
-/// The program of classes, of which there are at most 1,024, that begins with the method `main` of a class. Refused, in this
-/// order, for the first class that is bad, the first instruction that names a member that can't be had, want of a main method,
-/// too many methods, and too many sites; or where no memory was to be had.
-pub(crate) fn program_of(alloc: Global, classes: Classes, main: Units) -> Result<Program, Refusal>
-    requires few { length classes ≤ 1024 }
+/// The program of classes, which begins with the method `main` of the main one. There are at most 1,024 classes, none has the name
+/// of an array, and the first fifty count as the library's. Names are internal names (JVMS §4.2.1).
+///
+/// The classes are refused in this order: `BadHierarchy` for the first class that can't be in a hierarchy (JVMS §5.3.5);
+/// `MissingMember` for the first instruction, by class, method and place, that names a member that can't be had (JVMS §5.4.3);
+/// `NoMain` where the main class and its superclasses have no static method `main`; `TooLarge` where there are more than 16,384
+/// methods, and then where there are more than 16,384 sites. `OutOfMemory` where no memory was to be had. There is no other
+/// refusal. Takes time in the size of the classes, times a logarithm, and in the instructions that name members, times what is
+/// above their classes.
+pub fn program_of(alloc: Global, classes: Classes, main: Units) -> Result<Program, Refusal>
+    requires few { length classes ≤ class_limit }
     requires named { AllByRecursion HasOwnName classes }
     ensures made { IfOk result (λ program. (method : ℕ) × IsProgram classes main method × (program ≡ linked classes main method)) }
     ensures refused { IfErr result (HindersProgram classes main) }
@@ -46,7 +52,7 @@ pub(crate) fn program_of(alloc: Global, classes: Classes, main: Units) -> Result
 
 /// The program without its tables, refused likewise.
 fn based(alloc: Global, classes: Classes, main: &Units) -> Result<Base, Refusal>
-    requires few { length classes ≤ 1024 }
+    requires few { length classes ≤ class_limit }
     requires named { AllByRecursion HasOwnName classes }
     ensures made { IfOk result (λ base. (method : ℕ) × IsProgram classes main.now method × (base ≡ linked classes main.now method)) }
     ensures refused { IfErr result (HindersProgram classes main.now) }

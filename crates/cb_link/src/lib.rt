@@ -1,5 +1,5 @@
-//! Linking (JVMS chapter 5): the classes that a main class needs, found in a folder, and the program that they are: its hierarchy,
-//! kinds of objects, members, sites and texts, by numbers, and what a running machine asks of them.
+//! Linking (JVMS chapter 5): the program that classes are, once they are loaded: its hierarchy, kinds of objects, members, sites
+//! and texts, by numbers, and what a running machine asks of them. `cb_load` finds the classes in a folder.
 //!
 //! `specs/` has a file for each notion. No clause says that memory is to be had, nor how much the tables take; that no call
 //! always gives up is shown by cases of `cb_cases`.
@@ -10,19 +10,15 @@ mod array_names;
 mod base;
 mod call_answers;
 mod call_tables;
-mod class_names;
-mod class_of;
 mod class_order;
 mod constant_answers;
 mod constant_named;
 mod constant_table;
 mod descriptors;
-mod entries;
 mod enums;
 mod field_answers;
 mod field_record;
 mod field_tables;
-mod file;
 mod fixed;
 mod judging;
 mod kind_answers;
@@ -33,16 +29,12 @@ mod lacked;
 mod lacking;
 mod law;
 mod linked;
-mod linking;
 mod loaded_texts;
-mod loading;
 mod making;
 mod members;
 mod named;
 mod named_kinds;
-mod names;
 mod numbering;
-mod path;
 mod place_answers;
 mod place_tables;
 mod places;
@@ -57,15 +49,13 @@ mod sites;
 mod slot_law;
 mod slots;
 mod tables;
-mod text_names;
-mod text_uses;
-mod uses;
+mod units;
 
-pub use law::{class_names_once, one_judgement, one_loading, small_closures};
+pub use judging::program_of;
+pub use law::one_judgement;
 pub use linked::{Basics, LinkedField, LinkedFields, LinkedMethod, LinkedMethods, Site, Sites};
-pub use linking::link;
 pub use named::Named;
-pub use path::path_of;
 pub use program::Program;
 pub use refusal::{Quantity, Refusal};
 pub use slot_law::slots_in_objects;
+pub use units::units_of;

@@ -6,7 +6,7 @@ ghost use Rattle.cb_link.specs.Making.{made_by, named_in};
 ghost use Rattle.cb_link.specs.Sited.{operand_arrays};
 
 use crate::array_names::{base_array, first_kinds};
-use crate::class_of::units_of;
+use crate::units::units_of;
 use cb_classfile::index_in;
 use cb_insn::{Insn, Operand, opcode};
 use cb_kinds::array_of;

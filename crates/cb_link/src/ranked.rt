@@ -22,7 +22,7 @@ use std::alloc::Global;
 /// `/`, with which the parts of a name end.
 const SLASH: u16 = b'/' as u16;
 
-// The access flags (JVMS tables 4.1-B, 4.5-A and 4.6-A).
+// The access flags (JVMS tables 4.1-A, 4.5-A and 4.6-A).
 const PUBLIC: u16 = 0x0001;
 
 const PRIVATE: u16 = 0x0002;

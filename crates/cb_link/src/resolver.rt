@@ -4,15 +4,16 @@ ghost use Rattle.cb_hierarchy.specs.Bad.{AreGood};
 ghost use Rattle.cb_hierarchy.specs.Members.{method_of};
 ghost use Rattle.cb_hierarchy.specs.Orders.{upwards};
 ghost use Rattle.cb_hierarchy.specs.Resolution.{first_some};
-ghost use Rattle.cb_link.specs.Inside.{HindersProgram, names_of_member};
+ghost use Rattle.cb_link.specs.Inside.{names_of_member};
+ghost use Rattle.cb_link.specs.Judging.{HindersProgram};
 ghost use Rattle.cb_link.specs.Numbers.{class_number, field_texts, hierarchy, method_texts, name_of, ranked_fields, ranked_methods};
 ghost use Rattle.cb_link.specs.Resolving.{found_field, found_method, holder, main_method, static_one};
 
 use crate::Refusal;
-use crate::class_of::units_of;
 use crate::ranked::{
     class_names, field_texts, method_texts, name_of, rank_classes, rank_fields, rank_methods,
 };
+use crate::units::units_of;
 use cb_classfile::{ClassFile, Classes};
 use cb_hierarchy::{
     Classes as RankedClasses, Field, FieldTable, Hierarchy, Method, MethodTable, first_bad,

@@ -11,7 +11,7 @@ use Rattle.cb_io.specs.Utf8.{utf8}
 use Rattle.cb_io.specs.declared.folder.Found.{Found}
 use Rattle.cb_io.specs.declared.folder.Found.TheVariants.{Bytes, Absent, TooLong}
 use Rattle.cb_classfile.specs.declared.class.ClassFile.{ClassFile}
-use Rattle.cb_link.specs.Files.{path_of, MayStandAt as MayHaveFile}
+use Rattle.cb_load.specs.Files.{path_of, MayStandAt as MayHaveFile}
 use Rattle.cb_machine.specs.Expression.{Expression}
 use Rattle.cb_machine.specs.Printing.{printed}
 use Rattle.cb_first_form.specs.FirstForm.{SpellsProgram}

@@ -8,10 +8,10 @@ use Rattle.cb_machine.specs.Printing.{printed}
 use Rattle.cb_first_form.specs.FirstForm.{SpellsProgram}
 use Rattle.cb_classfile.specs.declared.class.ClassFile.{ClassFile}
 use Rattle.cb_link.specs.declared.refusal.Refusal.{Refusal}
-use Rattle.cb_link.specs.Files.{MayStandAt, path_of}
+use Rattle.cb_load.specs.Files.{MayStandAt, path_of}
 use Rattle.cb_link.specs.Judging.{IsNoProgram, IsProgram}
-use Rattle.cb_link.specs.Linking.{Behind, InLoading}
-use Rattle.cb_link.specs.Loading.{AreLoaded, StopsFor}
+use Rattle.cb_load.specs.Linking.{Behind, InLoading}
+use Rattle.cb_load.specs.Loading.{AreLoaded, StopsFor}
 use Rattle.cb_link.specs.Program.{Linked, linked}
 use Rattle.cb_verify.specs.Typed.{IsTyped, fails_at}
 use Rattle.cb_runner.specs.declared.cause.Cause.TheVariants as causes

@@ -6,7 +6,7 @@ use Rattle.cb_link.specs.declared.refusal.Refusal.{Refusal}
 use Rattle.cb_link.specs.declared.refusal.Refusal.TheVariants as links
 use Rattle.cb_classfile.specs.declared.class.ClassFile.{ClassFile}
 use Rattle.cb_classfile.specs.Library.{AreLibrary}
-use Rattle.cb_link.specs.Linking.{Hinders, IsHindered}
+use Rattle.cb_load.specs.Linking.{Hinders, IsHindered}
 use Rattle.cb_runner.specs.declared.stop.Stop.{Stop}
 use Rattle.cb_runner.specs.declared.stop.Stop.TheVariants.{Refused, OutOfMemory}
 use Rattle.cb_runner.specs.Ending.{Ending, refused}

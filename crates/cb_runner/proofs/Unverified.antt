@@ -4,7 +4,7 @@ use Rattle.std.specs.Prelude.{Result, Ok, Err, IfErr, IfOk}
 use Rattle.cb_io.specs.Folder.{Files}
 use Rattle.cb_classfile.specs.declared.class.ClassFile.{ClassFile}
 use Rattle.cb_classfile.specs.Library.{AreLibrary}
-use Rattle.cb_link.specs.Linking.{IsLinked}
+use Rattle.cb_load.specs.Linking.{IsLinked}
 use Rattle.cb_link.specs.Program.{Linked, linked}
 use Rattle.cb_verify.specs.Typed.{IsTyped}
 use Rattle.cb_runner.specs.declared.stop.Stop.{Stop}

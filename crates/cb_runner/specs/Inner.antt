@@ -13,7 +13,7 @@ use Rattle.cb_io.specs.Utf8.{utf8}
 use Rattle.cb_classfile.specs.declared.class.ClassFile.{ClassFile}
 use Rattle.cb_classfile.specs.Library.{AreLibrary}
 use Rattle.cb_link.specs.Judging.{IsProgram}
-use Rattle.cb_link.specs.Loading.{AreLoaded}
+use Rattle.cb_load.specs.Loading.{AreLoaded}
 use Rattle.cb_link.specs.Program.{Linked, linked}
 use Rattle.cb_verify.specs.Typed.{IsTyped}
 use Rattle.cb_link.specs.declared.refusal.Refusal.{Refusal as LinkRefusal}

@@ -12,11 +12,11 @@ use Rattle.cb_link.specs.declared.refusal.Quantity.{Quantity as LinkQuantity}
 use Rattle.cb_link.specs.declared.refusal.Quantity.TheVariants as link_quantities
 use Rattle.cb_link.specs.declared.refusal.Refusal.{Refusal as LinkRefusal}
 use Rattle.cb_link.specs.declared.refusal.Refusal.TheVariants as link_refusals
-use Rattle.cb_link.specs.Files.{MayStandAt, path_of}
+use Rattle.cb_load.specs.Files.{MayStandAt, path_of}
 use Rattle.cb_classfile.specs.Library.{AreLibrary}
 use Rattle.cb_link.specs.Judging.{IsNoProgram, IsProgram}
-use Rattle.cb_link.specs.Linking.{IsHindered}
-use Rattle.cb_link.specs.Loading.{AreLoaded}
+use Rattle.cb_load.specs.Linking.{IsHindered}
+use Rattle.cb_load.specs.Loading.{AreLoaded}
 use Rattle.cb_link.specs.Numbers.{name_of, or_none}
 use Rattle.cb_link.specs.Program.{Linked, linked}
 use Rattle.cb_verify.specs.Typed.{FailsFirst, IsTyped}

@@ -6,8 +6,8 @@ ghost use Rattle.cb_io.specs.Utf8.{utf8};
 ghost use Rattle.cb_machine.specs.Expression.{Expression};
 ghost use Rattle.cb_machine.specs.Printing.{printed};
 ghost use Rattle.cb_link.specs.declared.refusal.Refusal.{Refusal as LinkRefusal};
-ghost use Rattle.cb_link.specs.Files.{MayStandAt, path_of};
-ghost use Rattle.cb_link.specs.Loading.{AreLoaded, StopsFor};
+ghost use Rattle.cb_load.specs.Files.{MayStandAt, path_of};
+ghost use Rattle.cb_load.specs.Loading.{AreLoaded, StopsFor};
 ghost use Rattle.cb_asm.specs.Answers.{StopsAt};
 ghost use Rattle.cb_asm_list.specs.Listing.{listing};
 ghost use Rattle.cb_asm_record.specs.Grammar.{Assembles};
@@ -27,7 +27,8 @@ ghost use Rattle.cb_runner.specs.declared.refusal.Quantity.TheVariants.{ClassFil
 
 use cb_classfile::one_class;
 use cb_first_form::one_program;
-use cb_link::{one_judgement, one_loading};
+use cb_link::one_judgement;
+use cb_load::one_loading;
 
 /// A call ends as one whose words are no command exactly where its words say none.
 pub fn usage_exactly()

@@ -12,7 +12,8 @@ use crate::verifying::verify_program;
 use crate::{Quantity, Refusal};
 use cb_core::core_classes;
 use cb_io::{Folder, text_of};
-use cb_link::{Quantity as LinkQuantity, Refusal as LinkRefusal, link};
+use cb_link::{Quantity as LinkQuantity, Refusal as LinkRefusal};
+use cb_load::link;
 use std::alloc::Global;
 
 /// Links the class that a word names, with the library's classes and those of a folder, and verifies the program.

@@ -4,7 +4,7 @@ ghost use Rattle.std.specs.Io.KnownBytes.{Appends};
 ghost use Rattle.cb_io.specs.Faults.{CountsFaults};
 ghost use Rattle.cb_io.specs.Folder.{FindsAt};
 ghost use Rattle.cb_io.specs.Utf8.{utf8};
-ghost use Rattle.cb_link.specs.Files.{MayStandAt, path_of};
+ghost use Rattle.cb_load.specs.Files.{MayStandAt, path_of};
 ghost use Rattle.cb_runner.specs.Answer.{EndsIn};
 ghost use Rattle.cb_runner.specs.Inner.{IsRefusal, IsUnfound, LinksClass, RunsBytes, ending_of};
 ghost use Rattle.cb_runner.specs.Messages.{NotYet};
@@ -21,7 +21,7 @@ use crate::operand_stack::OperandStack;
 use crate::stop::Stop;
 use cb_first_form::read_first_form;
 use cb_io::{Failed, Folder, Found, Sink, text_of};
-use cb_link::path_of;
+use cb_load::path_of;
 use std::alloc::Global;
 
 /// Links and verifies the class of a folder that a word names, and runs it.

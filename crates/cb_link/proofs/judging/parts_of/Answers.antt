@@ -7,7 +7,7 @@ use Rattle.cb_link.specs.Judging.{site_count, site_limit}
 use Rattle.cb_link.specs.Making.{constants, fixed_kinds, kinds, makings}
 use Rattle.cb_link.specs.Numbers.{fields_of, methods_of}
 use Rattle.cb_link.specs.Program.{linked_field, linked_method, linked_site}
-use Rattle.cb_link.proofs.LoadFaults.{handed_from}
+use Rattle.cb_link.proofs.Handed.{handed_from}
 use Rattle.cb_link.proofs.judging.parts_of.Goals as goal
 
 pub returns-in_err-kinded-clause-refused : goal.returns-in_err-kinded-clause-refused

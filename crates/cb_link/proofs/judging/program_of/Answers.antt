@@ -1,8 +1,8 @@
 use Rattle.std.proofs.Common.{Err, ◌∙◌, ℕ, refl, subst, sym}
 use Rattle.cb_link.specs.declared.refusal.Refusal.TheVariants.{OutOfMemory}
 use Rattle.cb_link.specs.Having.{IsWhole}
-use Rattle.cb_link.specs.Inside.{HindersProgram}
-use Rattle.cb_link.proofs.LoadFaults.{handed, handed_from}
+use Rattle.cb_link.specs.Judging.{HindersProgram}
+use Rattle.cb_link.proofs.Handed.{handed, handed_from}
 use Rattle.cb_link.proofs.WholeLaws.{whole_program}
 use Rattle.cb_link.proofs.judging.program_of.Goals as goal
 

@@ -1,5 +1,5 @@
 use Rattle.std.proofs.Common.{refl, subst}
-use Rattle.cb_link.specs.Linking.{Hinders, IsLinked}
+use Rattle.cb_load.specs.Linking.{Hinders, IsLinked}
 use Rattle.cb_link.specs.declared.refusal.Refusal.TheVariants as links
 use Rattle.cb_runner.proofs.Endings.{quiet_count}
 use Rattle.cb_runner.proofs.Unlinked.{unlinked_so}

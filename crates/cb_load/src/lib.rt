@@ -1,0 +1,23 @@
+//! Loading (JVMS §5.3): the classes that a main class needs, found in a folder one after the other, and the program that they are
+//! with the library's, by `cb_link`.
+//!
+//! `specs/` has a file for each notion. No clause says that memory is to be had; that no call always gives up is shown by cases
+//! of `cb_cases`.
+#![tactic(auto)]
+
+mod class_names;
+mod class_of;
+mod entries;
+mod file;
+mod law;
+mod linking;
+mod loading;
+mod names;
+mod path;
+mod text_names;
+mod text_uses;
+mod uses;
+
+pub use law::{class_names_once, one_loading, small_closures};
+pub use linking::link;
+pub use path::path_of;
