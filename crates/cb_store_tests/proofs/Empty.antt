@@ -1,6 +1,7 @@
 -- A store without objects, and roots that name none.
-use Rattle.std.proofs.Common.{◌≡◌, ◌∙◌, ap, pred, List, [], map, Some}
-use Rattle.std.specs.List.{list_all}
+use Rattle.std.proofs.Common.{◌≡◌, ◌∙◌, ap, pred, refl, true, List, [], ◌∷◌, map, Some, IsTrue}
+use Rattle.std.specs.List.{AllByRecursion, list_all}
+use Rattle.cb_plain.specs.declared.want.Want.{Want}
 use Rattle.cb_plain.specs.Reach.{root_references}
 use Rattle.cb_plain.specs.State.{Object, Roots}
 use Rattle.cb_heap.specs.Closed.{IsClosed, references_in}
@@ -14,3 +15,8 @@ closed_empty objects roots is none =
       roots = ap (λ held. list_all (is_held (map Some objects)) (root_references held)) (roots_are roots) ∙ ap (list_all (is_held (map Some objects))) none;
       objects = ap (λ held. list_all (is_held (map Some held)) (references_in (map Some held))) is;
     }
+
+-- every request is for sites that it knows
+pub all_known : (wants : List Want) → AllByRecursion (λ want. IsTrue true) wants
+all_known [] = tt
+all_known (want ∷ wants) = (refl, all_known wants)
