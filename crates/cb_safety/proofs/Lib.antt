@@ -1,0 +1,23 @@
+mod Advancing
+mod Arriving
+mod Assigned
+mod Elsewhere
+mod Entries
+mod Extended
+mod Going
+pub mod Laws
+mod Moving
+mod Numbers
+mod Placing
+mod Rising
+mod Searching
+mod Shuffled
+mod Sorted
+mod Spelled
+mod Taken
+mod Variables
+mod Holding
+mod Subclasses
+mod Ordered
+mod Lettered
+mod Lists
