@@ -95,10 +95,14 @@ agrees (Some forms.Table) Way.Switches = true
 agrees (Some forms.Lookup) Way.Switches = true
 agrees (Some form) way = false
 
+-- behind the last opcode that has a form, which is jsr_w
+abbrev opcodes_end : ℕ
+opcodes_end = 202
+
 abbrev agrees_at : Operand → ℕ → Bool
 agrees_at operand opcode = agrees (form_of opcode) (way (behind opcode operand)) && agrees (wide_form_of opcode) (way (behind opcode operand))
 
-all_agree : (operand : Operand) → list_all (agrees_at operand) (range_with_len 0 202) ≡ true
+all_agree : (operand : Operand) → list_all (agrees_at operand) (range_with_len 0 opcodes_end) ≡ true
 all_agree operands.Nothing = refl
 all_agree other = refl
 
@@ -111,18 +115,18 @@ in_range P from (suc count) (suc number) all low =
 from_zero : (P : ℕ → Type 0) (count number : ℕ) → AllByRecursion P (range_with_len 0 count) → number < count → P number
 from_zero P count number all low = subst P (let same : 0 + number ≡ number = omega arith in same) (in_range P 0 count number all low)
 
-past : (opcode bound : ℕ) (one other : Option Form) → 202 ≤ opcode → nat_le bound 202 ≡ true → other ≡ None → (if nat_lt opcode bound then one else other) ≡ None
+past : (opcode bound : ℕ) (one other : Option Form) → opcodes_end ≤ opcode → nat_le bound opcodes_end ≡ true → other ≡ None → (if nat_lt opcode bound then one else other) ≡ None
 past opcode bound one other high low is =
-    ap (λ (test : Bool). if test then one else other) (le-ltb opcode bound (omega (arith, high, leb-true bound 202 low))) ∙ is
+    ap (λ (test : Bool). if test then one else other) (le-ltb opcode bound (omega (arith, high, leb-true bound opcodes_end low))) ∙ is
 
-past_last : (opcode : ℕ) → 202 ≤ opcode → (if nat_le opcode opcodes.JSR_W then Some forms.LongBranch else None) ≡ None
+past_last : (opcode : ℕ) → opcodes_end ≤ opcode → (if nat_le opcode opcodes.JSR_W then Some forms.LongBranch else None) ≡ None
 past_last opcode high = by (nat_le opcode opcodes.JSR_W) refl
   where
     by : (test : Bool) → nat_le opcode opcodes.JSR_W ≡ test → (if test then Some forms.LongBranch else None) ≡ None
     by true low = absurd (omega (arith, high, leb-true opcode opcodes.JSR_W low))
     by false low = refl
 
-no_form : (opcode : ℕ) → 202 ≤ opcode → form_of opcode ≡ None
+no_form : (opcode : ℕ) → opcodes_end ≤ opcode → form_of opcode ≡ None
 no_form opcode high =
     past opcode opcodes.BIPUSH _ _ high refl
     (past opcode opcodes.SIPUSH _ _ high refl
@@ -157,15 +161,15 @@ low_agrees : (wide : Bool) (opcode : ℕ) (operand : Operand) → agrees_at oper
 low_agrees true opcode operand both = (and_parts (agrees (form_of opcode) (way (behind opcode operand))) (agrees (wide_form_of opcode) (way (behind opcode operand))) both).1
 low_agrees false opcode operand both = (and_parts (agrees (form_of opcode) (way (behind opcode operand))) (agrees (wide_form_of opcode) (way (behind opcode operand))) both).0
 
-high_form : (wide : Bool) (opcode : ℕ) → 202 ≤ opcode → head_form wide opcode ≡ None
+high_form : (wide : Bool) (opcode : ℕ) → opcodes_end ≤ opcode → head_form wide opcode ≡ None
 high_form true opcode high = ap (option_and_then widened) (no_form opcode high)
 high_form false opcode high = no_form opcode high
 
 way_agrees : (wide : Bool) (opcode : ℕ) (operand : Operand) → agrees (head_form wide opcode) (way (behind opcode operand)) ≡ true
-way_agrees wide opcode operand = elim (cases_lt opcode 202) [
+way_agrees wide opcode operand = elim (cases_lt opcode opcodes_end) [
   | inl low ↦
       low_agrees wide opcode operand
-      (from_zero (λ (opcode : ℕ). agrees_at operand opcode ≡ true) 202 opcode (all_pass (agrees_at operand) (range_with_len 0 202) (all_agree operand)) low)
+      (from_zero (λ (opcode : ℕ). agrees_at operand opcode ≡ true) opcodes_end opcode (all_pass (agrees_at operand) (range_with_len 0 opcodes_end) (all_agree operand)) low)
   | inr high ↦ ap (λ (form : Option Form). agrees form (way (behind opcode operand))) (high_form wide opcode high)
 ]
 
@@ -204,29 +208,32 @@ by_operand_fine (operands.Pool index) fits = tt
 by_operand_fine other fits = tt
 
 -- the constants that opcodes name
+abbrev small : ℕ
+small = 16
+
 abbrev is_small : ℤ → Bool
-is_small number = nat_lt (unsigned_abs number) 16
+is_small number = nat_lt (unsigned_abs number) small
 
-small_fits : (width : Width) (number : ℤ) → 16 ≤ 2 ^ hbits width → is_small number ≡ true → FitsSigned width number
-small_fits width number wide small = fits_signed_from_abs width number (lt_of_lt_of_le (ltb-true (unsigned_abs number) 16 small) wide)
+small_fits : (width : Width) (number : ℤ) → small ≤ 2 ^ hbits width → is_small number ≡ true → FitsSigned width number
+small_fits width number wide is = fits_signed_from_abs width number (lt_of_lt_of_le (ltb-true (unsigned_abs number) small is) wide)
 
-int_small : list_all (λ opcode. is_small (pos opcode -ℤ pos opcodes.ICONST_0)) (range_with_len 0 9) ≡ true
+int_small : list_all (λ opcode. is_small (pos opcode -ℤ pos opcodes.ICONST_0)) (range_with_len 0 opcodes.LCONST_0) ≡ true
 int_small = refl
 
-long_small : list_all (λ opcode. is_small (pos opcode -ℤ pos opcodes.LCONST_0)) (range_with_len 0 11) ≡ true
+long_small : list_all (λ opcode. is_small (pos opcode -ℤ pos opcodes.LCONST_0)) (range_with_len 0 opcodes.FCONST_0) ≡ true
 long_small = refl
 
 int_named : (opcode : ℕ) → nat_le opcode opcodes.ICONST_5 ≡ true → FitsSigned w32 (pos opcode -ℤ pos opcodes.ICONST_0)
 int_named opcode low =
     small_fits w32 (pos opcode -ℤ pos opcodes.ICONST_0) (omega arith)
-    (from_zero (λ (opcode : ℕ). is_small (pos opcode -ℤ pos opcodes.ICONST_0) ≡ true) 9 opcode
-    (all_pass (λ (opcode : ℕ). is_small (pos opcode -ℤ pos opcodes.ICONST_0)) (range_with_len 0 9) int_small) (omega (arith, leb-true opcode opcodes.ICONST_5 low)))
+    (from_zero (λ (opcode : ℕ). is_small (pos opcode -ℤ pos opcodes.ICONST_0) ≡ true) opcodes.LCONST_0 opcode
+    (all_pass (λ (opcode : ℕ). is_small (pos opcode -ℤ pos opcodes.ICONST_0)) (range_with_len 0 opcodes.LCONST_0) int_small) (omega (arith, leb-true opcode opcodes.ICONST_5 low)))
 
 long_named : (opcode : ℕ) → nat_le opcode opcodes.LCONST_1 ≡ true → FitsSigned w64 (pos opcode -ℤ pos opcodes.LCONST_0)
 long_named opcode low =
     small_fits w64 (pos opcode -ℤ pos opcodes.LCONST_0) (omega arith)
-    (from_zero (λ (opcode : ℕ). is_small (pos opcode -ℤ pos opcodes.LCONST_0) ≡ true) 11 opcode
-    (all_pass (λ (opcode : ℕ). is_small (pos opcode -ℤ pos opcodes.LCONST_0)) (range_with_len 0 11) long_small) (omega (arith, leb-true opcode opcodes.LCONST_1 low)))
+    (from_zero (λ (opcode : ℕ). is_small (pos opcode -ℤ pos opcodes.LCONST_0) ≡ true) opcodes.FCONST_0 opcode
+    (all_pass (λ (opcode : ℕ). is_small (pos opcode -ℤ pos opcodes.LCONST_0)) (range_with_len 0 opcodes.FCONST_0) long_small) (omega (arith, leb-true opcode opcodes.LCONST_1 low)))
 
 abbrev pushed : ℕ → Operand → Option Action
 pushed opcode operand = if nat_le opcodes.BIPUSH opcode then by_operand operand else None
@@ -259,13 +266,13 @@ stays kind = true
 abbrev stays_at : Operand → ℕ → Bool
 stays_at operand opcode = stays (way (constant opcode operand))
 
-all_stay : (operand : Operand) → list_all (stays_at operand) (range_with_len 0 21) ≡ true
+all_stay : (operand : Operand) → list_all (stays_at operand) (range_with_len 0 opcodes.ILOAD) ≡ true
 all_stay operands.Nothing = refl
 all_stay other = refl
 
 constant_stays : (opcode : ℕ) (operand : Operand) → nat_lt opcode opcodes.ILOAD ≡ true → stays_at operand opcode ≡ true
 constant_stays opcode operand low =
-    from_zero (λ (opcode : ℕ). stays_at operand opcode ≡ true) 21 opcode (all_pass (stays_at operand) (range_with_len 0 21) (all_stay operand)) (ltb-true opcode opcodes.ILOAD low)
+    from_zero (λ (opcode : ℕ). stays_at operand opcode ≡ true) opcodes.ILOAD opcode (all_pass (stays_at operand) (range_with_len 0 opcodes.ILOAD) (all_stay operand)) (ltb-true opcode opcodes.ILOAD low)
 
 -- ---- what is said of operands
 
