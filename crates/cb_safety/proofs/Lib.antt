@@ -21,3 +21,5 @@ mod Subclasses
 mod Ordered
 mod Lettered
 mod Lists
+mod Growing
+mod Throwing

@@ -6,3 +6,4 @@ pub mod Held
 pub mod Kinds
 pub mod States
 pub mod Order
+pub mod Throwing

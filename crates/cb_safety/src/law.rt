@@ -10,8 +10,9 @@ ghost use Rattle.cb_link.specs.Having.{IsWhole};
 ghost use Rattle.cb_link.specs.Named.{code_at, insn_in};
 ghost use Rattle.cb_link.specs.Program.{Linked};
 ghost use Rattle.cb_machine.specs.Computing.{throws_by_zero};
-ghost use Rattle.cb_machine.specs.Machine.{Machine};
+ghost use Rattle.cb_machine.specs.Machine.{Machine, kind_of_site};
 ghost use Rattle.cb_machine.specs.Plans.{made};
+ghost use Rattle.cb_machine.specs.Throwing.{throws};
 ghost use Rattle.cb_plain.specs.State.{Frame as StateFrame, MethodFrame, OfMethod, State};
 ghost use Rattle.cb_shapes.specs.Shapes.{action_of};
 ghost use Rattle.cb_shapes.specs.declared.action.Action.{Action};
@@ -21,6 +22,7 @@ ghost use Rattle.cb_verify.specs.Typed.{IsTyped};
 ghost use Rattle.cb_safety.specs.Advancing.{Advances, HoldsOn, IsSpelled, is_of_frame};
 ghost use Rattle.cb_safety.specs.Flows.{CodeRises, Flows, Rises};
 ghost use Rattle.cb_safety.specs.States.{IsTypedState};
+ghost use Rattle.cb_safety.specs.Throwing.{IsThrown};
 
 /// In a typed program the frame before an instruction flows to wherever the instruction goes (JVMS §4.10.1).
 pub fn flows()
@@ -48,4 +50,10 @@ pub fn frames_advance()
 pub fn kinds_hold_on()
     ensures { (program : Linked) (library more : List ClassFile) → program.classes ≡ library ++ more → AreLibrary library
         → AllByRecursion IsWellFormed more → IsWhole program → HoldsOn program }
+{}
+
+/// Throwing an exception of the machine keeps a state typed, where objects of its kind are such exceptions (JVMS §2.10).
+pub fn throwing_keeps_types()
+    ensures { (machine : Machine) (state : State) (site : ℕ) → IsTypedState machine.program state → state.roots.pending ≡ 0
+        → IsThrown machine.program (kind_of_site machine.program site) → IsTypedState machine.program (made (throws machine state site)) }
 {}

@@ -1,0 +1,17 @@
+-- What a program has to say of the exceptions that the machine throws.
+use Rattle.std.specs.Prelude.{◌≡◌, ◌<◌, ℕ, true, Some, None}
+use Rattle.cb_kinds.specs.Basics.{is_reference}
+use Rattle.cb_kinds.specs.declared.basic.Basic.{Basic}
+use Rattle.cb_link.specs.Calls.{class_of_kind}
+use Rattle.cb_link.specs.Program.{Linked}
+use Rattle.cb_link.specs.Slots.{field_basic}
+use Rattle.cb_machine.specs.Arrays.{element_of}
+use Rattle.cb_verify.specs.Within.{kind_of_throwable}
+use Rattle.cb_safety.specs.Kinds.{holds_kind}
+
+-- objects of a kind are Throwable and no arrays, and have no fields but three references: the message, the cause and what was suppressed
+pub record IsThrown (program : Linked) (kind : ℕ) : Type 0 where
+  pub throwable : holds_kind program kind kind_of_throwable ≡ true
+  pub fields : (class slot : ℕ) → (basic : Basic) → class_of_kind program kind ≡ Some class → field_basic program class slot ≡ Some basic →
+      (slot < 3) × (is_reference basic ≡ true)
+  pub no_elements : element_of program kind ≡ None
