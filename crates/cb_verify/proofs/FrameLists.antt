@@ -2,7 +2,7 @@
 use Rattle.std.proofs.Common.{◌≡◌, ◌∙◌, ap, ap₂, sym, arith, ℕ, ◌+◌, ◌<◌, ◌≤◌, Bool, true, false, cond, ◌&&◌, ◌||◌, List, [], ◌∷◌, ◌++◌, Option, Some, None, append_assoc, drop, length, length-append, length-drop, map, slice_set, take}
 use Rattle.std.specs.Cmp.Lexicographic.{pointwise}
 use Rattle.std.specs.List.{list_any, slice_get}
-use Rattle.std.proofs.lemmas.List.{append-nil, drop-drop, get_or-take, length-map, length-take, length-take-le, map-append, set_at, take_all, take_more}
+use Rattle.std.proofs.lemmas.List.{drop-drop, get_or-take, length-map, length-take, length-take-le, map-append, set_at, take_more}
 use Rattle.std.proofs.lemmas.Option.{get_or_from_slice_get, slice_get-get_or, slice_get_within}
 use Rattle.cb_shapes.specs.declared.sort.Category.{Category}
 use Rattle.cb_shapes.specs.declared.sort.Category.TheVariants.{One}
@@ -10,7 +10,7 @@ use Rattle.cb_verify.specs.declared.verification_type.VerificationType.{Verifica
 use Rattle.cb_verify.specs.Copies.{begins_with, is_category, two_of}
 use Rattle.cb_verify.specs.Frames.{Frame, height, with_stack}
 use Rattle.cb_verify.specs.Types.{category, words}
-use Rattle.cb_verify.proofs.Dropped.{drop_end, drop_next}
+use Rattle.cb_verify.proofs.Dropped.{drop_next}
 
 -- how many words the rest takes
 pub height_next : (types : List VerificationType) (place : ℕ) (type : VerificationType) → slice_get types place ≡ Some type
@@ -55,10 +55,6 @@ pair_left test ones others place one other passes all at also is passed so =
     ap (λ passes. passes && pointwise test (drop (place + 1) ones) (drop (place + 1) others)) (sym passed)
     ∙ pair_next test ones others place one other passes all at also is so
 
-pub pair_end : {X Y : Type 0} (test : X → Y → Bool) (ones : List X) (others : List Y) (place : ℕ) (all : Bool) → length ones ≤ place → length others ≤ place
-    → pointwise test (drop place ones) (drop place others) ≡ all → true ≡ all
-pair_end test ones others place all past also so = sym (ap₂ (pointwise test) (drop_end ones place past) (drop_end others place also)) ∙ so
-
 -- the items before a place by a function, and the others as they were
 pub split_next : {X : Type 0} (by : X → X) (items : List X) (place : ℕ) (item : X) → slice_get items place ≡ Some item
     → map by (take (place + 1) items) ++ drop (place + 1) items ≡ map by (take place items) ++ by item ∷ drop (place + 1) items
@@ -89,10 +85,6 @@ split_put by items all place item new at is so =
   where
     front : length (map by (take place items)) ≡ place
     front = length-map (take place items) by ∙ length-take-le place items (omega (arith, slice_get_within items place item at))
-
-pub split_end : {X : Type 0} (by : X → X) (items all : List X) (place : ℕ) → length items ≤ place → all ≡ map by (take place items) ++ drop place items → all ≡ map by items
-split_end by items all place past so =
-    so ∙ ap₂ (λ front back. map by front ++ back) (take_all place items past) (drop_end items place past) ∙ append-nil (map by items)
 
 pub split_length : {X : Type 0} (by : X → X) (items all : List X) (place : ℕ) → place ≤ length items → all ≡ map by (take place items) ++ drop place items → length all ≡ length items
 split_length by items all place within so =

@@ -2,6 +2,7 @@ mod Declaring
 mod Dropped
 mod FrameLists
 mod Heights
+mod Known
 mod LaidSteps
 mod LaidValues
 mod MadeKinds

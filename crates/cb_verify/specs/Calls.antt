@@ -1,5 +1,5 @@
 -- Instructions on fields and methods (JVMS §4.10.1.9, getfield to invokeinterface) and the returns.
-use Rattle.std.specs.Prelude.{ℕ, Bool, true, false, List, [], ◌∷◌, ◌++◌, Option, Some, None, option_and_then, not, ◌==◌, ◌||◌, ◌&&◌, if◌then◌else◌, is_none}
+use Rattle.std.specs.Prelude.{ℕ, Bool, false, List, [], ◌∷◌, ◌++◌, Option, Some, None, option_and_then, not, ◌==◌, ◌||◌, ◌&&◌, if◌then◌else◌, is_none}
 use Rattle.std.specs.Option.{option_or}
 use Rattle.cb_kinds.specs.declared.basic.Basic.{Basic}
 use Rattle.cb_link.specs.Program.{Linked}

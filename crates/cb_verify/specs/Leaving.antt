@@ -1,5 +1,5 @@
 -- What an instruction leaves of the frame before it, where its rule is met (JVMS §4.10.1.9).
-use Rattle.std.specs.Prelude.{ℕ, Bool, true, false, List, [], ◌∷◌, Option, Some, None, option_and_then, option_map, slice_get, not, ◌==◌, ◌||◌, ◌&&◌, if◌then◌else◌, is_none}
+use Rattle.std.specs.Prelude.{ℕ, Bool, false, List, [], ◌∷◌, Option, Some, None, option_and_then, option_map, slice_get, not, ◌==◌, ◌||◌, ◌&&◌, if◌then◌else◌, is_none}
 use Rattle.std.specs.List.{list_any}
 use Rattle.cb_insn.specs.declared.insn.Insn.{Insn}
 use Rattle.cb_hierarchy.specs.Classes.{listed}

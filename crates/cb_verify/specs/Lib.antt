@@ -7,6 +7,7 @@ pub mod Frames
 pub mod Groups
 pub mod Laid
 pub mod Leaving
+pub mod Locals
 pub mod Members
 pub mod Passing
 pub mod Prefixes

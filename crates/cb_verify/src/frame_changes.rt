@@ -5,8 +5,9 @@ ghost use Rattle.cb_verify.specs.Frames.{height, is_same, replaced, stored, with
 ghost use Rattle.cb_verify.specs.Leaving.{all_replaced};
 ghost use Rattle.cb_verify.specs.Types.{words};
 
+use crate::locals::Locals;
 use crate::{TypeFrame, VerificationType};
-use cb_persistent::{PersistentArray, PersistentStack};
+use cb_persistent::PersistentStack;
 use cb_plain::OutOfMemory;
 use std::alloc::Global;
 
@@ -53,7 +54,8 @@ impl TypeFrame {
         Ok(Some(self.with_locals(locals)?))
     }
 
-    /// The frame with another type in place of one, which isn't initialised, in its local variables.
+    /// The frame with another type in place of one, which isn't initialised, in its local variables. Takes time in the number of those
+    /// up to which something is known.
     pub(crate) fn with_locals_replaced(
         &self,
         alloc: Global,
@@ -62,12 +64,12 @@ impl TypeFrame {
     ) -> Result<Self, OutOfMemory>
         ensures { IfOk result (λ frame. frame ≡ with_locals self.now (replaced old new self.now.locals)) }
     {
-        let locals = with_replaced(alloc, &self.locals, old, new)?;
+        let locals = self.locals.replaced(alloc, old, new)?;
         self.with_locals(locals)
     }
 
     /// The frame with other local variables.
-    fn with_locals(&self, locals: PersistentArray<VerificationType>) -> Result<Self, OutOfMemory>
+    fn with_locals(&self, locals: Locals) -> Result<Self, OutOfMemory>
         ensures { IfOk result (λ frame. frame ≡ with_locals self.now locals) }
     {
         Ok(TypeFrame {
@@ -78,7 +80,8 @@ impl TypeFrame {
         })
     }
 
-    /// The frame after a constructor has made an object of a kind of one that wasn't initialised (JVMS §4.10.1.9.invokespecial).
+    /// The frame after a constructor has made an object of a kind of one that wasn't initialised (JVMS §4.10.1.9.invokespecial). Takes
+    /// time in the number of the values on its stack and of the local variables up to which something is known.
     pub(crate) fn with_finished(
         &self,
         alloc: Global,
@@ -88,7 +91,7 @@ impl TypeFrame {
         ensures { IfOk result (λ frame. frame ≡ all_replaced old (Object kind) self.now self.now.stack) }
     {
         let object = VerificationType::Object(kind);
-        let locals = with_replaced(alloc, &self.locals, old, object)?;
+        let locals = self.locals.replaced(alloc, old, object)?;
         let stack = self.stack_replaced(alloc, old, object)?;
         Ok(TypeFrame {
             locals,
@@ -136,10 +139,10 @@ impl TypeFrame {
 /// Local variables with a value stored in one. A long that lay in this one and the one before it is lost.
 fn with_stored(
     alloc: Global,
-    locals: &PersistentArray<VerificationType>,
+    locals: &Locals,
     local: u16,
     value: VerificationType,
-) -> Result<PersistentArray<VerificationType>, OutOfMemory>
+) -> Result<Locals, OutOfMemory>
     requires { local + words value ≤ length locals.now }
     ensures { IfOk result (λ all. Some all ≡ stored local value locals.now) }
 {
@@ -156,10 +159,10 @@ fn with_stored(
 /// Local variables with a value in one, and if it is a long in the next one too.
 fn with_placed(
     alloc: Global,
-    locals: &PersistentArray<VerificationType>,
+    locals: &Locals,
     local: u16,
     value: VerificationType,
-) -> Result<PersistentArray<VerificationType>, OutOfMemory>
+) -> Result<Locals, OutOfMemory>
     requires { local + words value ≤ length locals.now }
     ensures long { value ≡ Long → IfOk result (λ all. all ≡ slice_set (slice_set locals.now local Long) (local + 1) Top) }
     ensures other { words value ≡ 1 → IfOk result (λ all. all ≡ slice_set locals.now local value) }
@@ -182,22 +185,4 @@ fn type_replaced(
     ensures { result ≡ if is_same old own then new else own }
 {
     if old.is_same(own) { new } else { own }
-}
-
-/// Local variables with another type in place of one, which isn't initialised.
-fn with_replaced(
-    alloc: Global,
-    locals: &PersistentArray<VerificationType>,
-    old: VerificationType,
-    new: VerificationType,
-) -> Result<PersistentArray<VerificationType>, OutOfMemory>
-    ensures { IfOk result (λ all. all ≡ replaced old new locals.now) }
-{
-    let mut all = locals.share()?;
-    for place in 0..locals.len() {
-        if old.is_same(locals.get(place)) {
-            all = all.with(alloc, place, new)?;
-        }
-    }
-    Ok(all)
 }

@@ -3,6 +3,7 @@ ghost use Rattle.std.specs.Prelude.{◌≡◌, ◌-◌, ◌<◌, [], ◌∷◌, 
 ghost use Rattle.cb_verify.specs.Expansion.{without_last};
 ghost use Rattle.cb_verify.specs.Laid.{bare, laid_in, this_count};
 
+use crate::locals::Locals;
 use crate::{TypeFrame, VerificationType};
 use cb_persistent::PersistentArray;
 use cb_plain::OutOfMemory;
@@ -127,11 +128,11 @@ impl Laid {
         Ok(Some(all))
     }
 
-    /// The frame with these local variables and nothing on its operand stack.
+    /// The frame with these local variables and nothing on its operand stack. Of those behind the values nothing is known.
     pub fn bare(&self) -> Result<TypeFrame, OutOfMemory>
         ensures { IfOk result (λ frame. frame ≡ bare self.now) }
     {
-        let locals = self.locals.share()?;
+        let locals = Locals::of(self.locals.share()?, self.words);
         Ok(TypeFrame::with_empty_stack(locals, self.unfinished > 0))
     }
 }

@@ -20,6 +20,7 @@ mod handled;
 mod laid;
 mod law;
 mod leaving;
+mod locals;
 mod lost;
 mod made;
 mod member;

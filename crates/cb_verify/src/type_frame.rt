@@ -6,8 +6,9 @@ ghost use Rattle.cb_verify.specs.Frames.{frame_goes_to, height, is_same, loaded,
 ghost use Rattle.cb_verify.specs.Types.{goes_to};
 
 use crate::VerificationType;
+use crate::locals::Locals;
 use cb_link::Program;
-use cb_persistent::{PersistentArray, PersistentStack};
+use cb_persistent::PersistentStack;
 use cb_plain::OutOfMemory;
 use cb_shapes::Sort;
 use std::alloc::Global;
@@ -19,7 +20,7 @@ use std::marker::Model;
 /// in the logarithm of their number.
 #[derive(Drop)]
 pub struct TypeFrame {
-    pub(crate) locals: PersistentArray<VerificationType>,
+    pub(crate) locals: Locals,
     pub(crate) stack: PersistentStack<VerificationType>,
     pub(crate) words: u32,
     pub(crate) unfinished: bool,
@@ -38,10 +39,7 @@ impl Model for TypeFrame {
 
 impl TypeFrame {
     /// The frame with these local variables and nothing on the operand stack.
-    pub(crate) fn with_empty_stack(
-        locals: PersistentArray<VerificationType>,
-        unfinished: bool,
-    ) -> Self
+    pub(crate) fn with_empty_stack(locals: Locals, unfinished: bool) -> Self
         ensures { result ≡ record { locals = locals; stack = []; unfinished = unfinished } }
     {
         TypeFrame {
@@ -120,7 +118,8 @@ impl TypeFrame {
         false
     }
 
-    /// Whether the frame is assignable to another (JVMS §4.10.1.4).
+    /// Whether the frame is assignable to another (JVMS §4.10.1.4). Takes time in the number of the values on its stack and of the
+    /// local variables up to which something is known of the other, times the logarithm of all.
     pub(crate) fn goes_to(&self, program: &Program, other: &TypeFrame) -> bool
         ensures { result ≡ frame_goes_to program.now self.now other.now }
     {
@@ -129,19 +128,12 @@ impl TypeFrame {
             && (!self.is_unfinished() || other.is_unfinished())
     }
 
-    /// Whether each local variable is assignable to that of another frame, which has as many.
+    /// Whether each local variable is assignable to that of another frame, which has as many. Takes time in the number of those up to
+    /// which something is known of the other, times the logarithm of all.
     pub(crate) fn locals_go_to(&self, program: &Program, other: &TypeFrame) -> bool
         ensures { result ≡ pointwise (goes_to program.now) self.now.locals other.now.locals }
     {
-        if self.local_count() != other.local_count() {
-            return false;
-        }
-        for number in 0..self.local_count() {
-            if !self.local(number).goes_to(program, other.local(number)) {
-                return false;
-            }
-        }
-        true
+        self.locals.goes_to(program, &other.locals)
     }
 
     /// The same frame once more.

@@ -40,8 +40,8 @@ impl From<AllocError> for VerifyFault {
 ///
 /// Takes time in the instructions of each method times its handlers, and in its targets and the handlers that cover an instruction
 /// times the logarithm of the number of its declared frames. Frames are compared for each of these targets and handlers, and where an
-/// instruction goes on to a declared frame: that goes over the local variables and the operand stack, as `new` and the call of a
-/// constructor do. Takes memory in the instructions times the logarithm of the size of a frame.
+/// instruction goes on to a declared frame: that goes over the operand stack and the local variables up to which something is known, as
+/// `new` and the call of a constructor do. Takes memory in the instructions times the logarithm of the size of a frame.
 pub fn verify(alloc: Global, program: &Program) -> Result<Typing, VerifyFault>
     ensures typed { IfOk result (λ _. IsTyped program.now) }
     ensures typing { IfOk result (λ typing. typing ≡ typing_of program.now) }
