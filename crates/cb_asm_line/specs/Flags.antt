@@ -7,7 +7,7 @@ abbrev pub plus : ℕ
 plus = 43
 
 -- the word of each bit, from the lowest: that of the standard's name in lower case without `ACC_`, or `bit` and the
--- number of the bit (JVMS tables 4.1-B, 4.5-A and 4.6-A)
+-- number of the bit (JVMS tables 4.1-A, 4.5-A and 4.6-A)
 abbrev pub class_flags : List Word
 class_flags = words_of (codes "public bit1 bit2 bit3 final super bit6 bit7 bit8 interface abstract bit11 synthetic annotation enum bit15")
 

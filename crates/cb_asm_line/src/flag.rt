@@ -5,7 +5,7 @@ ghost use Rattle.cb_asm_line.specs.Inner.{word_behind, words_behind};
 
 use std::alloc::AllocError as OutOfMemory;
 
-/// The words of the flags of classes, from the lowest bit (JVMS table 4.1-B).
+/// The words of the flags of classes, from the lowest bit (JVMS table 4.1-A).
 pub(crate) static CLASS_FLAGS: [&str; 16] = [
     "public",
     "bit1",

@@ -3,7 +3,7 @@ ghost use Rattle.std.specs.Prelude.{⊤, [], ◌∷◌, codes};
 
 use bitflags::{Flag, Flags, bitflag_items};
 
-/// The access flags of a class or interface (JVMS table 4.1-B). All 16 bits of the file are kept.
+/// The access flags of a class or interface (JVMS table 4.1-A). All 16 bits of the file are kept.
 #[derive(Clone, Copy, Debug, PartialEq, Eq)]
 pub struct ClassFlags(pub u16);
 

@@ -17,13 +17,6 @@ pub record Reached (code rest : List ℕ) (entries greatest : ℕ) : Type 0 wher
   pub from_code : (all : List Instruction) → SpellsCode code all → (instructions : List Instruction) × SpellsCode rest instructions × (walk all 0 0 ≡ walk instructions entries greatest)
   pub few : entries + length rest ≤ length code
 
-pub reached_start : (code : List ℕ) → Reached code code 0 0
-reached_start code = record {
-  from_rest = λ instructions spelled. (instructions, spelled, refl);
-  from_code = λ all spelled. (all, spelled, refl);
-  few = omega arith;
-}
-
 -- a list that is tested to be empty is
 pub nothing : (bytes : List ℕ) → (length bytes == 0) ≡ true → bytes ≡ []
 nothing bytes empty = nil_from_length bytes (grind (arith, nat_tests))

@@ -89,12 +89,3 @@ placed_table all starts tables.Booleans i to cut there =
     same_tables _ _ _ _ _ _ _ _ _ _ _ _ (part_set_above all _ _ _ to (omega arith)) (part_set_above all _ _ _ to (omega arith)) (part_set_above all _ _ _ to (omega arith))
     (part_set_above all _ _ _ to (omega arith)) (part_set_above all _ _ _ to (omega arith))
     (ap (slice_range (slice_set all (starts.booleans + i) to) starts.booleans) (length-set all (starts.booleans + i) to) ∙ part_set_within all starts.booleans (length all) i to at)
-
--- the same in all roots
-pub placed_entry : (roots : Roots) (which : Table) (i to : ℕ) → (with_entry roots which i to).tables ≡ with_place roots.tables which i to
-placed_entry roots tables.Constants i to = refl
-placed_entry roots tables.ClassObjects i to = refl
-placed_entry roots tables.Integers i to = refl
-placed_entry roots tables.Longs i to = refl
-placed_entry roots tables.Characters i to = refl
-placed_entry roots tables.Booleans i to = refl

@@ -27,10 +27,6 @@ use Rattle.cb_heap.specs.Store.{ReadsAsBefore, may_point}
 
 -- ---- reading
 
-pub reads_frames : (index : ℕ → ℕ) (held : Roots) (frames : List Frame) →
-    read_roots index (roots.with_frames held frames) ≡ roots.with_frames (read_roots index held) (map (read_frame index) frames)
-reads_frames index held frames = refl
-
 pub reads_pending : (index : ℕ → ℕ) (held : Roots) (place : ℕ) →
     read_roots index (roots.with_pending held place) ≡ roots.with_pending (read_roots index held) (serial_of index place)
 reads_pending index held place = refl

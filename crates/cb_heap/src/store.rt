@@ -67,6 +67,7 @@ pub trait Store {
         ensures limit { roots.new.limit ≡ roots.old.limit }
         ensures ruled { rules.makes_room (facts self.old) (seen (index self.old) (kept self.old) roots.old.roots) request.now result (record { facts = facts self.new; residents = residents (kept self.new) }) }
         ensures granted { OnOk result (granted self.new ≡ request.now) }
+        ensures withheld { IsErr result → granted self.new ≡ granted self.old }
         ensures bounded { OnOk result (IsBounded FIXED (length (kept self.new)) request.now) }
         ensures memory { WantsMemory result → FIXED ≡ false }
         ensures counted { CountsFaults (faults self.old) (faults self.new) (IsFault result) }
@@ -81,6 +82,7 @@ pub trait Store {
         ensures limit { roots.new.limit ≡ roots.old.limit }
         ensures ruled { rules.collects_all (facts self.old) (seen (index self.old) (kept self.old) roots.old.roots) result (record { facts = facts self.new; residents = residents (kept self.new) }) }
         ensures refused { IsErr result → IsFault result }
+        ensures granted { granted self.new ≡ granted self.old }
         ensures counted { CountsFaults (faults self.old) (faults self.new) (IsFault result) }
         ensures knows { knows self.new ≡ knows self.old }
         ensures allows { allows self.new ≡ allows self.old }

@@ -16,7 +16,7 @@ use Rattle.cb_hierarchy.specs.declared.member.Method.{Method}
 use Rattle.cb_hierarchy.specs.Classes.{is_interface, listed}
 use Rattle.cb_hierarchy.specs.Members.{method_of}
 use Rattle.cb_hierarchy.specs.Orders.{is_subclass, lookup_order}
-use Rattle.cb_hierarchy.specs.Reaching.{AreFirst, above_class, among_if, entry_among, is_above, is_declared_above, signature_in, signature_of}
+use Rattle.cb_hierarchy.specs.InnerReaching.{AreFirst, above_class, among_if, entry_among, is_above, is_declared_above, signature_in, signature_of}
 use Rattle.cb_hierarchy.specs.Resolution.{is_inherited, method_is, most_specific, most_specific_of, superinterface_methods}
 use Rattle.cb_hierarchy.proofs.OrderLaws.{first_not, second_not}
 use Rattle.cb_hierarchy.proofs.RowLaws.{slice_get_other, slice_get_same, there}

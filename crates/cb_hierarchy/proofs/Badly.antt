@@ -10,11 +10,11 @@ use Rattle.cb_hierarchy.specs.declared.member.Method.{Method}
 use Rattle.cb_hierarchy.specs.Above.{IsAbove}
 use Rattle.cb_hierarchy.specs.Bad.{ExtendsFinal, ExtendsInterface, ImplementsClass, IsBad, IsItsOwn, Overrides, OverridesFinal}
 use Rattle.cb_hierarchy.specs.Classes.{is_final, is_interface, parents, superclass, superinterfaces}
-use Rattle.cb_hierarchy.specs.Finals.{AreFinals, extends_badly, implements_badly, is_bad, is_final_of, overrides_final, overrides_some, overrides_this}
+use Rattle.cb_hierarchy.specs.InnerFinals.{AreFinals, extends_badly, implements_badly, is_bad, is_final_of, overrides_final, overrides_some, overrides_this}
 use Rattle.cb_hierarchy.specs.Inner.{AreWith, has, list_at}
-use Rattle.cb_hierarchy.specs.Reaching.{signature_of}
+use Rattle.cb_hierarchy.specs.InnerReaching.{signature_of}
 use Rattle.cb_hierarchy.specs.Resolution.{is_private, method_is}
-use Rattle.cb_hierarchy.specs.Rows.{MarkAbove, marked}
+use Rattle.cb_hierarchy.specs.InnerRows.{MarkAbove, marked}
 use Rattle.cb_hierarchy.specs.Selection.{is_seen, overrides_openly, seen}
 use Rattle.cb_hierarchy.proofs.Closing.{any_found, any_here}
 
@@ -69,12 +69,6 @@ module _ (methods : List Method) (k s : ℕ) (method : Method) (at : slice_get m
     itself =
         method_at methods (λ method. (method.declared.signature == s) && (method.is_final && not method.is_static)) k method at
         ∙ and_from (eqb method.declared.signature s) (method.is_final && not method.is_static) (eq-eqb method.declared.signature s of) (and_from method.is_final (not method.is_static) final (not_from_false method.is_static instance))
-
-pub finals_none : (methods : List Method) (count : ℕ) (lists : List (List ℕ)) → ((signature : ℕ) → list_at lists signature ≡ []) → AreFinals methods 0 lists
-finals_none methods count lists empty = record {
-  only = λ signature number among. absurd (omega (arith, (subst (λ list. Contains list number) (empty signature) among).1));
-  all = λ signature number less is. absurd (omega (arith, less));
-}
 
 -- these marks are of classes that override a final method, and of all that do by one of the first so many methods
 pub record AreOver (classes : List Class) (methods : List Method) (count : ℕ) (marks : List Bool) : Type 0 where

@@ -8,7 +8,7 @@ use Rattle.std.proofs.lemmas.Map.Steps.{length-le_from_distinct_below}
 use Rattle.cb_hierarchy.specs.Above.{Direct, IsAbove, Through}
 use Rattle.cb_hierarchy.specs.Inner.{AreDistinct, list_at}
 use Rattle.cb_hierarchy.specs.Orders.{distinct}
-use Rattle.cb_hierarchy.specs.Rows.{ListsAbove, MarkAbove, MarkLists}
+use Rattle.cb_hierarchy.specs.InnerRows.{ListsAbove, MarkAbove, MarkLists}
 use Rattle.cb_hierarchy.proofs.Once.{any_distinct, distinct_is, distinct_later}
 
 -- one that passes a test

@@ -7,7 +7,7 @@ use Rattle.std.proofs.lemmas.List.{length-map, length-take-le, take_more, map-ap
 use Rattle.std.proofs.lemmas.Bool.{eqb-true}
 use Rattle.std.specs.Cmp.{first_so, second_so}
 use Rattle.cb_hierarchy.specs.declared.member.Declared.{Declared}
-use Rattle.cb_hierarchy.specs.Indexed.{IsIndexOf, same_member}
+use Rattle.cb_hierarchy.specs.InnerIndex.{IsIndexOf, same_member}
 use Rattle.cb_hierarchy.specs.Members.{place_of}
 
 -- the first place in a list with one item more

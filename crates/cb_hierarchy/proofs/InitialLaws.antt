@@ -7,7 +7,7 @@ use Rattle.std.proofs.lemmas.List.Folds.{list_any-append}
 use Rattle.std.proofs.lemmas.Option.{get_or_from_slice_get, slice_get-map, slice_get_within}
 use Rattle.cb_hierarchy.specs.declared.class.Class.{Class}
 use Rattle.cb_hierarchy.specs.declared.member.Method.{Method}
-use Rattle.cb_hierarchy.specs.Beginning.{before_by}
+use Rattle.cb_hierarchy.specs.InnerBeginnings.{before_by}
 use Rattle.cb_hierarchy.specs.Classes.{AreClasses, is_interface, listed, superclass, superinterfaces}
 use Rattle.cb_hierarchy.specs.Initial.{declares_body, enumerated, enumerated_by, initialised_before}
 use Rattle.cb_hierarchy.specs.Inner.{IsLocal, list_at}

@@ -9,7 +9,7 @@ use Rattle.std.proofs.lemmas.Option.{slice_get_past}
 use Rattle.cb_hierarchy.specs.declared.class.Class.{Class}
 use Rattle.cb_hierarchy.specs.Classes.{AreClasses, listed, parents, superclass, superinterfaces}
 use Rattle.cb_hierarchy.specs.Inner.{list_at}
-use Rattle.cb_hierarchy.specs.Rows.{all_named, superclass_named}
+use Rattle.cb_hierarchy.specs.InnerRows.{all_named, superclass_named}
 
 module _ (classes : List Class) (number : ℕ) (class : Class) (is : slice_get classes number ≡ Some class) where
   pub superclass_is : superclass classes number ≡ listed class.superclass

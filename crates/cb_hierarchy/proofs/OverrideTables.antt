@@ -6,7 +6,7 @@ use Rattle.cb_hierarchy.specs.declared.class.Class.{Class}
 use Rattle.cb_hierarchy.specs.declared.member.Method.{Method}
 use Rattle.cb_hierarchy.specs.declared.member.Visibility.{Visibility}
 use Rattle.cb_hierarchy.specs.declared.member.Visibility.TheVariants.{Public, Protected, Package, Private}
-use Rattle.cb_hierarchy.specs.Reaching.{can_override, is_shown, neither_private, opens}
+use Rattle.cb_hierarchy.specs.InnerReaching.{can_override, is_shown, neither_private, opens}
 use Rattle.cb_hierarchy.specs.Resolution.{is_private}
 use Rattle.cb_hierarchy.specs.Selection.{in_one_package, is_seen, packages, seen}
 

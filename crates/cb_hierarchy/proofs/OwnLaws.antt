@@ -6,7 +6,7 @@ use Rattle.std.proofs.lemmas.Bool.{cases_eq}
 use Rattle.std.proofs.lemmas.Option.{get_or_from_slice_get, slice_get_within}
 use Rattle.cb_hierarchy.specs.declared.member.Method.{Method}
 use Rattle.cb_hierarchy.specs.Members.{method_of, place_of}
-use Rattle.cb_hierarchy.specs.Reaching.{AreFirst, signature_in, signature_of}
+use Rattle.cb_hierarchy.specs.InnerReaching.{AreFirst, signature_in, signature_of}
 use Rattle.cb_hierarchy.specs.Resolution.{method_is}
 use Rattle.cb_hierarchy.proofs.AmongLaws.{apart_test}
 use Rattle.cb_hierarchy.proofs.IndexLaws.{one_more, or_none, or_some, place_of-push, taken}

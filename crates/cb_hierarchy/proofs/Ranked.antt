@@ -11,7 +11,7 @@ use Rattle.cb_hierarchy.specs.declared.class.Class.{Class}
 use Rattle.cb_hierarchy.specs.Above.{Direct, IsAcyclic, Through}
 use Rattle.cb_hierarchy.specs.Classes.{AreClasses, parents}
 use Rattle.cb_hierarchy.specs.Inner.{IsParentsFirst, has}
-use Rattle.cb_hierarchy.specs.Rows.{AreOfRank, AreSquare, MarkAbove, how_many, marked}
+use Rattle.cb_hierarchy.specs.InnerRows.{AreOfRank, AreSquare, MarkAbove, how_many, marked}
 use Rattle.cb_hierarchy.proofs.Named.{names_another}
 
 -- fewer marks

@@ -18,7 +18,7 @@ use Rattle.cb_hierarchy.specs.Classes.{is_interface, listed, parents, superclass
 use Rattle.cb_hierarchy.specs.Inner.{IsParentsFirst}
 use Rattle.cb_hierarchy.specs.Members.{method_of}
 use Rattle.cb_hierarchy.specs.Orders.{upwards, upwards_by}
-use Rattle.cb_hierarchy.specs.Reaching.{IsMade, IsRowBy, can_override, entry_by, entry_in, entry_among, entry_for, entry_of, entry_selected, is_of_interface, opens, reach, reach_class, reach_interface, reach_more, reach_own, reached_at, reached_in, signature_in, signature_of}
+use Rattle.cb_hierarchy.specs.InnerReaching.{IsMade, IsRowBy, can_override, entry_by, entry_in, entry_among, entry_for, entry_of, entry_selected, is_of_interface, opens, reach, reach_class, reach_interface, reach_more, reach_own, reached_at, reached_in, signature_in, signature_of}
 use Rattle.cb_hierarchy.specs.Resolution.{is_private, method_is, most_specific}
 use Rattle.cb_hierarchy.specs.Selection.{declared_upwards, entry_at, first_or, implementing, of_method, overrides_above, overriding, seen, selected}
 use Rattle.cb_hierarchy.proofs.Locals.{upwards_local}

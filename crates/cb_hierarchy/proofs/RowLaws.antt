@@ -6,7 +6,7 @@ use Rattle.std.proofs.lemmas.Bool.{cases_eq}
 use Rattle.std.proofs.lemmas.List.{get_or_append_left, get_or_push, length_push}
 use Rattle.std.proofs.lemmas.Option.{get_or_from_slice_get, slice_get-get_or, slice_get_within}
 use Rattle.cb_hierarchy.specs.declared.member.Declared.{Declared}
-use Rattle.cb_hierarchy.specs.Reaching.{AreFirst}
+use Rattle.cb_hierarchy.specs.InnerReaching.{AreFirst}
 
 -- one item more
 pub pushed : {X : Type 0} (count : ℕ) (expected : ℕ → X) (items : List X) (item : X) → length items ≡ count → AreFirst count expected items → item ≡ expected count

@@ -3,7 +3,7 @@ ghost use Rattle.std.specs.Prelude.{◌≡◌, ◌^◌, ◌<◌, ℕ, length, ma
 ghost use Rattle.std.specs.List.{Contains};
 ghost use Rattle.cb_hierarchy.specs.Classes.{AreClasses, parents, superclass};
 ghost use Rattle.cb_hierarchy.specs.Inner.{list_at};
-ghost use Rattle.cb_hierarchy.specs.Rows.{AreSquare, ListsAbove, MarkAbove, MarkLists, how_many, marked};
+ghost use Rattle.cb_hierarchy.specs.InnerRows.{AreSquare, ListsAbove, MarkAbove, MarkLists, how_many, marked};
 
 use crate::Classes;
 use crate::distinct::Distinct;

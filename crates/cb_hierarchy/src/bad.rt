@@ -2,8 +2,8 @@
 ghost use Rattle.std.specs.Prelude.{◌≡◌, ◌<◌, length, IfOk};
 ghost use Rattle.cb_hierarchy.specs.Bad.{IsFirstBad};
 ghost use Rattle.cb_hierarchy.specs.Classes.{AreClasses, is_final, is_interface};
-ghost use Rattle.cb_hierarchy.specs.Finals.{extends_badly, implements_badly, is_bad};
-ghost use Rattle.cb_hierarchy.specs.Rows.{superclass_named};
+ghost use Rattle.cb_hierarchy.specs.InnerFinals.{extends_badly, implements_badly, is_bad};
+ghost use Rattle.cb_hierarchy.specs.InnerRows.{superclass_named};
 
 use crate::ancestors::Ancestors;
 use crate::marks::Marks;

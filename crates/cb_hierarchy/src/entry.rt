@@ -1,6 +1,6 @@
 // An entry of the table of selected methods.
 ghost use Rattle.std.specs.Prelude.{◌≡◌};
-ghost use Rattle.cb_hierarchy.specs.Reaching.{entry_selected, reached_in};
+ghost use Rattle.cb_hierarchy.specs.InnerReaching.{entry_selected, reached_in};
 
 use crate::Selected;
 

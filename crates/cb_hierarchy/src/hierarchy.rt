@@ -34,7 +34,7 @@ impl Model for Hierarchy {
 
     ghost view = { λ hierarchy. hierarchy.classes };
 
-    ghost use Rattle.cb_hierarchy.specs.Kept.{AreKept};
+    ghost use Rattle.cb_hierarchy.specs.InnerKept.{AreKept};
 
     ghost invariant = { λ hierarchy. AreKept hierarchy.classes hierarchy.order hierarchy.upward_lists hierarchy.lookup_lists hierarchy.lookup_rows.items };
 }

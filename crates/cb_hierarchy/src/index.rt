@@ -1,7 +1,7 @@
 // The number of a member by its class and signature.
 ghost use Rattle.std.specs.Prelude.{◌≡◌, ◌<◌, ◌^◌, length, map, IfOk};
 ghost use Rattle.std.specs.HashMap.{get};
-ghost use Rattle.cb_hierarchy.specs.Indexed.{IsIndexOf, same_member};
+ghost use Rattle.cb_hierarchy.specs.InnerIndex.{IsIndexOf, same_member};
 
 use crate::Declared;
 use cb_plain::OutOfMemory;

@@ -2,7 +2,7 @@
 ghost use Rattle.std.specs.Prelude.{◌≡◌, ◌<◌, ◌&&◌, ◌++◌, not, ℕ, filter, length, map, nat_eq, slice_get, IfOk, OnOk, Some};
 ghost use Rattle.std.specs.HashSet.{contains};
 ghost use Rattle.std.specs.List.{Contains};
-ghost use Rattle.cb_hierarchy.specs.Beginning.{NameBelow, before_by};
+ghost use Rattle.cb_hierarchy.specs.InnerBeginnings.{NameBelow, before_by};
 ghost use Rattle.cb_hierarchy.specs.Classes.{listed};
 ghost use Rattle.cb_hierarchy.specs.Initial.{declares_body, enumerated_by, initialised_before};
 ghost use Rattle.cb_hierarchy.specs.Inner.{list_at};

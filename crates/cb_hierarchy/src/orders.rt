@@ -4,7 +4,7 @@ ghost use Rattle.std.specs.List.{Contains, flat_map};
 ghost use Rattle.cb_hierarchy.specs.Classes.{AreClasses};
 ghost use Rattle.cb_hierarchy.specs.Inner.{AreDistinct, list_at};
 ghost use Rattle.cb_hierarchy.specs.Orders.{lookup_order_by, upwards_by};
-ghost use Rattle.cb_hierarchy.specs.Rows.{superclass_named};
+ghost use Rattle.cb_hierarchy.specs.InnerRows.{superclass_named};
 
 use crate::distinct::Distinct;
 use crate::rule::{Rule, append};

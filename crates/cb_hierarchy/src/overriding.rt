@@ -3,7 +3,7 @@ ghost use Rattle.std.specs.Prelude.{◌≡◌, ◌<◌, ℕ, ◌+◌, length, If
 ghost use Rattle.std.specs.List.{Contains};
 ghost use Rattle.cb_hierarchy.specs.Bad.{OverridesFinal};
 ghost use Rattle.cb_hierarchy.specs.Classes.{AreClasses};
-ghost use Rattle.cb_hierarchy.specs.Finals.{AreFinals, is_final_of, overrides_final, overrides_some, overrides_this};
+ghost use Rattle.cb_hierarchy.specs.InnerFinals.{AreFinals, is_final_of, overrides_final, overrides_some, overrides_this};
 ghost use Rattle.cb_hierarchy.specs.Inner.{has};
 ghost use Rattle.cb_hierarchy.specs.Selection.{is_seen};
 

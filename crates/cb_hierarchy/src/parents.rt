@@ -1,7 +1,7 @@
 // The lists of those that classes name.
 ghost use Rattle.std.specs.Prelude.{◌≡◌, ◌++◌, map, IfOk};
 ghost use Rattle.cb_hierarchy.specs.Classes.{listed};
-ghost use Rattle.cb_hierarchy.specs.Rows.{all_named, superclass_named};
+ghost use Rattle.cb_hierarchy.specs.InnerRows.{all_named, superclass_named};
 
 use crate::rule::append;
 use crate::{Class, Classes};

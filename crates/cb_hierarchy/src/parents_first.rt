@@ -3,7 +3,7 @@ ghost use Rattle.std.specs.Prelude.{◌≡◌, ◌^◌, ◌<◌, ◌++◌, ℕ, 
 ghost use Rattle.cb_hierarchy.specs.Above.{IsAcyclic};
 ghost use Rattle.cb_hierarchy.specs.Classes.{AreClasses, parents};
 ghost use Rattle.cb_hierarchy.specs.Inner.{IsParentsFirst};
-ghost use Rattle.cb_hierarchy.specs.Rows.{AreOfRank, AreSquare, MarkAbove};
+ghost use Rattle.cb_hierarchy.specs.InnerRows.{AreOfRank, AreSquare, MarkAbove};
 
 use crate::Classes;
 use crate::ancestors::Ancestors;

@@ -1,6 +1,6 @@
 // The methods of a class and its superclasses that override a resolved one.
 ghost use Rattle.std.specs.Prelude.{◌≡◌, not, slice_get};
-ghost use Rattle.cb_hierarchy.specs.Reaching.{can_override, entry_of, is_of_interface, is_shown, opens, reach_class, reach_interface, reach_more, reach_own};
+ghost use Rattle.cb_hierarchy.specs.InnerReaching.{can_override, entry_of, is_of_interface, is_shown, opens, reach_class, reach_interface, reach_more, reach_own};
 ghost use Rattle.cb_hierarchy.specs.Resolution.{is_private, method_is};
 ghost use Rattle.cb_hierarchy.specs.Selection.{is_seen};
 

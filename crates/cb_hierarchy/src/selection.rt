@@ -1,7 +1,7 @@
 // Which method is run where one is invoked on an object.
 ghost use Rattle.std.specs.Prelude.{◌≡◌, ◌<◌, ◌==◌, ℕ, length, vec_len, IfOk, IsSome, Some};
 ghost use Rattle.cb_hierarchy.specs.Members.{method_of};
-ghost use Rattle.cb_hierarchy.specs.Reaching.{AreAmong, AreFirst, IsRowBy, entry_among, entry_of, is_above, reach_own, reached_at};
+ghost use Rattle.cb_hierarchy.specs.InnerReaching.{AreAmong, AreFirst, IsRowBy, entry_among, entry_of, is_above, reach_own, reached_at};
 ghost use Rattle.cb_hierarchy.specs.Resolution.{method_is, most_specific};
 ghost use Rattle.cb_hierarchy.specs.Selection.{entry_at, selected};
 
@@ -22,7 +22,7 @@ pub struct Selection {
 
 impl Model for Selection {
     ghost use Rattle.std.specs.Prelude.{List, map};
-    ghost use Rattle.cb_hierarchy.specs.Reaching.{entry_selected};
+    ghost use Rattle.cb_hierarchy.specs.InnerReaching.{entry_selected};
     ghost use Rattle.cb_hierarchy.specs.declared.selected.Selected.{Selected as Choice};
 
     ghost Value = { List (List Choice) };

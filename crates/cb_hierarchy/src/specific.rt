@@ -1,7 +1,7 @@
 // The maximally-specific methods of superinterfaces.
 ghost use Rattle.std.specs.Prelude.{◌≡◌, ◌<◌, ◌∷◌, ◌++◌, [], drop, filter, length, not, IfOk, OnOk};
 ghost use Rattle.cb_hierarchy.specs.Resolution.{is_declared_below, is_inherited, method_is, most_specific, most_specific_of, superinterface_methods};
-ghost use Rattle.cb_hierarchy.specs.Specific.{inherited_of, is_specific};
+ghost use Rattle.cb_hierarchy.specs.InnerSpecific.{inherited_of, is_specific};
 
 use crate::{Hierarchy, MethodTable, Visibility};
 use cb_plain::{Numbers, OutOfMemory};

@@ -1,7 +1,7 @@
 // Methods and fields that are found by class and signature.
 ghost use Rattle.std.specs.Prelude.{◌≡◌, ◌<◌, length, map, option_copied, slice_get, IfOk, Some};
 ghost use Rattle.cb_hierarchy.specs.Members.{AreMembers, field_of, method_of};
-ghost use Rattle.cb_hierarchy.specs.Reaching.{signature_of};
+ghost use Rattle.cb_hierarchy.specs.InnerReaching.{signature_of};
 
 use crate::index::{Index, Member};
 use crate::{Declared, Field, Fields, Method, Methods};
@@ -35,7 +35,7 @@ pub struct MethodTable {
 impl Model for MethodTable {
     ghost use Rattle.std.specs.Prelude.{List, map};
     ghost use Rattle.std.specs.HashMap.{get};
-    ghost use Rattle.cb_hierarchy.specs.Indexed.{IsIndexOf, same_member};
+    ghost use Rattle.cb_hierarchy.specs.InnerIndex.{IsIndexOf, same_member};
     ghost use Rattle.cb_hierarchy.specs.Members.{AreMembers};
     ghost use Rattle.cb_hierarchy.specs.declared.member.Method.{Method as Declaration};
 
@@ -113,7 +113,7 @@ pub struct FieldTable {
 impl Model for FieldTable {
     ghost use Rattle.std.specs.Prelude.{List, map};
     ghost use Rattle.std.specs.HashMap.{get};
-    ghost use Rattle.cb_hierarchy.specs.Indexed.{IsIndexOf, same_member};
+    ghost use Rattle.cb_hierarchy.specs.InnerIndex.{IsIndexOf, same_member};
     ghost use Rattle.cb_hierarchy.specs.Members.{AreMembers};
     ghost use Rattle.cb_hierarchy.specs.declared.member.Field.{Field as Declaration};
 

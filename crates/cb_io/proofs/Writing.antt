@@ -18,17 +18,6 @@ Appends-Appends (Some old) None new xs ys first second = absurd first
 Appends-Appends (Some old) (Some mid) None xs ys first second = absurd second
 Appends-Appends (Some old) (Some mid) (Some new) xs ys first second = second ∙ ap (λ m. m ++ ys) first ∙ append_assoc old xs ys
 
--- nothing more was taken
-pub Appends-Keeps : (old mid new : Option (List ℕ)) (xs : List ℕ) → Appends old mid xs → Keeps mid new → Appends old new xs
-Appends-Keeps None mid new xs first kept = tt
-Appends-Keeps (Some old) None new xs first kept = absurd first
-Appends-Keeps (Some old) (Some mid) None xs first kept = absurd kept
-Appends-Keeps (Some old) (Some mid) (Some new) xs first kept = kept ∙ first
-
-pub written_start : (known : Option (List ℕ)) (faults : ℕ) (bytes : List ℕ) → Written known known faults faults bytes bytes
-written_start None faults bytes = record { done = []; whole = refl; taken = tt; never_falls = omega arith; unfailed = λ below. omega arith }
-written_start (Some taken) faults bytes = record { done = []; whole = refl; taken = sym (append-nil taken); never_falls = omega arith; unfailed = λ below. omega arith }
-
 -- one more call took `count` bytes of the rest, and left is left
 pub written_more : (old mid new : Option (List ℕ)) (before now later count : ℕ) (bytes rest left : List ℕ) → Written old mid before now bytes rest → Appends mid new (take count rest) → left ≡ drop count rest → now ≤ later → (now < 2 ^ 64 - 1 → now < later → ⊥) → Written old new before later bytes left
 written_more old mid new before now later count bytes rest left so_far more is rises none = record {

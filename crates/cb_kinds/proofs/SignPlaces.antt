@@ -159,7 +159,3 @@ module _ (text : List ℕ) (start index : ℕ) (past : IsPast text start index) 
       let begun : start ≤ index + 1 = omega (arith, past.begun) in
       at_name is ∙ to_end (between text start (index + 1)) rest end ends few
       ∙ ap₂ (λ read rest. Some read ∷ signs rest) (between_add text start (index + 1) end begun) (drop-drop end (index + 1) text)
-
--- past the end there is no sign
-pub past_all : (text : List ℕ) (start index : ℕ) → IsPast text start index → length text ≤ index → signs text ≡ []
-past_all text start index past end = past.same ∙ ap (signs_behind (between text start index)) (drop_all index text end)

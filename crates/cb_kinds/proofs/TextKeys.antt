@@ -40,11 +40,3 @@ none_after texts text none = go (ltb (position_or_len (same_text text) texts) (l
         → length texts ≡ position_or_len (same_text text) texts
     go true is none = cc
     go false is none = let few = prefix_len-le-length (λ other. not (same_text text other)) texts in grind (arith, nat_tests)
-
--- and one that has a number has its place
-pub some_place : (texts : List (List ℕ)) (text : List ℕ) (number : ℕ) → Some number ≡ number_of texts text → number ≡ position_or_len (same_text text) texts
-some_place texts text number some = go (ltb (position_or_len (same_text text) texts) (length texts)) some
-  where
-    go : (test : Bool) → Some number ≡ cond test (Some (position_or_len (same_text text) texts)) None → number ≡ position_or_len (same_text text) texts
-    go true some = cc
-    go false some = cc

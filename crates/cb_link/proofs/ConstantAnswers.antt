@@ -27,7 +27,7 @@ use Rattle.cb_link.specs.Numbers.{Numbered, fields_of, methods_of, ranked_field,
 use Rattle.cb_link.specs.Program.{Linked, linked_field}
 use Rattle.cb_link.specs.Resolving.{found_field, found_method}
 use Rattle.cb_link.specs.Slots.{statics}
-use Rattle.cb_link.specs.Turned.{HasField, constant_of, constants_in, constants_of, kind_of, told_at}
+use Rattle.cb_link.specs.InnerPlaces.{HasField, constant_of, constants_in, constants_of, kind_of, told_at}
 use Rattle.cb_link.proofs.PlaceAnswers.{as_many_methods}
 use Rattle.cb_link.proofs.ConstantRows.{constant_as, told_named}
 

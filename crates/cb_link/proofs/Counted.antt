@@ -7,7 +7,7 @@ use Rattle.std.proofs.lemmas.List.Concat.{flat_map-cons}
 use Rattle.cb_text.specs.declared.constant.Constant.{Constant}
 use Rattle.cb_classfile.specs.declared.class.ClassFile.{ClassFile}
 use Rattle.cb_link.specs.Numbers.{Numbered, field_texts, method_texts, numbered, ranked_fields, ranked_methods, texts_in}
-use Rattle.cb_link.specs.Ranking.{fields_of_class, methods_of_class, rank_field, rank_method, texts_of_fields, texts_of_methods}
+use Rattle.cb_link.specs.InnerRanks.{fields_of_class, methods_of_class, rank_field, rank_method, texts_of_fields, texts_of_methods}
 
 -- what doesn't look at places is said item by item
 by_item : {X Y : Type 0} (f : X → Y) (n : ℕ) (xs : List X) → map (λ own. f own.1) (enumerate_from n xs) ≡ map f xs

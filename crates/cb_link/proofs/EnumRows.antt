@@ -6,10 +6,10 @@ use Rattle.std.proofs.lemmas.List.{append-nil, get_or-replicate, length-replicat
 use Rattle.std.proofs.lemmas.Option.{slice_get-get_or}
 use Rattle.cb_classfile.specs.declared.class.ClassFile.{ClassFile}
 use Rattle.cb_classfile.specs.declared.field.Field.{Field}
-use Rattle.cb_link.specs.Counting.{AreEnums, enums_in}
+use Rattle.cb_link.specs.InnerCounts.{AreEnums, enums_in}
 use Rattle.cb_link.specs.Numbers.{Numbered, fields_of}
 use Rattle.cb_link.specs.Slots.{enum_statics, is_enum_static, slot_of}
-use Rattle.cb_link.specs.Tabled.{AreAll}
+use Rattle.cb_link.specs.InnerTables.{AreAll}
 use Rattle.cb_link.proofs.Picked.{picked, picked_more}
 
 module _ (classes : List ClassFile) where

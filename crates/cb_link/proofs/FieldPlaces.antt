@@ -7,7 +7,7 @@ use Rattle.cb_classfile.specs.declared.class.ClassFile.{ClassFile}
 use Rattle.cb_classfile.specs.declared.field.Field.{Field}
 use Rattle.cb_hierarchy.specs.declared.member.Field.{Field as RankedField}
 use Rattle.cb_link.specs.declared.linked.LinkedField.{LinkedField}
-use Rattle.cb_link.specs.Counting.{HasField}
+use Rattle.cb_link.specs.InnerCounts.{HasField}
 use Rattle.cb_link.specs.Numbers.{Numbered, fields_of, hierarchy, ranked, ranked_field, ranked_fields}
 use Rattle.cb_link.specs.Program.{Linked, linked_field}
 use Rattle.cb_link.proofs.PlacedLaws.{placed}

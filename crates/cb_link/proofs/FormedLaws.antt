@@ -5,7 +5,7 @@ use Rattle.std.proofs.lemmas.Bool.Decides.{nat_tests}
 use Rattle.std.proofs.lemmas.List.Sums.{take_while-cons}
 use Rattle.cb_names.specs.Signs.{bracket, letter_class, semicolon}
 use Rattle.cb_kinds.specs.Kinds.{ends_name, is_array, name_in}
-use Rattle.cb_link.specs.Formed.{by_letters, class_in, dimensions, first_unit, inner_name, is_class, letter_of, rest_of}
+use Rattle.cb_link.specs.InnerKinds.{by_letters, class_in, dimensions, first_unit, inner_name, is_class, letter_of, rest_of}
 use Rattle.cb_link.specs.Subtypes.{is_above_arrays, is_subtype}
 
 -- a name in front of the semicolon that ends it

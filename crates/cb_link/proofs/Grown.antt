@@ -4,7 +4,7 @@ use Rattle.std.specs.Prelude.{slice_get}
 use Rattle.std.proofs.lemmas.Bool.{cases_eq}
 use Rattle.std.proofs.lemmas.List.{get_or_append_left, get_or_push, length_push}
 use Rattle.std.proofs.lemmas.Option.{get_or_from_slice_get, same_Some, slice_get-get_or, slice_get_within}
-use Rattle.cb_link.specs.Tabled.{AreAll}
+use Rattle.cb_link.specs.InnerTables.{AreAll}
 
 pub all_none : {A : Type 0} (said : ℕ → A) → AreAll 0 said []
 all_none said = record { as_many = refl; each = λ place below. absurd (omega (arith, below)) }

@@ -11,8 +11,8 @@ use Rattle.cb_link.specs.declared.refusal.Quantity.TheVariants.{Sites}
 use Rattle.cb_link.specs.declared.refusal.Refusal.{Refusal}
 use Rattle.cb_link.specs.declared.refusal.Refusal.TheVariants as refusals
 use Rattle.cb_link.specs.Judging.{HasManySites, HindersProgram, site_count, site_limit}
-use Rattle.cb_link.specs.Inside.{IsTooMany}
-use Rattle.cb_link.specs.Judged.{IsBegun}
+use Rattle.cb_link.specs.Inner.{IsTooMany}
+use Rattle.cb_link.specs.InnerJudged.{IsBegun}
 use Rattle.cb_link.specs.Lacking.{first_lacking, lacks, lacks_in}
 use Rattle.cb_link.specs.Numbers.{hierarchy, ranked_methods}
 

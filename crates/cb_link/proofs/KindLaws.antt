@@ -16,13 +16,13 @@ use Rattle.cb_kinds.proofs.Laws.{among_all, entered_firsts, number_among, text_a
 use Rattle.cb_link.specs.declared.kind_row.Inner.{Inner}
 use Rattle.cb_link.specs.declared.kind_row.KindRow.{KindRow}
 use Rattle.cb_link.specs.declared.kind_table.KindTable.{KindTable}
-use Rattle.cb_link.specs.Formed.{assignable_by, compared, inner_name, inner_of, instance_by, row_of}
+use Rattle.cb_link.specs.InnerKinds.{assignable_by, compared, inner_name, inner_of, instance_by, row_of}
 use Rattle.cb_link.specs.Having.{HasOwnName, IsBelow}
 use Rattle.cb_link.specs.Making.{class_kinds, fixed_kinds, kinds}
 use Rattle.cb_link.specs.Numbers.{class_number, name_of, or_none}
 use Rattle.cb_link.specs.Program.{Linked}
 use Rattle.cb_link.specs.Subtypes.{assignable, between, instance, is_assignable, is_instance, is_object, is_subtype, names_interface}
-use Rattle.cb_link.specs.Tabled.{IsKindTable}
+use Rattle.cb_link.specs.InnerTables.{IsKindTable}
 use Rattle.cb_link.proofs.FormedLaws.{subtype_by}
 use Rattle.cb_link.proofs.KindsAmong.{element_low}
 use Rattle.cb_link.proofs.Ranged.{number_low}

@@ -7,7 +7,7 @@ use Rattle.cb_text.specs.declared.constant.Constant.{Constant}
 use Rattle.cb_classfile.specs.declared.body.Body.{Body}
 use Rattle.cb_classfile.specs.declared.class.ClassFile.{ClassFile}
 use Rattle.cb_hierarchy.specs.Resolution.{first_some}
-use Rattle.cb_link.specs.Lacked.{body_lacks, entry_lacks}
+use Rattle.cb_link.specs.InnerLacked.{body_lacks, entry_lacks}
 use Rattle.cb_link.specs.Lacking.{first_lacking, lacks, lacks_in}
 
 last_none : {Y : Type 0} (found : List (Option Y)) → first_some found ≡ None → first_some (found ++ None ∷ []) ≡ None

@@ -24,7 +24,7 @@ use Rattle.cb_link.specs.Having.{HasMethod, IsBelow, IsWhole, site_kinds}
 use Rattle.cb_link.specs.Making.{Making, body_kinds, class_kinds, descriptor_kinds, field_kinds, fixed_kinds, frame_kinds, handler_kinds, insn_kinds, kinds, made_by, makings, makings_of, member_kinds, method_kinds, named_in}
 use Rattle.cb_link.specs.Numbers.{Numbered, fields_of, methods_of, name_of, numbered, or_none}
 use Rattle.cb_link.specs.Program.{Linked, linked_field, linked_method, linked_site}
-use Rattle.cb_link.specs.Counting.{HasField}
+use Rattle.cb_link.specs.InnerCounts.{HasField}
 use Rattle.cb_link.proofs.KindsAmong.{Among, Whole, all_named, all_weaker, basic_low, number_of_low, own}
 use Rattle.cb_link.proofs.NumbersLow.{all_back, all_front, all_lists_of, each_at}
 use Rattle.cb_link.proofs.Ranged.{all_both}

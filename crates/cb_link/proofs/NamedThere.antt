@@ -27,7 +27,7 @@ use Rattle.cb_link.specs.Numbers.{Numbered, hierarchy, method_texts, methods_of,
 use Rattle.cb_link.specs.Program.{Linked, linked_method}
 use Rattle.cb_link.specs.Resolving.{found_field, found_method, holder, object}
 use Rattle.cb_link.specs.Slots.{object_fields, slot_of, statics}
-use Rattle.cb_link.specs.Turned.{constant_of}
+use Rattle.cb_link.specs.InnerPlaces.{constant_of}
 use Rattle.cb_link.proofs.FieldPlaces.{declared_low}
 use Rattle.cb_link.proofs.FoundLow.{chained, either, mapped, resolved_low, selected_low, whenever}
 use Rattle.cb_link.proofs.Ranged.{number_low}

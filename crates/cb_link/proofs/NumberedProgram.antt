@@ -2,7 +2,7 @@
 use Rattle.std.proofs.Common.{◌≡◌, ℕ, List}
 use Rattle.cb_classfile.specs.declared.class.ClassFile.{ClassFile}
 use Rattle.cb_link.specs.declared.judging.Parts.{Parts}
-use Rattle.cb_link.specs.Parts.{AreParts, linked_with}
+use Rattle.cb_link.specs.InnerParts.{AreParts, linked_with}
 
 pub parts_linked : (classes : List ClassFile) (parts : Parts) (class method : ℕ) → AreParts classes parts
     → record { classes = classes; kinds = parts.kinded.kinds; methods = parts.listed.methods; fields = parts.listed.fields; fixed = parts.kinded.fixed; sites = parts.listed.sites; constants = parts.kinded.constants; main_class = class; main_method = method } ≡ linked_with classes class method

@@ -14,7 +14,7 @@ use Rattle.cb_link.specs.Having.{HasMethod}
 use Rattle.cb_link.specs.Numbers.{Numbered, fields_of, methods_of, numbered}
 use Rattle.cb_link.specs.Places.{IsPlaced, numbered_in}
 use Rattle.cb_link.specs.Program.{Linked, linked_field, linked_method}
-use Rattle.cb_link.specs.Turned.{HasField}
+use Rattle.cb_link.specs.InnerPlaces.{HasField}
 
 all_append : {X : Type 0} (P : X → Type 0) (front back : List X) → AllByRecursion P front → AllByRecursion P back → AllByRecursion P (front ++ back)
 all_append P [] back one other = other

@@ -6,7 +6,7 @@ use Rattle.std.proofs.lemmas.Option.{same_Some}
 use Rattle.cb_hierarchy.specs.declared.selected.Selected.{Selected}
 use Rattle.cb_hierarchy.specs.Selection.{entry_at}
 use Rattle.cb_link.specs.Calls.{class_of_kind, or_object, select}
-use Rattle.cb_link.specs.Counting.{HasSelection}
+use Rattle.cb_link.specs.InnerCounts.{HasSelection}
 use Rattle.cb_link.specs.Having.{IsWhole}
 use Rattle.cb_link.specs.Numbers.{class_number, methods_of, name_of, ranked_method, ranked_methods}
 use Rattle.cb_link.specs.Program.{Linked, linked_method}

@@ -18,9 +18,9 @@ use Rattle.cb_link.specs.Making.{Making, made_by, makings}
 use Rattle.cb_link.specs.Named.{IsSite, code_in, made_at, site_of, turn_at}
 use Rattle.cb_link.specs.Numbers.{Numbered, methods_of}
 use Rattle.cb_link.specs.Program.{Linked, linked_site}
-use Rattle.cb_link.specs.Sited.{body_makings, insn_makings}
-use Rattle.cb_link.specs.Sited.{made_at as made_there}
-use Rattle.cb_link.specs.Turned.{HasFirstSite, made_in, made_of_method, sites_before}
+use Rattle.cb_link.specs.InnerSites.{body_makings, insn_makings}
+use Rattle.cb_link.specs.InnerSites.{made_at as made_there}
+use Rattle.cb_link.specs.InnerPlaces.{HasFirstSite, made_in, made_of_method, sites_before}
 use Rattle.cb_link.proofs.PlaceTurns.{there_is}
 
 -- items of two lists, one behind the other

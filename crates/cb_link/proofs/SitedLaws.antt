@@ -11,12 +11,12 @@ use Rattle.cb_classfile.specs.declared.method.Method.{Method}
 use Rattle.cb_link.specs.declared.linked.Site.{Site}
 use Rattle.cb_link.specs.declared.refusal.Refusal.{Refusal}
 use Rattle.cb_link.specs.declared.refusal.Refusal.TheVariants.{OutOfMemory}
-use Rattle.cb_link.specs.Inside.{IsTooMany}
+use Rattle.cb_link.specs.Inner.{IsTooMany}
 use Rattle.cb_link.specs.Making.{Making, makings}
 use Rattle.cb_link.specs.Numbers.{Numbered, methods_of}
 use Rattle.cb_link.specs.Places.{numbered_in}
 use Rattle.cb_link.specs.Program.{linked_site}
-use Rattle.cb_link.specs.Sited.{Exceeds, body_makings, class_makings, insn_makings, made_at}
+use Rattle.cb_link.specs.InnerSites.{Exceeds, body_makings, class_makings, insn_makings, made_at}
 use Rattle.cb_link.proofs.PlacesLaws.{enumerate_append, flat_more}
 
 -- what is too many at a part is too many at the whole

@@ -14,7 +14,7 @@ use Rattle.cb_hierarchy.specs.Bad.{AreGood}
 use Rattle.cb_hierarchy.specs.Classes.{listed, superclass}
 use Rattle.cb_hierarchy.specs.Layout.{layout, own_fields}
 use Rattle.cb_hierarchy.specs.Orders.{in_turns, upwards, upwards_by}
-use Rattle.cb_link.specs.Counting.{above_count, slot_by, slot_for}
+use Rattle.cb_link.specs.InnerCounts.{above_count, slot_by, slot_for}
 use Rattle.cb_link.specs.Numbers.{hierarchy, ranked_fields, ranked_methods}
 use Rattle.cb_link.specs.Slots.{is_own, object_fields, slot_of}
 use Rattle.cb_link.proofs.NumbersLow.{super_low}

@@ -9,12 +9,13 @@ use Rattle.cb_classfile.specs.declared.class.ClassFile.{ClassFile}
 use Rattle.cb_classfile.specs.declared.field.Field.{Field}
 use Rattle.cb_hierarchy.specs.declared.member.Field.{Field as RankedField}
 use Rattle.cb_link.specs.declared.linked.LinkedField.{LinkedField}
-use Rattle.cb_link.specs.Counting.{above_count, slot_for}
+use Rattle.cb_link.specs.InnerCounts.{above_count, slot_for}
 use Rattle.cb_link.specs.Having.{IsWhole}
-use Rattle.cb_link.specs.Numbers.{Numbered, acc_enum, acc_static, fields_of, has_flag, hierarchy, ranked_field, ranked_fields}
+use Rattle.cb_classfile.specs.Flags.{acc_static}
+use Rattle.cb_link.specs.Numbers.{Numbered, acc_enum, fields_of, has_flag, hierarchy, ranked_field, ranked_fields}
 use Rattle.cb_link.specs.Program.{Linked, linked_field}
 use Rattle.cb_link.specs.Slots.{basic_of_field, enum_statics, field_basic, is_enum_static, is_own, object_fields, slot_of, statics}
-use Rattle.cb_link.specs.Tabled.{AreAll}
+use Rattle.cb_link.specs.InnerTables.{AreAll}
 use Rattle.cb_link.proofs.Grown.{entry_is}
 use Rattle.cb_link.proofs.NumbersLow.{each_at, in_layout}
 use Rattle.cb_link.proofs.Picked.{all_picked, numbers_low, picked_at}

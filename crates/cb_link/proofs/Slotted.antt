@@ -10,9 +10,9 @@ use Rattle.cb_hierarchy.specs.declared.class.Class.{Class}
 use Rattle.cb_hierarchy.specs.declared.member.Field.{Field as RankedField}
 use Rattle.cb_hierarchy.specs.Classes.{listed, superclass}
 use Rattle.cb_hierarchy.specs.Layout.{layout}
-use Rattle.cb_link.specs.Counting.{HasCounted, above_count, count_above, count_of, many_of, slot_behind, slot_by, slot_for}
+use Rattle.cb_link.specs.InnerCounts.{HasCounted, above_count, count_above, count_of, many_of, slot_behind, slot_by, slot_for}
 use Rattle.cb_link.specs.Slots.{is_own}
-use Rattle.cb_link.specs.Tabled.{AreAll}
+use Rattle.cb_link.specs.InnerTables.{AreAll}
 use Rattle.cb_link.proofs.Grown.{all_more, all_none, there}
 
 module _ (classes : List Class) (fields : List RankedField) where

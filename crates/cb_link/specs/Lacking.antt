@@ -12,7 +12,8 @@ use Rattle.cb_classfile.specs.Needed.{index_in}
 use Rattle.cb_hierarchy.specs.declared.member.Field.{Field as RankedField}
 use Rattle.cb_hierarchy.specs.declared.member.Method.{Method as RankedMethod}
 use Rattle.cb_hierarchy.specs.Resolution.{first_some}
-use Rattle.cb_link.specs.Numbers.{acc_abstract, class_number, has_flag, library_size, ranked_fields, ranked_methods, same_name}
+use Rattle.cb_classfile.specs.Flags.{acc_abstract}
+use Rattle.cb_link.specs.Numbers.{class_number, has_flag, library_size, ranked_fields, ranked_methods, same_name}
 use Rattle.cb_link.specs.Resolving.{found_field, found_method}
 
 -- a class of the library, by its number

@@ -22,7 +22,8 @@ use Rattle.cb_hierarchy.specs.Classes.{listed}
 use Rattle.cb_kinds.specs.Descriptors.{types_of}
 use Rattle.cb_kinds.specs.Kinds.{array_of, kinds_of_name, kinds_of_type}
 use Rattle.cb_kinds.specs.Texts.{firsts}
-use Rattle.cb_link.specs.Numbers.{acc_static, has_flag, methods_of, name_of, or_none}
+use Rattle.cb_classfile.specs.Flags.{acc_static}
+use Rattle.cb_link.specs.Numbers.{has_flag, methods_of, name_of, or_none}
 
 -- the letter of the base type of a code (JVMS table 6.5.newarray-A)
 abbrev pub letter_of_code : ℕ → ℕ

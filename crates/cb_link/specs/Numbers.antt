@@ -6,6 +6,7 @@ use Rattle.cb_text.specs.declared.constant.Constant.{Constant}
 use Rattle.cb_classfile.specs.declared.class.ClassFile.{ClassFile}
 use Rattle.cb_classfile.specs.declared.field.Field.{Field}
 use Rattle.cb_classfile.specs.declared.method.Method.{Method}
+use Rattle.cb_classfile.specs.Flags.{acc_abstract, acc_interface, acc_static}
 use Rattle.cb_classfile.specs.Pool.{class_at, text_at}
 use Rattle.cb_hierarchy.specs.declared.class.Class.{Class as Ranked}
 use Rattle.cb_hierarchy.specs.declared.member.Field.{Field as RankedField}
@@ -17,7 +18,7 @@ use Rattle.cb_kinds.specs.Basics.{kind_number}
 use Rattle.cb_kinds.specs.Texts.{number_of, own_number}
 use Rattle.cb_names.specs.Signs.{slash}
 
--- the access flags that linking looks at (JVMS tables 4.1-A, 4.5-A and 4.6-A)
+-- the access flags that linking looks at beside those of `cb_classfile` (JVMS tables 4.1-A, 4.5-A and 4.6-A)
 abbrev pub acc_public : ℕ
 acc_public = 0x0001
 
@@ -27,17 +28,8 @@ acc_private = 0x0002
 abbrev pub acc_protected : ℕ
 acc_protected = 0x0004
 
-abbrev pub acc_static : ℕ
-acc_static = 0x0008
-
 abbrev pub acc_final : ℕ
 acc_final = 0x0010
-
-abbrev pub acc_interface : ℕ
-acc_interface = 0x0200
-
-abbrev pub acc_abstract : ℕ
-acc_abstract = 0x0400
 
 abbrev pub acc_enum : ℕ
 acc_enum = 0x4000

@@ -14,7 +14,8 @@ use Rattle.cb_kinds.specs.declared.basic.Basic.{Basic}
 use Rattle.cb_kinds.specs.Basics.{component_of, is_reference}
 use Rattle.cb_kinds.specs.Kinds.{type_of_name}
 use Rattle.cb_kinds.specs.Texts.{same_text}
-use Rattle.cb_link.specs.Numbers.{Numbered, acc_enum, acc_static, class_number, fields_of, has_flag, hierarchy, name_of, or_none, ranked_fields}
+use Rattle.cb_classfile.specs.Flags.{acc_static}
+use Rattle.cb_link.specs.Numbers.{Numbered, acc_enum, class_number, fields_of, has_flag, hierarchy, name_of, or_none, ranked_fields}
 use Rattle.cb_link.specs.Program.{Linked}
 
 -- the numbers of the static fields, by class and place: a slot is a place in this list

@@ -1,6 +1,6 @@
 // The tables of a program, in two parts.
 ghost use Rattle.std.specs.Prelude.{IfOk};
-ghost use Rattle.cb_link.specs.Tabled.{AreCodeTables, AreMemberTables, AreTables, IsFieldTables};
+ghost use Rattle.cb_link.specs.InnerTables.{AreCodeTables, AreMemberTables, AreTables, IsFieldTables};
 
 use crate::base::Base;
 use crate::call_tables::CallTables;

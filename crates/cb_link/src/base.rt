@@ -54,7 +54,7 @@ impl Base {
     ghost use Rattle.std.specs.Prelude.{◌≡◌, ◌<◌, ℕ, length, slice_get, IfSome, Some};
     ghost use Rattle.cb_kinds.specs.declared.basic.Basic.{Basic as AnyBasic};
     ghost use Rattle.cb_link.specs.Having.{HasMethod, IsBelow};
-    ghost use Rattle.cb_link.specs.Turned.{HasField};
+    ghost use Rattle.cb_link.specs.InnerPlaces.{HasField};
 
     /// What the program has of a method.
     pub(crate) fn linked(&self, method: usize) -> &LinkedMethod

@@ -2,8 +2,8 @@
 ghost use Rattle.std.specs.Prelude.{◌≡◌, length, option_and_then, IfOk};
 ghost use Rattle.cb_hierarchy.specs.Members.{method_of};
 ghost use Rattle.cb_link.specs.Calls.{initial_parents, initialiser};
-ghost use Rattle.cb_link.specs.Counting.{HasSelection};
-ghost use Rattle.cb_link.specs.Tabled.{AreAll, IsCallTables};
+ghost use Rattle.cb_link.specs.InnerCounts.{HasSelection};
+ghost use Rattle.cb_link.specs.InnerTables.{AreAll, IsCallTables};
 
 use crate::base::Base;
 use crate::numbering::number_of;

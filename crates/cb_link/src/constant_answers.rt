@@ -3,7 +3,7 @@ ghost use Rattle.std.specs.Prelude.{◌≡◌, ◌<◌, length, slice_get, IfSom
 ghost use Rattle.cb_link.specs.Making.{divide_text};
 ghost use Rattle.cb_link.specs.Named.{IsThere, catch_kind, handlers_at, kind_at, static_initial};
 ghost use Rattle.cb_link.specs.Slots.{statics};
-ghost use Rattle.cb_link.specs.Turned.{constant_of, kind_of};
+ghost use Rattle.cb_link.specs.InnerPlaces.{constant_of, kind_of};
 
 use crate::constant_table::told_at;
 use crate::place_tables::handlers_in;

@@ -1,9 +1,9 @@
 // What a constant is in a program.
 ghost use Rattle.std.specs.Prelude.{◌≡◌, IfOk, option_and_then, option_copied, option_map};
 ghost use Rattle.cb_kinds.specs.Texts.{number_of};
-ghost use Rattle.cb_link.specs.Inside.{names_of_member};
+ghost use Rattle.cb_link.specs.Inner.{names_of_member};
 ghost use Rattle.cb_link.specs.Named.{constant_named, field_named, member_named, or_nothing};
-ghost use Rattle.cb_link.specs.Tabled.{IsFieldTables};
+ghost use Rattle.cb_link.specs.InnerTables.{IsFieldTables};
 ghost use Rattle.cb_link.specs.declared.named.Named.TheVariants as variants;
 
 use crate::Named;

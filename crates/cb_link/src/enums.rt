@@ -5,26 +5,27 @@ ghost use Rattle.cb_classfile.specs.Pool.{text_at};
 ghost use Rattle.cb_hierarchy.specs.Orders.{upwards};
 ghost use Rattle.cb_kinds.specs.Kinds.{type_of_name};
 ghost use Rattle.cb_kinds.specs.Texts.{same_text};
-ghost use Rattle.cb_link.specs.Counting.{AreEnums};
-ghost use Rattle.cb_link.specs.Numbers.{acc_enum, acc_static, class_number, has_flag, hierarchy, name_of, or_none, ranked_fields};
+ghost use Rattle.cb_link.specs.InnerCounts.{AreEnums};
+ghost use Rattle.cb_classfile.specs.Flags.{acc_static};
+ghost use Rattle.cb_link.specs.Numbers.{acc_enum, class_number, has_flag, hierarchy, name_of, or_none, ranked_fields};
 ghost use Rattle.cb_link.specs.Slots.{enum_name, enum_statics, is_enum, is_enum_static, slot_of};
-ghost use Rattle.cb_link.specs.Tabled.{AreAll};
+ghost use Rattle.cb_link.specs.InnerTables.{AreAll};
 
 use crate::base::Base;
 use crate::descriptors::text_or_none;
 use crate::numbering::number_of;
 use crate::ranked::name_of;
 use crate::resolver::Resolver;
-use cb_classfile::{ClassFile, Field};
+use cb_classfile::{ClassFile, Field, FieldFlags};
 use cb_hierarchy::Hierarchy;
 use cb_kinds::array_of;
 use cb_plain::{Numbers, OutOfMemory};
 use std::alloc::Global;
 
 /// The access flags of an enum's constant (JVMS table 4.5-A).
-const STATIC: u16 = 0x0008;
+const STATIC: u16 = FieldFlags::STATIC.0;
 
-const ENUM: u16 = 0x4000;
+const ENUM: u16 = FieldFlags::ENUM.0;
 
 /// The name of the superclass of enums.
 const ENUM_NAME: &[u16] = &[

@@ -1,6 +1,6 @@
 // The records of fields.
 ghost use Rattle.std.specs.Prelude.{◌≡◌, ◌<◌, length, option_map, slice_get, Some};
-ghost use Rattle.cb_link.specs.Counting.{HasField};
+ghost use Rattle.cb_link.specs.InnerCounts.{HasField};
 ghost use Rattle.cb_link.specs.Having.{IsBelow};
 ghost use Rattle.cb_link.specs.Numbers.{fields_of};
 

@@ -2,7 +2,7 @@
 ghost use Rattle.std.specs.Prelude.{◌≡◌, ◌<◌, ◌^◌, length, IfOk};
 ghost use Rattle.cb_link.specs.Numbers.{ranked_fields};
 ghost use Rattle.cb_link.specs.Slots.{object_fields, slot_of, statics};
-ghost use Rattle.cb_link.specs.Tabled.{AreAll, IsFieldTables};
+ghost use Rattle.cb_link.specs.InnerTables.{AreAll, IsFieldTables};
 
 use crate::base::Base;
 use crate::enums::enums;

@@ -3,7 +3,7 @@ ghost use Rattle.std.specs.Prelude.{◌≡◌, ◌<◌, length, option_map, slic
 ghost use Rattle.cb_io.specs.Utf8.{utf8};
 ghost use Rattle.cb_kinds.specs.Basics.{component_of, kind_number};
 ghost use Rattle.cb_link.specs.Calls.{class_of_kind};
-ghost use Rattle.cb_link.specs.Formed.{assignable_by, by_letters, compared, instance_by, is_class};
+ghost use Rattle.cb_link.specs.InnerKinds.{assignable_by, by_letters, compared, instance_by, is_class};
 ghost use Rattle.cb_link.specs.Having.{IsBelow};
 ghost use Rattle.cb_link.specs.Numbers.{name_of, or_none};
 ghost use Rattle.cb_link.specs.Subtypes.{assignable, instance};

@@ -2,7 +2,7 @@
 ghost use Rattle.std.specs.Prelude.{◌≡◌, ◌≤◌, length};
 ghost use Rattle.cb_kinds.specs.Basics.{kind_number};
 ghost use Rattle.cb_kinds.specs.Kinds.{is_array, type_of_name};
-ghost use Rattle.cb_link.specs.Formed.{class_in, dimensions, inner_name, inner_of, letter_of, row_with};
+ghost use Rattle.cb_link.specs.InnerKinds.{class_in, dimensions, inner_name, inner_of, letter_of, row_with};
 ghost use Rattle.cb_link.specs.Subtypes.{is_above_arrays, is_object};
 
 use crate::resolver::Resolver;

@@ -2,9 +2,9 @@
 ghost use Rattle.std.specs.Prelude.{◌≡◌, map, IfOk};
 ghost use Rattle.cb_io.specs.Utf8.{utf8};
 ghost use Rattle.cb_kinds.specs.Basics.{kind_number};
-ghost use Rattle.cb_link.specs.Formed.{inner_name, row_with};
+ghost use Rattle.cb_link.specs.InnerKinds.{inner_name, row_with};
 ghost use Rattle.cb_link.specs.Numbers.{name_of};
-ghost use Rattle.cb_link.specs.Tabled.{IsKindTable};
+ghost use Rattle.cb_link.specs.InnerTables.{IsKindTable};
 
 use crate::base::Base;
 use crate::kind_row::{KindRow, parts_of, row_of};

@@ -1,14 +1,14 @@
 // What an instruction lacks of the member or class that it names.
 ghost use Rattle.std.specs.Prelude.{◌≡◌, ◌++◌, IfOk, option_copied, option_map};
 ghost use Rattle.cb_names.specs.Signs.{name_init};
-ghost use Rattle.cb_link.specs.Inside.{names_of_member};
-ghost use Rattle.cb_link.specs.Lacked.{finds_field, finds_method};
+ghost use Rattle.cb_link.specs.Inner.{names_of_member};
+ghost use Rattle.cb_link.specs.InnerLacked.{finds_field, finds_method};
 ghost use Rattle.cb_link.specs.Lacking.{is_instance_call, is_instance_field, is_of_library, is_static_call, is_static_field, lacks_class, lacks_member, names_abstract, suits, suits_field, suits_method};
 ghost use Rattle.cb_link.specs.Numbers.{same_name};
 
 use crate::resolver::Resolver;
 use crate::units::units_of;
-use cb_classfile::opcode;
+use cb_classfile::{ClassFlags, opcode};
 use cb_hierarchy::{Field, Method};
 use cb_plain::OutOfMemory;
 use cb_text::{Member, Units};
@@ -18,7 +18,7 @@ use std::alloc::Global;
 const LIBRARY_SIZE: u32 = 50;
 
 /// The flag of an abstract class (JVMS table 4.1-A).
-const ACC_ABSTRACT: u16 = 0x0400;
+const ACC_ABSTRACT: u16 = ClassFlags::ABSTRACT.0;
 
 /// The name of a constructor.
 const INIT: [u16; 6] = [

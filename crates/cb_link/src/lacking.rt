@@ -1,6 +1,6 @@
 // The members that instructions name and that can't be had.
 ghost use Rattle.std.specs.Prelude.{◌≡◌, ◌+◌, IfOk};
-ghost use Rattle.cb_link.specs.Lacked.{body_lacks, class_lacks, code_lacks};
+ghost use Rattle.cb_link.specs.InnerLacked.{body_lacks, class_lacks, code_lacks};
 ghost use Rattle.cb_link.specs.Lacking.{first_lacking, lacks};
 
 use crate::lacked::{lacks_class, lacks_member};

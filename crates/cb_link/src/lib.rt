@@ -14,6 +14,7 @@ mod class_order;
 mod constant_answers;
 mod constant_named;
 mod constant_table;
+mod decoded;
 mod descriptors;
 mod enums;
 mod field_answers;
@@ -51,6 +52,7 @@ mod slots;
 mod tables;
 mod units;
 
+pub use decoded::Decoded;
 pub use judging::program_of;
 pub use law::one_judgement;
 pub use linked::{Basics, LinkedField, LinkedFields, LinkedMethod, LinkedMethods, Site, Sites};

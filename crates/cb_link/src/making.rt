@@ -3,7 +3,7 @@ ghost use Rattle.std.specs.Prelude.{◌≡◌, IfOk, map, option_copied};
 ghost use Rattle.cb_hierarchy.specs.Classes.{listed};
 ghost use Rattle.cb_kinds.specs.Kinds.{array_of};
 ghost use Rattle.cb_link.specs.Making.{made_by, named_in};
-ghost use Rattle.cb_link.specs.Sited.{operand_arrays};
+ghost use Rattle.cb_link.specs.InnerSites.{operand_arrays};
 
 use crate::array_names::{base_array, first_kinds};
 use crate::units::units_of;

@@ -6,7 +6,7 @@ ghost use Rattle.cb_kinds.specs.Kinds.{kinds_of_name};
 ghost use Rattle.cb_kinds.specs.Texts.{entered_all};
 ghost use Rattle.cb_text.specs.declared.constant.Constant.{Constant as AnyConstant};
 ghost use Rattle.cb_text.specs.Naming.{class_at, member_at};
-ghost use Rattle.cb_link.specs.Kinded.{named_kinds};
+ghost use Rattle.cb_link.specs.InnerOperands.{named_kinds};
 ghost use Rattle.cb_link.specs.Making.{body_kinds, class_kinds, descriptor_kinds, member_kinds};
 
 use crate::making::made_by;

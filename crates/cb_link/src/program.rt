@@ -14,7 +14,7 @@ pub struct Program {
 
 impl Model for Program {
     ghost use Rattle.cb_link.specs.Program.{Linked};
-    ghost use Rattle.cb_link.specs.Tabled.{HasTables};
+    ghost use Rattle.cb_link.specs.InnerTables.{HasTables};
 
     ghost Value = { Linked };
 
@@ -26,7 +26,7 @@ impl Model for Program {
 impl Program {
     ghost use Rattle.std.specs.Prelude.{◌≡◌, ◌<◌, length, slice_get, Some};
     ghost use Rattle.cb_link.specs.Having.{site_kinds};
-    ghost use Rattle.cb_link.specs.Tabled.{HasTables};
+    ghost use Rattle.cb_link.specs.InnerTables.{HasTables};
 
     /// The program with the tables that were made of what linking numbered.
     #[tactic(none)]

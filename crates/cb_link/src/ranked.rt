@@ -6,10 +6,10 @@ ghost use Rattle.cb_hierarchy.specs.Classes.{listed};
 ghost use Rattle.cb_kinds.specs.Basics.{kind_number};
 ghost use Rattle.cb_kinds.specs.Texts.{own_number};
 ghost use Rattle.cb_link.specs.Numbers.{has_flag, name_of, or_none, package_of, texts_in, visibility_of};
-ghost use Rattle.cb_link.specs.Ranking.{fields_of_class, methods_of_class, number_at, package_name, rank, rank_field, rank_method, texts_of_fields, texts_of_methods};
+ghost use Rattle.cb_link.specs.InnerRanks.{fields_of_class, methods_of_class, number_at, package_name, rank, rank_field, rank_method, texts_of_fields, texts_of_methods};
 
 use crate::numbering::number_of;
-use cb_classfile::{ClassFile, Field, Method};
+use cb_classfile::{ClassFile, ClassFlags, Field, Method, MethodFlags};
 use cb_hierarchy::{
     Class, Classes, Declared, Field as RankedField, Fields as RankedFields, Method as RankedMethod,
     Methods as RankedMethods, Visibility,
@@ -23,19 +23,19 @@ use std::alloc::Global;
 const SLASH: u16 = b'/' as u16;
 
 // The access flags (JVMS tables 4.1-A, 4.5-A and 4.6-A).
-const PUBLIC: u16 = 0x0001;
+const PUBLIC: u16 = MethodFlags::PUBLIC.0;
 
-const PRIVATE: u16 = 0x0002;
+const PRIVATE: u16 = MethodFlags::PRIVATE.0;
 
-const PROTECTED: u16 = 0x0004;
+const PROTECTED: u16 = MethodFlags::PROTECTED.0;
 
-const STATIC: u16 = 0x0008;
+const STATIC: u16 = MethodFlags::STATIC.0;
 
-const FINAL: u16 = 0x0010;
+const FINAL: u16 = MethodFlags::FINAL.0;
 
-const INTERFACE: u16 = 0x0200;
+const INTERFACE: u16 = ClassFlags::INTERFACE.0;
 
-const ABSTRACT: u16 = 0x0400;
+const ABSTRACT: u16 = MethodFlags::ABSTRACT.0;
 
 /// Whether flags have one.
 fn has(flags: u16, flag: u16) -> bool

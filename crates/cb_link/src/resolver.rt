@@ -4,8 +4,8 @@ ghost use Rattle.cb_hierarchy.specs.Bad.{AreGood};
 ghost use Rattle.cb_hierarchy.specs.Members.{method_of};
 ghost use Rattle.cb_hierarchy.specs.Orders.{upwards};
 ghost use Rattle.cb_hierarchy.specs.Resolution.{first_some};
-ghost use Rattle.cb_link.specs.Inside.{names_of_member};
-ghost use Rattle.cb_link.specs.Judging.{HindersProgram};
+ghost use Rattle.cb_link.specs.Inner.{names_of_member};
+ghost use Rattle.cb_link.specs.Judging.{HindersProgram, class_limit};
 ghost use Rattle.cb_link.specs.Numbers.{class_number, field_texts, hierarchy, method_texts, name_of, ranked_fields, ranked_methods};
 ghost use Rattle.cb_link.specs.Resolving.{found_field, found_method, holder, main_method, static_one};
 
@@ -87,7 +87,7 @@ pub(crate) struct Members {
 impl Model for Resolver {
     ghost use Rattle.std.specs.Prelude.{List, map};
     ghost use Rattle.cb_classfile.specs.declared.class.ClassFile.{ClassFile as AnyClass};
-    ghost use Rattle.cb_link.specs.Inside.{Resolves};
+    ghost use Rattle.cb_link.specs.Inner.{Resolves};
 
     ghost Value = { List AnyClass };
 
@@ -101,7 +101,7 @@ impl Resolver {
     /// What finds the members of classes, of which there are at most 1,024. Refused where a class is bad, or where no memory
     /// was to be had.
     pub(crate) fn of(alloc: Global, classes: Classes) -> Result<Self, Refusal>
-        requires { length classes ≤ 1024 }
+        requires { length classes ≤ class_limit }
         ensures made { IfOk result (λ resolver. (resolver ≡ classes) × AreGood (hierarchy classes) (ranked_methods classes)) }
         ensures refused { (main : List ℕ) → IfErr result (HindersProgram classes main) }
     {
@@ -259,7 +259,7 @@ fn judged(
     names: &TextNumbers,
     methods: &MethodTable,
 ) -> Result<Hierarchy, Refusal>
-    requires few { length classes.now ≤ 1024 }
+    requires few { length classes.now ≤ class_limit }
     requires names { names.now ≡ map name_of classes.now }
     requires methods { methods.now ≡ ranked_methods classes.now }
     ensures made { IfOk result (λ made. (made ≡ hierarchy classes.now) × AreGood (hierarchy classes.now) (ranked_methods classes.now)) }
@@ -276,7 +276,7 @@ fn hierarchy_of(
     ranked: RankedClasses,
     methods: &MethodTable,
 ) -> Result<Hierarchy, Refusal>
-    requires few { length classes.now ≤ 1024 }
+    requires few { length classes.now ≤ class_limit }
     requires ranked { ranked ≡ hierarchy classes.now }
     requires methods { methods.now ≡ ranked_methods classes.now }
     ensures made { IfOk result (λ made. (made ≡ hierarchy classes.now) × AreGood (hierarchy classes.now) (ranked_methods classes.now)) }

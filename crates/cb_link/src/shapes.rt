@@ -3,7 +3,7 @@ ghost use Rattle.std.specs.Prelude.{◌≡◌, length, map, IfOk};
 ghost use Rattle.cb_kinds.specs.Basics.{component_of};
 ghost use Rattle.cb_link.specs.Numbers.{class_number};
 ghost use Rattle.cb_link.specs.Slots.{basic_of_field, field_marks, is_some_reference, object_fields, shape, shape_with};
-ghost use Rattle.cb_link.specs.Tabled.{AreAll};
+ghost use Rattle.cb_link.specs.InnerTables.{AreAll};
 
 use crate::base::Base;
 use cb_kinds::component_of;

@@ -1,9 +1,9 @@
 // Sites, of which there are few.
 ghost use Rattle.std.specs.Prelude.{◌≡◌, ◌+◌, ◌≤◌, [], ◌∷◌, ◌++◌, length, IfErr, OnOk};
-ghost use Rattle.cb_link.specs.Inside.{IsTooMany};
+ghost use Rattle.cb_link.specs.Inner.{IsTooMany};
 ghost use Rattle.cb_link.specs.Judging.{site_limit};
 ghost use Rattle.cb_link.specs.Making.{fixed_kinds};
-ghost use Rattle.cb_link.specs.Sited.{Exceeds};
+ghost use Rattle.cb_link.specs.InnerSites.{Exceeds};
 
 use crate::fixed::FIXED_KINDS;
 use crate::{Quantity, Refusal, Site, Sites};

@@ -1,11 +1,11 @@
 // Where instructions make objects.
 ghost use Rattle.std.specs.Prelude.{◌≡◌, ◌<◌, ◌≤◌, ◌+◌, ◌++◌, length, map, IfErr, IfOk, OnOk};
 ghost use Rattle.std.specs.List.{flat_map};
-ghost use Rattle.cb_link.specs.Inside.{IsTooMany};
+ghost use Rattle.cb_link.specs.Inner.{IsTooMany};
 ghost use Rattle.cb_link.specs.Judging.{site_count, site_limit};
 ghost use Rattle.cb_link.specs.Making.{makings};
 ghost use Rattle.cb_link.specs.Program.{linked_site};
-ghost use Rattle.cb_link.specs.Sited.{Exceeds, body_makings, class_makings, insn_makings, made_at};
+ghost use Rattle.cb_link.specs.InnerSites.{Exceeds, body_makings, class_makings, insn_makings, made_at};
 
 use crate::making::made_by;
 use crate::numbering::number_of;

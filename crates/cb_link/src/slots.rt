@@ -4,8 +4,8 @@ ghost use Rattle.std.specs.List.{Contains};
 ghost use Rattle.cb_hierarchy.specs.Classes.{superclass};
 ghost use Rattle.cb_hierarchy.specs.Layout.{layout};
 ghost use Rattle.cb_hierarchy.specs.declared.member.Field.{Field as Ranked};
-ghost use Rattle.cb_link.specs.Counting.{count_above, slot_by, statics_in};
-ghost use Rattle.cb_link.specs.Tabled.{AreAll};
+ghost use Rattle.cb_link.specs.InnerCounts.{count_above, slot_by, statics_in};
+ghost use Rattle.cb_link.specs.InnerTables.{AreAll};
 
 use crate::numbering::number_of;
 use cb_hierarchy::{Class, Field, FieldTable, Hierarchy};

@@ -11,7 +11,7 @@ use Rattle.cb_load.specs.declared.entries.Key.{Key}
 use Rattle.cb_load.specs.Names.{Entry}
 use Rattle.cb_load.specs.Closure.{covers}
 use Rattle.cb_load.specs.Inner.{entered}
-use Rattle.cb_load.specs.Entering.{is_same, key_entry}
+use Rattle.cb_load.specs.InnerEntering.{is_same, key_entry}
 
 -- an entry is found by its key
 pub found : (entry : Entry) (keys : List Key) → list_any (λ key. same_name entry.name key.name.items && beq entry.needed key.needed) keys ≡ list_any (is_same entry) (map key_entry keys)

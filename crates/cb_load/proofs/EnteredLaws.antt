@@ -109,8 +109,5 @@ entered_kept entries (entry ∷ more) = go (hidden entries entry) refl (entered_
 pub firsts_all : (entries : List Entry) → firsts entries ≡ entered_all [] entries
 firsts_all entries = sym (entered_kept [] entries ∙ all (firsts entries))
 
-pub firsts_entered : (first : Entry) (more : List Entry) → firsts (first ∷ more) ≡ entered_all (first ∷ []) more
-firsts_entered first more = firsts_all (first ∷ more)
-
 pub entries_grow : (one other : List Entry) → firsts (one ++ other) ≡ entered_all (firsts one) other
 entries_grow one other = firsts_all (one ++ other) ∙ entered_append [] one other ∙ ap (λ entries. entered_all entries other) (sym (firsts_all one))

@@ -4,6 +4,7 @@ pub mod LinkLaws
 pub mod LoadBytes
 pub mod LoadFaults
 pub mod LoadFiles
+pub mod LoadFormed
 pub mod LoadNames
 pub mod LoadOnce
 pub mod LoadSame

@@ -9,7 +9,7 @@ use Rattle.cb_classfile.specs.Class.{HasVersion, IsAccepted, SpellsClass}
 use Rattle.cb_classfile.specs.Pool.{class_at}
 use Rattle.cb_classfile.proofs.Laws.{one_class_spelled}
 use Rattle.cb_link.specs.declared.refusal.Refusal.TheVariants.{Malformed, BadVersion}
-use Rattle.cb_load.specs.Turning.{IsNoClassOf}
+use Rattle.cb_load.specs.InnerTurns.{IsNoClassOf}
 
 -- a version that isn't refused is accepted
 accepted : (bytes : List ℕ) → ((major : ℕ) → HasVersion bytes major → (IsAccepted major → ⊥) → ⊥) → HasNoOtherVersion bytes

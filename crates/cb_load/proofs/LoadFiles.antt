@@ -19,7 +19,7 @@ use Rattle.cb_load.specs.Names.{Entry}
 use Rattle.cb_load.specs.Closure.{Turn}
 use Rattle.cb_load.specs.Files.{MayStandAt, path_of}
 use Rattle.cb_load.specs.Loading.{HasRoom, IsClassOf, IsRefused, IsMissing, IsLong, AreMany, IsOfVersion, IsNoClass, IsLeftOut, IsRead, Loads, StaysOpaque, file_limit, is_loaded}
-use Rattle.cb_load.specs.Turning.{AreAbsent, IsFound, IsNoClassOf, StopsAt}
+use Rattle.cb_load.specs.InnerTurns.{AreAbsent, IsFound, IsNoClassOf, StopsAt}
 
 -- a list can be that long
 longer : (limit : ℕ) → (bytes : List ℕ) × (limit < length bytes)
@@ -59,9 +59,6 @@ absent files root name (file, may, finds) = subst (MayStandAt files (path_of roo
 present : (files : Option Files) (root name : List ℕ) (bytes : Vec ℕ Global) → IsFound files root name (Bytes bytes) → MayStandAt files (path_of root name) (Some bytes.items)
 present files root name bytes (file, may, finds) = subst (MayStandAt files (path_of root name)) finds.0 may
 
-pub absent_found : (files : Option Files) (root name : List ℕ) (found : Found) → IsFound files root name found → found ≡ Absent → MayStandAt files (path_of root name) None
-absent_found files root name found finds is = absent files root name (subst (IsFound files root name) is finds)
-
 -- an entry without a file isn't loaded, and is refused where it is needed
 pub opaque_entry : (files : Option Files) (root : List ℕ) (before : List (Turn ClassFile)) (entry : Entry) (found : Found) → IsFound files root entry.name found → found ≡ Absent → entry.needed ≡ false → is_loaded before entry.name ≡ false → Loads files root before entry None
 opaque_entry files root before entry found finds is unneeded fresh = StaysOpaque fresh (absent files root entry.name (subst (IsFound files root entry.name) is finds)) unneeded
@@ -84,10 +81,6 @@ pub crowded_entry : (files : Option Files) (root : List ℕ) (before : List (Tur
 crowded_entry files root before entry found bytes refusal finds is fresh full same =
     let there = subst (IsFound files root entry.name) is finds in
     subst (StopsAt files root before entry) (sym same) (AreMany bytes.items fresh (present files root entry.name bytes there) there.2.1 full)
-
--- the file of a class is short
-pub short_file : (files : Option Files) (root name : List ℕ) (found : Found) (bytes : Vec ℕ Global) → IsFound files root name found → found ≡ Bytes bytes → length bytes.items ≤ file_limit
-short_file files root name found bytes finds is = (subst (IsFound files root name) is finds).2.1
 
 -- the class of a file is loaded
 pub read_entry : (files : Option Files) (root : List ℕ) (before : List (Turn ClassFile)) (entry : Entry) (found : Found) (bytes : Vec ℕ Global) (class : ClassFile) → IsFound files root entry.name found → found ≡ Bytes bytes → is_loaded before entry.name ≡ false → HasRoom before → IsClassOf entry.name bytes.items class → Loads files root before entry (Some class)

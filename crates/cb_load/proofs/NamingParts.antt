@@ -14,9 +14,9 @@ use Rattle.cb_classfile.specs.declared.handler.Handler.{Handler}
 use Rattle.cb_classfile.specs.declared.map_type.MapType.{MapType}
 use Rattle.cb_classfile.specs.declared.method.Method.{Method}
 use Rattle.cb_load.specs.Names.{Entry, all_of, body_names, class_names, class_names_at, constant_names, frame_names, handler_names, insn_names, mentioned, method_names, names_at, names_in, names_of, needed, type_names}
-use Rattle.cb_load.specs.Entering.{marked}
+use Rattle.cb_load.specs.InnerEntering.{marked}
 use Rattle.cb_load.specs.Inner.{entered_all}
-use Rattle.cb_load.specs.Using.{AreTextsOf}
+use Rattle.cb_load.specs.InnerUses.{AreTextsOf}
 use Rattle.cb_load.proofs.EnteredLaws.{entered_append}
 
 -- two parts that are entered in turn

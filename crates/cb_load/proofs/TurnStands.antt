@@ -19,7 +19,7 @@ use Rattle.cb_load.specs.Closure.{Turn, added, entries_of, firsts}
 use Rattle.cb_load.specs.Files.{is_core}
 use Rattle.cb_load.specs.Inner.{entered_all}
 use Rattle.cb_load.specs.Loading.{AreLoaded, HasRoom, IsRefused, Loads, Stops, StopsFor, loaded, loaded_name, loaded_names}
-use Rattle.cb_load.specs.Turning.{AreTaken, StopsAt}
+use Rattle.cb_load.specs.InnerTurns.{AreTaken, StopsAt}
 use Rattle.cb_load.proofs.EnteredLaws.{entries_grow}
 use Rattle.cb_load.proofs.LoadNames.{names_of_rows}
 use Rattle.cb_load.proofs.TurnLists.{each_more, entered_behind, silent, spoken, take_next}

@@ -11,7 +11,7 @@ use Rattle.cb_load.specs.Names.{Entry, names_of}
 use Rattle.cb_load.specs.Closure.{Turn}
 use Rattle.cb_load.specs.Inner.{entered_all}
 use Rattle.cb_load.specs.Loading.{HasRoom, IsRead, IsThere, Loads, StaysOpaque, Stops, is_loaded}
-use Rattle.cb_load.specs.Turning.{IsNext, Stands, StopsAt}
+use Rattle.cb_load.specs.InnerTurns.{IsNext, Stands, StopsAt}
 use Rattle.cb_load.proofs.TurnStands.{all_taken, idle_turn, loading_turn, room_of, stops_at}
 
 -- the entry at a place, by its parts

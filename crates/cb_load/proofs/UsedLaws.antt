@@ -12,7 +12,7 @@ use Rattle.cb_load.specs.declared.uses.Use.{Use}
 use Rattle.cb_load.specs.Names.{Entry}
 use Rattle.cb_load.specs.Closure.{covers}
 use Rattle.cb_load.specs.Inner.{entered, entered_all}
-use Rattle.cb_load.specs.Using.{AreCovered, AreEntered, Enters, is_use, use_names}
+use Rattle.cb_load.specs.InnerUses.{AreCovered, AreEntered, Enters, is_use, use_names}
 use Rattle.cb_load.proofs.EnteredLaws.{hidden}
 
 either : (a b : Bool) → a ≡ true → (a || b) ≡ true

@@ -4,7 +4,7 @@ ghost use Rattle.cb_classfile.specs.Answers.{IsAcceptedClass};
 ghost use Rattle.cb_classfile.specs.Pool.{class_at};
 ghost use Rattle.cb_classfile.specs.Profile.{unsupported};
 ghost use Rattle.cb_load.specs.Loading.{IsClassOf, file_limit};
-ghost use Rattle.cb_load.specs.Turning.{IsNoClassOf};
+ghost use Rattle.cb_load.specs.InnerTurns.{IsNoClassOf};
 
 use cb_classfile::{
     ClassFile, Constants, Feature, ReadFault, facts_of, read_any_class, unsupported_in,

@@ -2,7 +2,7 @@
 ghost use Rattle.std.specs.Prelude.{◌≡◌, ◌<◌, [], false, length, option_map, slice_get, IfOk, OnOk, Some};
 ghost use Rattle.std.specs.List.{list_any};
 ghost use Rattle.cb_load.specs.Closure.{covers};
-ghost use Rattle.cb_load.specs.Entering.{is_same, key_entry};
+ghost use Rattle.cb_load.specs.InnerEntering.{is_same, key_entry};
 ghost use Rattle.cb_load.specs.Inner.{entered};
 
 use cb_plain::OutOfMemory;
@@ -28,7 +28,7 @@ pub(crate) struct Entries {
 impl Model for Entries {
     ghost use Rattle.std.specs.Prelude.{List, map};
     ghost use Rattle.cb_load.specs.Names.{Entry};
-    ghost use Rattle.cb_load.specs.Entering.{key_entry};
+    ghost use Rattle.cb_load.specs.InnerEntering.{key_entry};
 
     ghost Value = { List Entry };
 

@@ -2,7 +2,7 @@
 ghost use Rattle.std.specs.Prelude.{◌≡◌, IfErr, IfOk, IsErrOf};
 ghost use Rattle.cb_io.specs.Faults.{CountsFaults};
 ghost use Rattle.cb_link.specs.declared.refusal.Refusal.TheVariants as refusals;
-ghost use Rattle.cb_load.specs.Turning.{AreAbsent, IsFound, IsOutside};
+ghost use Rattle.cb_load.specs.InnerTurns.{AreAbsent, IsFound, IsOutside};
 
 use crate::class_names::ClassNames;
 use crate::path::path_of;

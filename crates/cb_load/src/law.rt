@@ -1,8 +1,10 @@
-// The closure of a small folder, the names in some texts, that a folder has one loading, and that each class has a name of its
-// own.
+// The closure of a small folder, the names in some texts, that a folder has one loading, that its classes are well formed, and that
+// each class has a name of its own.
 ghost use Rattle.std.specs.Prelude.{◌≡◌, ℕ, List, [], ◌∷◌, ◌++◌, map, Option, Some, codes};
+ghost use Rattle.std.specs.List.{AllByRecursion};
 ghost use Rattle.cb_io.specs.Folder.{Files};
 ghost use Rattle.cb_classfile.specs.declared.class.ClassFile.{ClassFile};
+ghost use Rattle.cb_classfile.specs.Class.{IsWellFormed};
 ghost use Rattle.cb_classfile.specs.Library.{AreLibrary};
 ghost use Rattle.cb_kinds.specs.Texts.{EachOnce};
 ghost use Rattle.cb_link.specs.declared.refusal.Refusal.{Refusal};
@@ -37,4 +39,10 @@ pub fn one_loading()
 pub fn class_names_once()
     ensures { (files : Option Files) (root main : List ℕ) (library classes : List ClassFile) → AreLibrary library
         → AreLoaded files root main classes → EachOnce (map name_of (library ++ classes)) }
+{}
+
+/// Each class that is loaded is well formed (JVMS §4.8).
+pub fn loaded_well_formed()
+    ensures { (files : Option Files) (root main : List ℕ) (classes : List ClassFile) → AreLoaded files root main classes
+        → AllByRecursion IsWellFormed classes }
 {}

@@ -12,7 +12,7 @@ ghost use Rattle.cb_load.specs.Files.{MayStandAt, path_of};
 ghost use Rattle.cb_load.specs.Inner.{entered_all};
 ghost use Rattle.cb_load.specs.Loading.{HasRoom, Loads, Stops, is_loaded};
 ghost use Rattle.cb_load.specs.Names.{names_of};
-ghost use Rattle.cb_load.specs.Turning.{AreAbsent, IsNext, Stands, StopsAt};
+ghost use Rattle.cb_load.specs.InnerTurns.{AreAbsent, IsNext, Stands, StopsAt};
 
 use crate::class_names::ClassNames;
 use crate::class_of::class_of;

@@ -3,9 +3,9 @@ ghost use Rattle.std.specs.Prelude.{◌≡◌, OnOk, Some, List as Items};
 ghost use Rattle.std.specs.List.{flat_map};
 ghost use Rattle.cb_text.specs.declared.constant.Constant.{Constant as AnyConstant};
 ghost use Rattle.cb_text.specs.Naming.{text_at};
-ghost use Rattle.cb_load.specs.Entering.{marked};
+ghost use Rattle.cb_load.specs.InnerEntering.{marked};
 ghost use Rattle.cb_load.specs.Inner.{entered_all};
-ghost use Rattle.cb_load.specs.Using.{AreEntered, Enters};
+ghost use Rattle.cb_load.specs.InnerUses.{AreEntered, Enters};
 ghost use Rattle.cb_load.specs.Names.{Entry, all_of, body_names, class_names, class_names_at, constant_names, mentioned, names_at, names_of};
 
 use crate::entries::Entries;

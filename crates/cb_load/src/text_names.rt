@@ -1,7 +1,7 @@
 // The names of classes in descriptors (JVMS §4.3).
 ghost use Rattle.std.specs.Prelude.{◌≡◌, ◌<◌, ◌==◌, [], ◌∷◌, ◌++◌, false, length, IfSome, MatchOption, OnOk, not};
 ghost use Rattle.std.specs.List.{list_any, prefix_len};
-ghost use Rattle.cb_load.specs.Entering.{marked};
+ghost use Rattle.cb_load.specs.InnerEntering.{marked};
 ghost use Rattle.cb_load.specs.Inner.{entered_all};
 ghost use Rattle.cb_load.specs.Names.{class_names, names_in};
 

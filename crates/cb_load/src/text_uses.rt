@@ -3,7 +3,7 @@ ghost use Rattle.std.specs.Prelude.{◌≡◌, MatchOption, None, OnOk, option_a
 ghost use Rattle.cb_text.specs.Naming.{member_at, member_of, name_and_type_of, name_of_class};
 ghost use Rattle.cb_text.specs.Pool.{constant_at};
 ghost use Rattle.cb_load.specs.Inner.{entered_all};
-ghost use Rattle.cb_load.specs.Using.{AreEntered, AreTextsOf, Enters, use_names};
+ghost use Rattle.cb_load.specs.InnerUses.{AreEntered, AreTextsOf, Enters, use_names};
 
 use crate::entries::Entries;
 use crate::text_names::{enter_class_name, enter_descriptor};

@@ -1,7 +1,7 @@
 // The uses of a class's texts.
 ghost use Rattle.std.specs.Prelude.{◌≡◌, ◌∷◌, ◌++◌, [], false, OnOk};
 ghost use Rattle.std.specs.List.{list_any};
-ghost use Rattle.cb_load.specs.Using.{is_use};
+ghost use Rattle.cb_load.specs.InnerUses.{is_use};
 
 use cb_plain::OutOfMemory;
 use indexmap::IndexSet;

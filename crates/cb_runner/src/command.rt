@@ -18,11 +18,11 @@ use std::alloc::Global;
 
 /// Does what the words of the command line say, which are those after the program's name.
 ///
-/// `run FOLDER MAIN` links the class MAIN: it reads `FOLDER/MAIN.class` and the files of the classes that are needed. If
-/// the file of MAIN is of the first form, it is run: the values of its expressions go to `out`, a line each. `list PATH`
-/// prints the listing of a class file. `asm` reads an assembly text from `input` and writes the class file to `out`; no
-/// other command reads anything from it. How the call ended goes to `err` as its last line, but where the command came to
-/// its end.
+/// `run FOLDER MAIN` links the class MAIN: it reads `FOLDER/MAIN.class` and the files of the classes that are needed. Then it
+/// verifies their methods (JVMS §4.10.1). If the file of MAIN is of the first form, it is run: the values of its expressions
+/// go to `out`, a line each. `list PATH` prints the listing of a class file. `asm` reads an assembly text from `input` and
+/// writes the class file to `out`; no other command reads anything from it. How the call ended goes to `err` as its last line,
+/// but where the command came to its end. `Ended::status` is that of its cause: 0, 119 to 121, or 124 to 127.
 pub fn run_command<F: Folder, S: Source, O: Sink, E: Sink>(
     alloc: Global,
     words: &[String],

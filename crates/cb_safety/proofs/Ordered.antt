@@ -24,7 +24,8 @@ use Rattle.cb_library.specs.Lang.{cloneable_interface, object_class, serializabl
 use Rattle.cb_library.specs.Names as names
 use Rattle.cb_library.specs.Rows.{CoreClass}
 use Rattle.cb_link.specs.Having.{IsWhole}
-use Rattle.cb_link.specs.Numbers.{acc_interface, class_number, class_number_at, has_flag, hierarchy, name_of, or_none, ranked, ranked_methods}
+use Rattle.cb_classfile.specs.Flags.{acc_interface}
+use Rattle.cb_link.specs.Numbers.{class_number, class_number_at, has_flag, hierarchy, name_of, or_none, ranked, ranked_methods}
 use Rattle.cb_link.specs.Program.{Linked}
 use Rattle.cb_link.specs.Subtypes.{between, interface_at, is_below, is_object, names_interface}
 use Rattle.cb_safety.specs.Order.{ExtendsObject, HasOrder}

@@ -2,7 +2,8 @@
 use Rattle.std.specs.Prelude.{◌≡◌, ℕ, true, false, List, Some, codes}
 use Rattle.cb_classfile.specs.declared.class.ClassFile.{ClassFile}
 use Rattle.cb_classfile.specs.Pool.{class_at}
-use Rattle.cb_link.specs.Numbers.{acc_interface, has_flag}
+use Rattle.cb_classfile.specs.Flags.{acc_interface}
+use Rattle.cb_link.specs.Numbers.{has_flag}
 use Rattle.cb_link.specs.Subtypes.{is_below, is_object, names_interface}
 
 -- the superclass of an interface is Object (JVMS §4.1)

@@ -54,6 +54,6 @@ pub fn kinds_hold_on()
 
 /// Throwing an exception of the machine keeps a state typed, where objects of its kind are such exceptions (JVMS §2.10).
 pub fn throwing_keeps_types()
-    ensures { (machine : Machine) (state : State) (site : ℕ) → IsTypedState machine.program state → state.roots.pending ≡ 0
+    ensures { (machine : Machine) (state : State) (site : ℕ) → IsTypedState machine.program state
         → IsThrown machine.program (kind_of_site machine.program site) → IsTypedState machine.program (made (throws machine state site)) }
 {}

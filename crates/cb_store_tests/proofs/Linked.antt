@@ -65,9 +65,6 @@ linked_closed objects one other index before after held place blank also closed 
       objects = put.objects;
     }
 
-pub blank_array : (shapes : List Shape) → slice_get shapes 1 ≡ Some (Elements true) → (new_object shapes 0 1 1).contents ≡ Reference 0 ∷ []
-blank_array shapes is = rw is refl
-
 -- where both were placed
 pub word_there : (objects : List (Option Object)) (one other : Object) → one.contents ≡ Reference 0 ∷ [] → content_at (and (and objects one) other) (length objects + 1) 0 ≡ Some (Reference 0)
 word_there objects one other blank = laws.content_of_object (and (and objects one) other) (length objects + 1) 0 one (first_there objects one other) ∙ ap (λ held. slice_get held 0) blank

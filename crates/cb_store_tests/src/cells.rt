@@ -1,5 +1,5 @@
 // A store of four cells, of which those are emptied that nothing reaches.
-ghost use Rattle.std.specs.Prelude.{◌≡◌, ◌+◌, ◌<◌, ◌≤◌, ◌^◌, ◌++◌, ◌∷◌, ℕ, Bool, true, [], length, pos, pred, is_some, IfSome, IsTrue, Some};
+ghost use Rattle.std.specs.Prelude.{◌≡◌, ◌+◌, ◌<◌, ◌≤◌, ◌^◌, ◌++◌, ◌∷◌, ℕ, Bool, true, false, [], length, pos, pred, is_some, IfSome, IsTrue, Some};
 ghost use Rattle.std.specs.Int.{int_wrap, w64};
 ghost use Rattle.std.specs.List.{list_all};
 ghost use Rattle.cb_plain.specs.State.{Number, Reference};
@@ -152,6 +152,7 @@ impl CellStore {
     fn only(&self, marked: &[bool; 4]) -> CellStore
         ensures objects { result.objects ≡ keep (residents result.objects) self.now.objects }
         ensures count { length result.objects ≡ length self.now.objects }
+        ensures granted { result.granted ≡ self.now.granted }
     {
         let cells = &self.cells;
         CellStore {
@@ -169,7 +170,8 @@ impl CellStore {
     /// Empties the cells that nothing reaches.
     fn collect(&mut self, roots: &Roots)
         requires { IsClosed (seen pred self.old.objects roots.now.roots) }
-        ensures { Collects (seen pred self.old.objects roots.now.roots) (seen pred self.new.objects roots.now.roots) }
+        ensures collected { Collects (seen pred self.old.objects roots.now.roots) (seen pred self.new.objects roots.now.roots) }
+        ensures granted { self.new.granted ≡ self.old.granted }
     {
         let marked = self.mark(roots);
         let left = self.only(&marked);
@@ -182,6 +184,7 @@ impl CellStore {
     fn grant(&mut self, request: &Request) -> bool
         ensures objects { self.new.objects ≡ self.old.objects }
         ensures granted { IsTrue result → self.new.granted ≡ request.now }
+        ensures refused { result ≡ false → self.new.granted ≡ self.old.granted }
         ensures bounded { IsTrue result → IsBounded true (length self.new.objects) request.now }
     {
         if request.len() != 1 {

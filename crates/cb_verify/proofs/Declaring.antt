@@ -6,7 +6,7 @@ use Rattle.cb_classfile.specs.FrameMap.{form_of_frame}
 use Rattle.cb_verify.specs.declared.verification_type.VerificationType.{VerificationType}
 use Rattle.cb_verify.specs.Expansion.{declared, declared_behind, expanded, fitting, place_behind, start_types, values_in}
 use Rattle.cb_verify.specs.Frames.{Frame, laid}
-use Rattle.cb_verify.specs.Laid.{IsLaid, Laid, laid_behind, laid_in}
+use Rattle.cb_verify.specs.InnerLaid.{IsLaid, Laid, laid_behind, laid_in}
 use Rattle.cb_verify.specs.Within.{Within}
 use Rattle.cb_verify.proofs.LaidSteps.{Holds, holds}
 
@@ -40,12 +40,6 @@ laid_lies most values = go (laid_in most values) refl
 laid_lies_behind : (most : ℕ) (values : Option (List VerificationType)) → IfSome (option_and_then (laid_in most) values) (IsLaid most)
 laid_lies_behind most None = tt
 laid_lies_behind most (Some values) = laid_lies most values
-
-pub declared_first : (method : Within) (all : Option Laid) → all ≡ laid_in method.body.max_locals (start_types method) → IsDeclared method None all method.body.frames []
-declared_first method all is = record {
-  said = ap (λ values. declared_behind method None values method.body.frames) (ap values_of is ∙ values_laid method (start_types method));
-  lies = subst (λ (some : Option Laid). IfSome some (IsLaid method.body.max_locals)) (sym is) (laid_lies method.body.max_locals (start_types method));
-}
 
 pub lies_behind : (method : Within) (frame : MapFrame) (all next : Option Laid) → next ≡ laid_behind method frame all → IfSome next (IsLaid method.body.max_locals)
 lies_behind method frame all next is =

@@ -7,7 +7,7 @@ use Rattle.std.proofs.lemmas.Option.{get_or_from_slice_get, slice_get-get_or, sl
 use Rattle.cb_shapes.specs.declared.sort.Category.{Category}
 use Rattle.cb_shapes.specs.declared.sort.Category.TheVariants.{One}
 use Rattle.cb_verify.specs.declared.verification_type.VerificationType.{VerificationType}
-use Rattle.cb_verify.specs.Copies.{begins_with, is_category, two_of}
+use Rattle.cb_verify.specs.InnerCopies.{begins_with, is_category, two_of}
 use Rattle.cb_verify.specs.Frames.{Frame, height, with_stack}
 use Rattle.cb_verify.specs.Types.{category, words}
 use Rattle.cb_verify.proofs.Dropped.{drop_next}

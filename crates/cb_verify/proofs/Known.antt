@@ -6,7 +6,7 @@ use Rattle.std.proofs.lemmas.List.{drop-append-le, drop-drop, drop-replicate, dr
 use Rattle.cb_verify.specs.declared.verification_type.VerificationType.{VerificationType}
 use Rattle.cb_verify.specs.declared.verification_type.VerificationType.TheVariants.{Top, Int, Long, Null, This, Object, New}
 use Rattle.cb_verify.specs.Frames.{height, in_words, is_same, laid, replaced}
-use Rattle.cb_verify.specs.Locals.{IsKnownTo}
+use Rattle.cb_verify.specs.InnerLocals.{IsKnownTo}
 use Rattle.cb_verify.proofs.LaidValues.{length-flat, lies_where, lies_within}
 
 -- something is known of one more

@@ -7,7 +7,7 @@ use Rattle.cb_verify.specs.declared.verification_type.VerificationType.{Verifica
 use Rattle.cb_verify.specs.declared.verification_type.VerificationType.TheVariants.{Top, Long}
 use Rattle.cb_verify.specs.Expansion.{without_last}
 use Rattle.cb_verify.specs.Frames.{height, laid}
-use Rattle.cb_verify.specs.Laid.{Laid, laid_in}
+use Rattle.cb_verify.specs.InnerLaid.{Laid, laid_in}
 use Rattle.cb_verify.specs.Types.{words}
 use Rattle.cb_verify.proofs.LaidValues.{laid_less, laid_more, laid_never, length-laid, lies_not}
 
@@ -61,9 +61,6 @@ holds most values all is = go (laid most values) refl is
         let same : record { values = values; locals = locals } ≡ all = same_Some (record { values = values; locals = locals }) all some in
         record { values = sym (ap (λ (lain : Laid). lain.values) same); is = is; room = ap (λ (lain : Laid). length lain.locals) (sym same) ∙ length-laid most values locals at }
 
-pub holds_own : (all : Laid) → laid (length all.locals) all.values ≡ Some all.locals → Holds (length all.locals) all.values all
-holds_own all is = record { values = refl; is = laid_same (length all.locals) all.values all.locals is; room = refl }
-
 -- what a step says of values that lie, by what lies
 pub step_said : {most : ℕ} {values : List VerificationType} {all : Laid} (change : List VerificationType → List VerificationType) (result : Option Laid) → Holds most values all
     → result ≡ laid_in (length all.locals) (change all.values) → result ≡ laid_in most (change values)
@@ -92,12 +89,6 @@ left_less values n i within some =
   where
     left : length (take (length values - i) values) ≡ length values - i
     left = length-take-le (length values - i) values (omega arith)
-
-pub left_some : (values : List VerificationType) (n i : ℕ) → i < n → n ≤ length values → 0 < length (take (length values - i) values)
-left_some values n i within some = omega (arith, length-take-le (length values - i) values (omega arith))
-
-pub left_all : (values : List VerificationType) → take (length values - 0) values ≡ values
-left_all values = take_all (length values - 0) values (omega arith)
 
 pub enough : (most count : ℕ) (values : List VerificationType) → count ≤ length values
     → option_and_then (laid_in most) (without_last count values) ≡ laid_in most (take (length values - count) values)

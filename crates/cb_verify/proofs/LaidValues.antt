@@ -7,7 +7,7 @@ use Rattle.std.proofs.lemmas.Option.{cond_some}
 use Rattle.cb_verify.specs.declared.verification_type.VerificationType.{VerificationType}
 use Rattle.cb_verify.specs.declared.verification_type.VerificationType.TheVariants.{Top, Long, This}
 use Rattle.cb_verify.specs.Frames.{has_this, height, in_words, is_this, laid}
-use Rattle.cb_verify.specs.Laid.{this_count}
+use Rattle.cb_verify.specs.InnerLaid.{this_count}
 use Rattle.cb_verify.specs.Types.{words}
 
 abbrev flat : List VerificationType → List VerificationType

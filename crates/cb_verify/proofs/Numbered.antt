@@ -6,7 +6,8 @@ use Rattle.cb_classfile.specs.declared.body.Body.{Body}
 use Rattle.cb_classfile.specs.declared.method.Method.{Method}
 use Rattle.cb_link.specs.declared.linked.LinkedMethod.{LinkedMethod}
 use Rattle.cb_link.specs.Named.{code_at, code_in, code_of}
-use Rattle.cb_link.specs.Numbers.{Numbered, acc_static, has_flag, methods_of}
+use Rattle.cb_classfile.specs.Flags.{acc_static}
+use Rattle.cb_link.specs.Numbers.{Numbered, has_flag, methods_of}
 use Rattle.cb_link.specs.Program.{Linked}
 use Rattle.cb_link.specs.Resolving.{object}
 use Rattle.cb_verify.specs.Within.{is_init, method_at, of_class, text_in, with_body, within}

@@ -9,7 +9,7 @@ use Rattle.cb_verify.specs.declared.verification_type.VerificationType.{Verifica
 use Rattle.cb_verify.specs.declared.verification_type.VerificationType.TheVariants.{Top, Int, Long, Null, This, Object, New}
 use Rattle.cb_verify.specs.Calls.{popped, without_this}
 use Rattle.cb_verify.specs.Frames.{is_same}
-use Rattle.cb_verify.specs.Prefixes.{begins_as, is_wanted}
+use Rattle.cb_verify.specs.InnerPrefixes.{begins_as, is_wanted}
 use Rattle.cb_verify.specs.Rules.{taken}
 use Rattle.cb_verify.specs.Types.{goes_to, is_of, type_of}
 use Rattle.cb_verify.proofs.Dropped.{drop_end, drop_next}
@@ -121,10 +121,6 @@ pub popped_one : (program : Linked) (wanted type : VerificationType) (stack : Li
     → popped program (wanted ∷ []) (drop i stack) ≡ (if here then Some (drop (i + 1) stack) else None)
 popped_one program wanted type stack i here have is =
     ap (popped program (wanted ∷ [])) (drop_next stack i type have) ∙ ap (λ own. if own then Some (drop (i + 1) stack) else None) (sym is)
-
-pub popped_none : (program : Linked) (wanted : VerificationType) (stack : List VerificationType) (i : ℕ) → length stack ≤ i
-    → popped program (wanted ∷ []) (drop i stack) ≡ None
-popped_none program wanted stack i short = ap (popped program (wanted ∷ [])) (drop_end stack i short)
 
 -- behind those of a member
 pub popped_object : (program : Linked) (some stack : List VerificationType) (wanted : VerificationType) (i : ℕ) (left : Option (List VerificationType))

@@ -12,7 +12,7 @@ use Rattle.cb_classfile.specs.FrameMap.{form_of_frame}
 use Rattle.cb_verify.specs.declared.verification_type.VerificationType.{VerificationType}
 use Rattle.cb_verify.specs.Expansion.{declared, declared_behind, fitting, place_behind, start_types, values_in}
 use Rattle.cb_verify.specs.Frames.{Frame}
-use Rattle.cb_verify.specs.Tabled.{if_at}
+use Rattle.cb_verify.specs.InnerTables.{if_at}
 use Rattle.cb_verify.specs.Within.{Within}
 
 -- an item is at a place, or before it, and the places of items rise

@@ -7,7 +7,7 @@ use Rattle.cb_shapes.specs.declared.shuffle.Shuffle.TheVariants.{Pop, Pop2, Dup,
 use Rattle.cb_shapes.specs.declared.sort.Category.{Category}
 use Rattle.cb_shapes.specs.declared.sort.Category.TheVariants.{One, Two}
 use Rattle.cb_verify.specs.declared.verification_type.VerificationType.{VerificationType}
-use Rattle.cb_verify.specs.Copies.{begins_with, copied, count_of, count_of_any, dropped, inserted, swapped}
+use Rattle.cb_verify.specs.InnerCopies.{begins_with, copied, count_of, count_of_any, dropped, inserted, swapped}
 use Rattle.cb_verify.specs.Types.{category}
 
 by_category : {P : Type 0} (found : Option Category) → (found ≡ None → P) → (found ≡ Some One → P) → (found ≡ Some Two → P) → P

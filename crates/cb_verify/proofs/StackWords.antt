@@ -10,7 +10,7 @@ use Rattle.cb_verify.specs.declared.verification_type.VerificationType.{Verifica
 use Rattle.cb_verify.specs.declared.verification_type.VerificationType.TheVariants.{Top, Int, Long, Null, This, Object, New}
 use Rattle.cb_verify.specs.Frames.{stack_goes_to, stack_words}
 use Rattle.cb_verify.specs.Types.{goes_to, is_of}
-use Rattle.cb_verify.specs.Words.{begins_with_top, is_top, rest_goes_to, taken_by, taken_by_long, taken_by_one}
+use Rattle.cb_verify.specs.InnerWords.{begins_with_top, is_top, rest_goes_to, taken_by, taken_by_long, taken_by_one}
 use Rattle.cb_shapes.specs.declared.sort.Sort.TheVariants as sorts
 use Rattle.cb_verify.proofs.Dropped.{drop_end, drop_next}
 

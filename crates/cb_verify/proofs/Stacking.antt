@@ -6,7 +6,7 @@ use Rattle.std.proofs.lemmas.Option.{cond_some, same_Some}
 use Rattle.cb_verify.specs.declared.verification_type.VerificationType.{VerificationType}
 use Rattle.cb_verify.specs.Expansion.{frame_of, reversed}
 use Rattle.cb_verify.specs.Frames.{Frame, has_this, height, is_legal, laid, with_stack}
-use Rattle.cb_verify.specs.Laid.{IsLaid, Laid, bare}
+use Rattle.cb_verify.specs.InnerLaid.{IsLaid, Laid, bare}
 use Rattle.cb_verify.specs.Within.{Within}
 use Rattle.cb_verify.proofs.LaidValues.{height-append}
 
@@ -50,9 +50,6 @@ stack_never most base types i none =
       height-append (take i types) (drop i types),
       ap height (take-append-drop i types),
     )))
-
-pub stack_all : (most : ℕ) (base : Frame) (types : List VerificationType) (i : ℕ) (frame : Option Frame) → length types ≤ i → with_stack most base (reversed [] (take i types)) ≡ frame → frame ≡ with_stack most base (reversed [] types)
-stack_all most base types i frame past is = sym is ∙ ap (λ (some : List VerificationType). with_stack most base (reversed [] some)) (take_all i types past)
 
 -- a frame of values that lie
 laid_from : (most : ℕ) (all : Laid) → IsLaid most all → laid most all.values ≡ Some all.locals

@@ -4,7 +4,7 @@ use Rattle.std.specs.Prelude.{option_and_then, slice_get, if◌then◌else◌}
 use Rattle.std.specs.List.{find}
 use Rattle.std.proofs.lemmas.Bool.Decides.{nat_tests}
 use Rattle.std.proofs.lemmas.Option.{slice_get_past, slice_get_read}
-use Rattle.cb_verify.specs.Tabled.{below, entered_turn}
+use Rattle.cb_verify.specs.InnerTables.{below, entered_turn}
 use Rattle.cb_verify.proofs.Dropped.{drop_next}
 
 -- a number is that of an item where it is one of as many
@@ -37,7 +37,3 @@ entered_next {Item} items place pc item old new low is enters before =
       go false here =
           ap (λ (here : Bool). option_and_then (slice_get items) (entered_turn old here place)) here ∙ before
           ∙ sym (ap (λ (here : Bool). cond here (Some item) (find (λ (entry : ℕ × Item). entry.0 == pc) (drop (place + 1) items))) here)
-
-pub entered_end : {Item : Type 0} (items : List (ℕ × Item)) (pc : ℕ) (turn : Option ℕ) → turn ≡ None
-    → option_and_then (slice_get items) turn ≡ find (λ entry. entry.0 == pc) []
-entered_end items pc turn is = ap (option_and_then (slice_get items)) is

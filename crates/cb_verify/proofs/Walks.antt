@@ -8,7 +8,7 @@ use Rattle.cb_verify.specs.declared.pass.Walk.{Walk}
 use Rattle.cb_verify.specs.Expansion.{declared, start}
 use Rattle.cb_verify.specs.Framed.{framed, framed_at}
 use Rattle.cb_verify.specs.Frames.{Frame}
-use Rattle.cb_verify.specs.Passing.{failing_at, is_stranded, lesser, stepped, stranded, unfit, walked}
+use Rattle.cb_verify.specs.InnerPassing.{failing_at, is_stranded, lesser, stepped, stranded, unfit, walked}
 use Rattle.cb_verify.specs.Typed.{Declared, Placed, after, begins, failing_in, first_failing, first_place, fits, fits_with, frame_at, is_lost, least, least_with, onwards, placed_behind}
 use Rattle.cb_verify.specs.Within.{Within}
 
@@ -46,14 +46,6 @@ least_failing {Item} place fits item items = go (fits item) refl where
       → least (map place (filter (λ own. not (fits own)) (item ∷ items))) ≡ lesser (failing_at (place item) (fits item)) (least (map place (filter (λ own. not (fits own)) items)))
   go true is = rw is refl
   go false is = rw is (least_first (place item) (map place (filter (λ own. not (fits own)) items)))
-
-pub least_passing : {Item : Type 0} (place : Item → ℕ) (test : Item → Bool) (item : Item) (items : List Item)
-    → least (map place (filter test (item ∷ items))) ≡ lesser (failing_at (place item) (not (test item))) (least (map place (filter test items)))
-least_passing {Item} place test item items = go (test item) refl where
-  go : (passes : Bool) → test item ≡ passes
-      → least (map place (filter test (item ∷ items))) ≡ lesser (failing_at (place item) (not (test item))) (least (map place (filter test items)))
-  go true is = rw is (least_first (place item) (map place (filter test items)))
-  go false is = rw is refl
 
 -- a walk's frames, and the least place of those that don't fit
 pub walked_frames : (method : Within) (frames : Declared) (walk : Walk) (code : List (ℕ × Insn))

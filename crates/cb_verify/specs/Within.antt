@@ -10,7 +10,8 @@ use Rattle.cb_kinds.specs.declared.basic.Basic.{Basic}
 use Rattle.cb_kinds.specs.Texts.{same_text}
 use Rattle.cb_link.specs.Having.{parameters_at}
 use Rattle.cb_link.specs.Named.{kind_at}
-use Rattle.cb_link.specs.Numbers.{acc_static, has_flag, methods_of, or_none}
+use Rattle.cb_classfile.specs.Flags.{acc_static}
+use Rattle.cb_link.specs.Numbers.{has_flag, methods_of, or_none}
 use Rattle.cb_link.specs.Program.{Linked}
 use Rattle.cb_link.specs.Resolving.{object}
 

@@ -4,7 +4,7 @@ ghost use Rattle.cb_hierarchy.specs.Classes.{listed};
 ghost use Rattle.cb_shapes.specs.declared.sort.Sort.TheVariants as sorts;
 ghost use Rattle.cb_shapes.specs.Operands.{takes};
 ghost use Rattle.cb_verify.specs.Frames.{with_stack};
-ghost use Rattle.cb_verify.specs.Groups.{is_exchange};
+ghost use Rattle.cb_verify.specs.InnerGroups.{is_exchange};
 ghost use Rattle.cb_verify.specs.Leaving.{exchange};
 ghost use Rattle.cb_verify.specs.Rules.{given};
 

@@ -2,8 +2,8 @@
 ghost use Rattle.std.specs.Prelude.{◌≡◌, ◌==◌, IfOk, IfSome, nat_lt, option_and_then, option_copied, option_map, slice_get};
 ghost use Rattle.std.specs.List.{find};
 ghost use Rattle.cb_verify.specs.Expansion.{declared, declared_at, expanded, frame_of, place_behind, start, start_types};
-ghost use Rattle.cb_verify.specs.Laid.{IsLaid, laid_behind, laid_in};
-ghost use Rattle.cb_verify.specs.Tabled.{if_at};
+ghost use Rattle.cb_verify.specs.InnerLaid.{IsLaid, laid_behind, laid_in};
+ghost use Rattle.cb_verify.specs.InnerTables.{if_at};
 
 use crate::declared_types::types_in;
 use crate::laid::Laid;

@@ -1,7 +1,7 @@
 // The frames of a method, by their places.
 ghost use Rattle.std.specs.Prelude.{◌≡◌, ◌==◌, ◌<◌, ℕ, length, option_copied, IfOk, OnOk};
 ghost use Rattle.cb_verify.specs.Framed.{frame_at_place};
-ghost use Rattle.cb_verify.specs.Tabled.{HasTurns, entered_turn, turn_in};
+ghost use Rattle.cb_verify.specs.InnerTables.{HasTurns, entered_turn, turn_in};
 
 use crate::TypeFrame;
 use crate::pass::Frames;
@@ -20,7 +20,7 @@ pub(crate) struct FrameTable {
 impl Model for FrameTable {
     ghost use Rattle.std.specs.Prelude.{ℕ, List as Items};
     ghost use Rattle.cb_verify.specs.Frames.{Frame};
-    ghost use Rattle.cb_verify.specs.Tabled.{HasTurns};
+    ghost use Rattle.cb_verify.specs.InnerTables.{HasTurns};
 
     ghost Value = { Items (ℕ × Frame) };
 

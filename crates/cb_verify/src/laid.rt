@@ -1,7 +1,7 @@
 // Values in local variables.
 ghost use Rattle.std.specs.Prelude.{◌≡◌, ◌-◌, ◌<◌, [], ◌∷◌, ◌++◌, length, option_and_then, take, IfOk, Some};
 ghost use Rattle.cb_verify.specs.Expansion.{without_last};
-ghost use Rattle.cb_verify.specs.Laid.{bare, laid_in, this_count};
+ghost use Rattle.cb_verify.specs.InnerLaid.{bare, laid_in, this_count};
 
 use crate::locals::Locals;
 use crate::{TypeFrame, VerificationType};
@@ -26,7 +26,7 @@ pub(crate) struct Laid {
 impl Model for Laid {
     ghost use Rattle.std.specs.Prelude.{◌≡◌, length, Some};
     ghost use Rattle.cb_verify.specs.Frames.{height, laid};
-    ghost use Rattle.cb_verify.specs.Laid.{Laid as Lying, this_count};
+    ghost use Rattle.cb_verify.specs.InnerLaid.{Laid as Lying, this_count};
 
     ghost Value = { Lying };
 

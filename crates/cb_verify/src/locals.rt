@@ -2,7 +2,7 @@
 ghost use Rattle.std.specs.Prelude.{◌≡◌, ◌<◌, length, slice_get, slice_set, IfOk, Some};
 ghost use Rattle.std.specs.Cmp.Lexicographic.{pointwise};
 ghost use Rattle.cb_verify.specs.Frames.{replaced};
-ghost use Rattle.cb_verify.specs.Locals.{IsKnownTo};
+ghost use Rattle.cb_verify.specs.InnerLocals.{IsKnownTo};
 ghost use Rattle.cb_verify.specs.Types.{goes_to};
 
 use crate::VerificationType;
@@ -25,7 +25,7 @@ pub(crate) struct Locals {
 impl Model for Locals {
     ghost use Rattle.std.specs.Prelude.{List as Items};
     ghost use Rattle.cb_verify.specs.declared.verification_type.VerificationType.{VerificationType as Known};
-    ghost use Rattle.cb_verify.specs.Locals.{IsKnownTo};
+    ghost use Rattle.cb_verify.specs.InnerLocals.{IsKnownTo};
 
     ghost Value = { Items Known };
 

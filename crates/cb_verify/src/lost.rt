@@ -1,7 +1,7 @@
 // Declared frames that are lost.
 ghost use Rattle.std.specs.Prelude.{◌≡◌, ◌==◌};
 ghost use Rattle.std.specs.List.{list_any};
-ghost use Rattle.cb_verify.specs.Passing.{failing_at, is_stranded, stranded};
+ghost use Rattle.cb_verify.specs.InnerPassing.{failing_at, is_stranded, stranded};
 ghost use Rattle.cb_verify.specs.Typed.{least};
 
 use crate::TypeFrame;

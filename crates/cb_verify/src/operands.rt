@@ -2,7 +2,7 @@
 ghost use Rattle.std.specs.Prelude.{◌≡◌, ◌+◌, ◌<◌, ◌≤◌, ◌&&◌, true, drop, length, slice_get, take, Some, None, if◌then◌else◌};
 ghost use Rattle.cb_verify.specs.Calls.{popped};
 ghost use Rattle.cb_verify.specs.Members.{taken_types};
-ghost use Rattle.cb_verify.specs.Prefixes.{begins_as, is_wanted};
+ghost use Rattle.cb_verify.specs.InnerPrefixes.{begins_as, is_wanted};
 ghost use Rattle.cb_verify.specs.Rules.{taken};
 ghost use Rattle.cb_verify.specs.Types.{is_of};
 

@@ -1,7 +1,7 @@
 // The pass over the instructions of a method.
 ghost use Rattle.std.specs.Prelude.{◌≡◌, ◌++◌, drop, IfOk, OnOk};
 ghost use Rattle.cb_verify.specs.Framed.{framed, framed_at, frames_of};
-ghost use Rattle.cb_verify.specs.Passing.{failing_at, lesser, stepped, unfit};
+ghost use Rattle.cb_verify.specs.InnerPassing.{failing_at, lesser, stepped, unfit};
 ghost use Rattle.cb_verify.specs.Typed.{after, begins, falls, first_failing, first_place, fits_with, frame_at, least, onwards, placed_behind};
 ghost use Rattle.cb_verify.specs.Expansion.{start};
 

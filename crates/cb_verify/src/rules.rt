@@ -1,7 +1,7 @@
 // What instructions that name no member give for what they take.
 ghost use Rattle.std.specs.Prelude.{◌≡◌, ◌≤◌, [], ◌∷◌, length, not, take, IsTrue, List as Items, Some, None, if◌then◌else◌};
 ghost use Rattle.cb_verify.specs.declared.verification_type.VerificationType.{VerificationType as AnyType};
-ghost use Rattle.cb_verify.specs.Groups.{is_by_sorts, is_exchange, is_for_element, is_for_one, is_load};
+ghost use Rattle.cb_verify.specs.InnerGroups.{is_by_sorts, is_exchange, is_for_element, is_for_one, is_load};
 ghost use Rattle.cb_shapes.specs.Operands.{takes};
 ghost use Rattle.cb_verify.specs.Rules.{constant_type, dimensions_of, given, has_dimensions, made_type};
 

@@ -1,7 +1,7 @@
 // Frames after the instructions that only move what is on the operand stack.
 ghost use Rattle.std.specs.Prelude.{◌≡◌, ◌+◌, ◌<◌, ◌≤◌, ◌∷◌, ◌++◌, drop, length, option_and_then, take, true, IfOk, IfSome};
 ghost use Rattle.cb_shapes.specs.Shuffles.{shuffled};
-ghost use Rattle.cb_verify.specs.Copies.{begins_with, copied, count_of, count_of_any, dropped, is_category, swapped, two_of};
+ghost use Rattle.cb_verify.specs.InnerCopies.{begins_with, copied, count_of, count_of_any, dropped, is_category, swapped, two_of};
 ghost use Rattle.cb_verify.specs.Frames.{with_stack};
 ghost use Rattle.cb_verify.specs.Types.{category};
 

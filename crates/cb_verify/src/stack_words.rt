@@ -1,7 +1,7 @@
 // Stacks that are compared word by word.
 ghost use Rattle.std.specs.Prelude.{◌≡◌, ◌+◌, ◌≤◌, [], ◌∷◌, length, drop, IfSome, IsTrue};
 ghost use Rattle.cb_verify.specs.Frames.{stack_goes_to};
-ghost use Rattle.cb_verify.specs.Words.{begins_with_top, taken_by, taken_by_long};
+ghost use Rattle.cb_verify.specs.InnerWords.{begins_with_top, taken_by, taken_by_long};
 
 use crate::{TypeFrame, VerificationType};
 use cb_link::Program;

@@ -1,7 +1,7 @@
 // Verification types.
 ghost use Rattle.std.specs.Prelude.{◌≡◌, ◌≤◌};
 ghost use Rattle.cb_verify.specs.Frames.{is_same};
-ghost use Rattle.cb_verify.specs.Words.{is_top};
+ghost use Rattle.cb_verify.specs.InnerWords.{is_top};
 ghost use Rattle.cb_verify.specs.Types.{category, goes_to, is_initialised, is_of, kind_goes_to, number_type, sort_of_basic, type_of, words};
 
 use cb_kinds::Basic;

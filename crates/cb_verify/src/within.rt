@@ -1,12 +1,13 @@
 // What a method's instructions are typed in.
 ghost use Rattle.std.specs.Prelude.{◌≡◌, ◌<◌, length, Some};
 ghost use Rattle.cb_classfile.specs.Pool.{text_at};
-ghost use Rattle.cb_link.specs.Numbers.{acc_static, has_flag, or_none};
+ghost use Rattle.cb_classfile.specs.Flags.{acc_static};
+ghost use Rattle.cb_link.specs.Numbers.{has_flag, or_none};
 ghost use Rattle.cb_verify.specs.Leaving.{superclass_of};
 ghost use Rattle.cb_verify.specs.Within.{is_init, kind_named, result_of, within};
 
 use crate::names::is_init;
-use cb_classfile::Body;
+use cb_classfile::{Body, MethodFlags};
 use cb_kinds::Basic;
 use cb_link::Program;
 use cb_text::Pool;
@@ -36,7 +37,7 @@ impl<'a> Model for Within<'a> {
 }
 
 /// The flag of a static method (JVMS table 4.6-A).
-const STATIC: u16 = 0x0008;
+const STATIC: u16 = MethodFlags::STATIC.0;
 
 /// The number of java/lang/Object.
 const OBJECT: u32 = 0;

@@ -3,7 +3,7 @@ use Rattle.std.specs.List.{Contains}
 use Rattle.std.proofs.lemmas.List.{length_push}
 use Rattle.std.proofs.lemmas.Result.{IfOk-weaker}
 use Rattle.cb_hierarchy.specs.Inner.{list_at}
-use Rattle.cb_hierarchy.specs.Rows.{AreSquare, ListsAbove, MarkAbove, MarkLists}
+use Rattle.cb_hierarchy.specs.InnerRows.{AreSquare, ListsAbove, MarkAbove, MarkLists}
 use Rattle.cb_hierarchy.proofs.Closing.{lists_below, marks_above, row_more}
 use Rattle.cb_hierarchy.proofs.ancestors.closed.Goals as goal
 

@@ -1,6 +1,6 @@
 use Rattle.std.proofs.Common.{◌≡◌, ℕ, ◌<◌, length}
 use Rattle.cb_hierarchy.specs.Inner.{list_at}
-use Rattle.cb_hierarchy.specs.Rows.{ListsAbove}
+use Rattle.cb_hierarchy.specs.InnerRows.{ListsAbove}
 use Rattle.cb_hierarchy.proofs.ancestors.closed.Given as goal
 
 abbrev pub invariant-loop-class : goal.invariant-loop-class

@@ -3,7 +3,7 @@ use Rattle.std.specs.List.{Contains, list_any}
 use Rattle.std.proofs.lemmas.List.{get_or_read, length_push}
 use Rattle.cb_hierarchy.proofs.Closing.{row_more}
 use Rattle.cb_hierarchy.specs.Inner.{has, list_at}
-use Rattle.cb_hierarchy.specs.Rows.{marked}
+use Rattle.cb_hierarchy.specs.InnerRows.{marked}
 use Rattle.cb_hierarchy.proofs.ancestors.rows_of.Goals as goal
 
 pub loop-list-preserved : goal.loop-list-preserved

@@ -1,7 +1,7 @@
 use Rattle.std.proofs.Common.{◌≡◌, ℕ, ◌<◌, ◌==◌, [], length, get_or}
 use Rattle.std.specs.List.{Contains, list_any}
 use Rattle.cb_hierarchy.specs.Inner.{list_at}
-use Rattle.cb_hierarchy.specs.Rows.{marked}
+use Rattle.cb_hierarchy.specs.InnerRows.{marked}
 use Rattle.cb_hierarchy.proofs.ancestors.rows_of.Given as goal
 
 abbrev pub invariant-loop-list : goal.invariant-loop-list

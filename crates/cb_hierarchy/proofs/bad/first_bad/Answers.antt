@@ -1,6 +1,6 @@
 use Rattle.std.proofs.Common.{◌≡◌, ℕ, ◌<◌, Bool, false, List, sym, ap, ◌∙◌, arith}
 use Rattle.cb_hierarchy.proofs.Badly.{bad_found, not_bad}
-use Rattle.cb_hierarchy.specs.Finals.{is_bad}
+use Rattle.cb_hierarchy.specs.InnerFinals.{is_bad}
 use Rattle.cb_hierarchy.proofs.bad.first_bad.Goals as goal
 
 pub returns-then-is_bad : goal.returns-then-is_bad

@@ -1,5 +1,5 @@
 use Rattle.std.proofs.Common.{◌≡◌, ℕ, ◌<◌, false}
-use Rattle.cb_hierarchy.specs.Finals.{is_bad}
+use Rattle.cb_hierarchy.specs.InnerFinals.{is_bad}
 use Rattle.cb_hierarchy.proofs.bad.first_bad.Given as goal
 
 abbrev pub invariant-loop-number : goal.invariant-loop-number

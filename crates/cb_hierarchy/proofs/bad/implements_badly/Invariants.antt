@@ -1,5 +1,5 @@
 use Rattle.std.proofs.Common.{◌≡◌, false, take}
-use Rattle.cb_hierarchy.specs.Finals.{implements_badly}
+use Rattle.cb_hierarchy.specs.InnerFinals.{implements_badly}
 use Rattle.cb_hierarchy.proofs.bad.implements_badly.Given as goal
 
 abbrev pub invariant-loop-other : goal.invariant-loop-other

@@ -1,6 +1,6 @@
 use Rattle.std.proofs.Common.{◌≡◌, map, nat_eq, take}
 use Rattle.std.specs.HashSet.{contains}
-use Rattle.cb_hierarchy.specs.Beginning.{before_by}
+use Rattle.cb_hierarchy.specs.InnerBeginnings.{before_by}
 use Rattle.cb_hierarchy.specs.Inner.{list_at}
 use Rattle.cb_hierarchy.proofs.initial.all_before.Given as goal
 

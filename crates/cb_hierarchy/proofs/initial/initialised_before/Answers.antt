@@ -3,7 +3,7 @@ use Rattle.std.proofs.lemmas.Result.{IfOk-weaker}
 use Rattle.std.specs.HashSet.{contains}
 use Rattle.std.specs.Prelude.{slice_get}
 use Rattle.cb_hierarchy.specs.declared.class.Class.{Class}
-use Rattle.cb_hierarchy.specs.Beginning.{before_by}
+use Rattle.cb_hierarchy.specs.InnerBeginnings.{before_by}
 use Rattle.cb_hierarchy.specs.Classes.{AreClasses}
 use Rattle.cb_hierarchy.specs.Initial.{initialised_before}
 use Rattle.cb_hierarchy.specs.Inner.{list_at}

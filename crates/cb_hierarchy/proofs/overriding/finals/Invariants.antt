@@ -1,5 +1,5 @@
 use Rattle.std.proofs.Common.{◌≡◌, length, vec_len}
-use Rattle.cb_hierarchy.specs.Finals.{AreFinals}
+use Rattle.cb_hierarchy.specs.InnerFinals.{AreFinals}
 use Rattle.cb_hierarchy.proofs.overriding.finals.Given as goal
 
 abbrev pub invariant-loop-number : goal.invariant-loop-number

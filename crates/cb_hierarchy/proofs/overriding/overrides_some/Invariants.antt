@@ -1,5 +1,5 @@
 use Rattle.std.proofs.Common.{◌≡◌, false, take}
-use Rattle.cb_hierarchy.specs.Finals.{overrides_some}
+use Rattle.cb_hierarchy.specs.InnerFinals.{overrides_some}
 use Rattle.cb_hierarchy.proofs.overriding.overrides_some.Given as goal
 
 abbrev pub invariant-loop-other : goal.invariant-loop-other

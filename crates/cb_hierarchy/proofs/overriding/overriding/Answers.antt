@@ -3,7 +3,7 @@ use Rattle.std.proofs.lemmas.Bool.{cases_lt}
 use Rattle.std.proofs.lemmas.List.{get_or-replicate, get_or_past, length-replicate}
 use Rattle.cb_hierarchy.specs.Inner.{has}
 use Rattle.cb_hierarchy.proofs.Badly.{AreOver, over_all, over_more, over_none, over_same}
-use Rattle.cb_hierarchy.specs.Finals.{overrides_final}
+use Rattle.cb_hierarchy.specs.InnerFinals.{overrides_final}
 use Rattle.cb_hierarchy.proofs.overriding.overriding.Goals as goal
 use Rattle.cb_hierarchy.proofs.overriding.overriding.Goals.{then-overrides_final+in_ok-add, else-overrides_final}
 

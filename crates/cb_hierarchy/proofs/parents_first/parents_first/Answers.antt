@@ -2,7 +2,7 @@ use Rattle.std.proofs.Common.{◌≡◌, ℕ, ◌+◌, ◌<◌, List, length, ge
 use Rattle.std.proofs.lemmas.List.{length-map}
 use Rattle.std.specs.List.{Contains}
 use Rattle.cb_hierarchy.specs.Classes.{parents}
-use Rattle.cb_hierarchy.specs.Rows.{AreOfRank, how_many}
+use Rattle.cb_hierarchy.specs.InnerRows.{AreOfRank, how_many}
 use Rattle.cb_hierarchy.proofs.Ranked.{AreOrdered, low, ordered_all, ordered_more, ordered_none, rising}
 use Rattle.cb_hierarchy.proofs.parents_first.parents_first.Goals as goal
 

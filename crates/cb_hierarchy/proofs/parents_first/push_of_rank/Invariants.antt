@@ -1,5 +1,5 @@
 use Rattle.std.proofs.Common.{◌≡◌, ℕ, ◌++◌, List}
-use Rattle.cb_hierarchy.specs.Rows.{AreOfRank}
+use Rattle.cb_hierarchy.specs.InnerRows.{AreOfRank}
 use Rattle.cb_hierarchy.proofs.parents_first.push_of_rank.Given as goal
 
 abbrev pub invariant-loop-class : goal.invariant-loop-class

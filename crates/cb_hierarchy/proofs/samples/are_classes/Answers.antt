@@ -3,7 +3,7 @@ use Rattle.std.specs.List.{Contains}
 use Rattle.std.proofs.lemmas.Bool.{cases_eq}
 use Rattle.std.proofs.lemmas.List.{get_or_read, length-map}
 use Rattle.cb_hierarchy.specs.Inner.{list_at}
-use Rattle.cb_hierarchy.specs.Rows.{all_named}
+use Rattle.cb_hierarchy.specs.InnerRows.{all_named}
 use Rattle.cb_hierarchy.proofs.Named.{at_all_named, names_another}
 use Rattle.cb_hierarchy.proofs.samples.are_classes.Goals as goal
 

@@ -1,5 +1,5 @@
 use Rattle.std.proofs.Common.{◌∙◌, ◌+◌, ◌<◌, Some, ap, arith, length, length-set, not, subst, sym, take}
-use Rattle.cb_hierarchy.specs.Reaching.{AreFirst, among_if}
+use Rattle.cb_hierarchy.specs.InnerReaching.{AreFirst, among_if}
 use Rattle.cb_hierarchy.proofs.AmongLaws.{known, not_above, put}
 use Rattle.cb_hierarchy.proofs.selection.all_among.Goals as goal
 use Rattle.cb_hierarchy.proofs.selection.all_among.Goals.{then-is_none+then-is_above+in_ok-entry, else-is_none, else-is_none-via-then-is_none+else-is_above, else-is_none-via-else-is_none}

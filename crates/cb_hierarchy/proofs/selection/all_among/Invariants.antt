@@ -1,5 +1,5 @@
 use Rattle.std.proofs.Common.{◌≡◌, length, take}
-use Rattle.cb_hierarchy.specs.Reaching.{AreFirst, among_if}
+use Rattle.cb_hierarchy.specs.InnerReaching.{AreFirst, among_if}
 use Rattle.cb_hierarchy.proofs.selection.all_among.Given as goal
 
 abbrev pub invariant-loop-number : goal.invariant-loop-number

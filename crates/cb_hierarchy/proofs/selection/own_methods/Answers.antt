@@ -1,6 +1,6 @@
 use Rattle.std.proofs.Common.{◌∙◌, ◌+◌, ◌<◌, Some, ap, arith, length, length-set, not, subst, sym, take}
 use Rattle.cb_hierarchy.specs.Members.{method_of}
-use Rattle.cb_hierarchy.specs.Reaching.{AreFirst}
+use Rattle.cb_hierarchy.specs.InnerReaching.{AreFirst}
 use Rattle.cb_hierarchy.proofs.OwnLaws.{known_own, not_own, put_own}
 use Rattle.cb_hierarchy.proofs.selection.own_methods.Goals as goal
 use Rattle.cb_hierarchy.proofs.selection.own_methods.Goals.{then-is_of+then-is_none, else-is_of, else-is_of-via-then-is_of+else-is_none, else-is_of-via-else-is_of}

@@ -1,6 +1,6 @@
 use Rattle.std.proofs.Common.{◌≡◌, length, take}
 use Rattle.cb_hierarchy.specs.Members.{method_of}
-use Rattle.cb_hierarchy.specs.Reaching.{AreFirst}
+use Rattle.cb_hierarchy.specs.InnerReaching.{AreFirst}
 use Rattle.cb_hierarchy.proofs.selection.own_methods.Given as goal
 
 abbrev pub invariant-loop-number : goal.invariant-loop-number

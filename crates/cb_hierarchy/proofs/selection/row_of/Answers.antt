@@ -2,7 +2,7 @@ use Rattle.std.proofs.Common.{◌≡◌, ◌∙◌, ◌+◌, ◌<◌, ◌++◌, 
 use Rattle.std.proofs.lemmas.List.{length_push}
 use Rattle.std.proofs.lemmas.Option.{get_or_from_slice_get, slice_get_within}
 use Rattle.cb_hierarchy.specs.Members.{method_of}
-use Rattle.cb_hierarchy.specs.Reaching.{AreFirst, among_if, entry_among, entry_by, entry_of, reach_own, reached_at}
+use Rattle.cb_hierarchy.specs.InnerReaching.{AreFirst, among_if, entry_among, entry_by, entry_of, reach_own, reached_at}
 use Rattle.cb_hierarchy.specs.Resolution.{most_specific}
 use Rattle.std.specs.Prelude.{unwrap_or}
 use Rattle.cb_hierarchy.specs.declared.entry.Entry.TheVariants.{Absent}

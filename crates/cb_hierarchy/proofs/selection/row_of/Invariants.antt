@@ -1,5 +1,5 @@
 use Rattle.std.proofs.Common.{◌≡◌, length}
-use Rattle.cb_hierarchy.specs.Reaching.{AreFirst, entry_by}
+use Rattle.cb_hierarchy.specs.InnerReaching.{AreFirst, entry_by}
 use Rattle.cb_hierarchy.proofs.selection.row_of.Given as goal
 
 abbrev pub invariant-loop-resolved : goal.invariant-loop-resolved

@@ -1,6 +1,6 @@
 use Rattle.std.proofs.Common.{◌≡◌, filter, not, take}
 use Rattle.cb_hierarchy.specs.Resolution.{method_is}
-use Rattle.cb_hierarchy.specs.Specific.{is_specific}
+use Rattle.cb_hierarchy.specs.InnerSpecific.{is_specific}
 use Rattle.cb_hierarchy.proofs.specific.most_specific_of.Given as goal
 
 abbrev pub invariant-loop-candidate : goal.invariant-loop-candidate

@@ -1,5 +1,5 @@
 use Rattle.std.proofs.Common.{◌≡◌, take}
-use Rattle.cb_hierarchy.specs.Specific.{inherited_of}
+use Rattle.cb_hierarchy.specs.InnerSpecific.{inherited_of}
 use Rattle.cb_hierarchy.proofs.specific.superinterface_methods.Given as goal
 
 abbrev pub invariant-loop-number : goal.invariant-loop-number

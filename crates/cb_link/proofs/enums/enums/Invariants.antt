@@ -1,4 +1,4 @@
-use Rattle.cb_link.specs.Counting.{AreEnums}
+use Rattle.cb_link.specs.InnerCounts.{AreEnums}
 use Rattle.cb_link.proofs.enums.enums.Given as goal
 
 abbrev pub invariant-loop-index : goal.invariant-loop-index

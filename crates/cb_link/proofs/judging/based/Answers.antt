@@ -6,10 +6,10 @@ use Rattle.cb_hierarchy.specs.Bad.{AreGood}
 use Rattle.cb_kinds.specs.Basics.{kind_number}
 use Rattle.cb_link.specs.Having.{HasOwnName, IsWhole}
 use Rattle.cb_link.specs.Judging.{HindersProgram, IsProgram, site_count, site_limit}
-use Rattle.cb_link.specs.Inside.{IsTooMany}
-use Rattle.cb_link.specs.Judged.{IsBegun}
+use Rattle.cb_link.specs.Inner.{IsTooMany}
+use Rattle.cb_link.specs.InnerJudged.{IsBegun}
 use Rattle.cb_link.specs.Numbers.{hierarchy, name_of, ranked_methods}
-use Rattle.cb_link.specs.Parts.{linked_with}
+use Rattle.cb_link.specs.InnerParts.{linked_with}
 use Rattle.cb_link.specs.Program.{linked}
 use Rattle.cb_link.proofs.JudgedLaws.{many_sites}
 use Rattle.cb_link.proofs.Handed.{handed, handed_from}

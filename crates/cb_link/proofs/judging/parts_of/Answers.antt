@@ -2,7 +2,7 @@ use Rattle.std.proofs.Common.{◌≤◌, ◌<◌, ◌∙◌, Err, IfErr, List, a
 use Rattle.cb_classfile.specs.declared.class.ClassFile.{ClassFile}
 use Rattle.cb_kinds.specs.Basics.{kind_number}
 use Rattle.cb_link.specs.declared.refusal.Refusal.TheVariants.{OutOfMemory}
-use Rattle.cb_link.specs.Inside.{IsTooMany}
+use Rattle.cb_link.specs.Inner.{IsTooMany}
 use Rattle.cb_link.specs.Judging.{site_count, site_limit}
 use Rattle.cb_link.specs.Making.{constants, fixed_kinds, kinds, makings}
 use Rattle.cb_link.specs.Numbers.{fields_of, methods_of}

@@ -1,4 +1,4 @@
-use Rattle.cb_link.specs.Formed.{inner_name}
+use Rattle.cb_link.specs.InnerKinds.{inner_name}
 use Rattle.cb_link.proofs.RowLaws.{row_more}
 use Rattle.cb_link.proofs.kind_table.inner_names.Goals as goal
 

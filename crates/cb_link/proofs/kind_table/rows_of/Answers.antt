@@ -1,4 +1,4 @@
-use Rattle.cb_link.specs.Formed.{row_with}
+use Rattle.cb_link.specs.InnerKinds.{row_with}
 use Rattle.cb_link.proofs.RowLaws.{row_more}
 use Rattle.cb_link.proofs.kind_table.rows_of.Goals as goal
 

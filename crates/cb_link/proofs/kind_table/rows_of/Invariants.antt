@@ -1,5 +1,5 @@
 use Rattle.std.proofs.Common.{◌≡◌, map, take}
-use Rattle.cb_link.specs.Formed.{row_with}
+use Rattle.cb_link.specs.InnerKinds.{row_with}
 use Rattle.cb_link.proofs.kind_table.rows_of.Given as goal
 
 abbrev pub invariant-loop-kind : goal.invariant-loop-kind

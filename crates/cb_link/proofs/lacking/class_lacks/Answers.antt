@@ -1,7 +1,7 @@
 use Rattle.std.proofs.Common.{List, map, sym, ap, ◌∙◌, arith}
 use Rattle.cb_classfile.specs.declared.method.Method.{Method}
 use Rattle.cb_hierarchy.specs.Resolution.{first_some}
-use Rattle.cb_link.specs.Lacked.{body_lacks}
+use Rattle.cb_link.specs.InnerLacked.{body_lacks}
 use Rattle.cb_link.proofs.LackedLaws.{first_here, none_here}
 use Rattle.cb_link.proofs.lacking.class_lacks.Goals as goal
 

@@ -1,6 +1,6 @@
 use Rattle.std.proofs.Common.{◌≡◌, None, map, take}
 use Rattle.cb_hierarchy.specs.Resolution.{first_some}
-use Rattle.cb_link.specs.Lacked.{body_lacks}
+use Rattle.cb_link.specs.InnerLacked.{body_lacks}
 use Rattle.cb_link.proofs.lacking.class_lacks.Given as goal
 
 abbrev pub invariant-loop-method : goal.invariant-loop-method

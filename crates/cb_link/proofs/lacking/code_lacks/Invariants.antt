@@ -1,5 +1,5 @@
 use Rattle.std.proofs.Common.{◌≡◌, None, take}
-use Rattle.cb_link.specs.Lacked.{code_lacks}
+use Rattle.cb_link.specs.InnerLacked.{code_lacks}
 use Rattle.cb_link.proofs.lacking.code_lacks.Given as goal
 
 abbrev pub invariant-loop-insn : goal.invariant-loop-insn

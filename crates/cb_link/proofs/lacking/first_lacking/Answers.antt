@@ -4,7 +4,7 @@ use Rattle.std.specs.List.{enumerate_from}
 use Rattle.std.proofs.lemmas.List.FromFn.{get_or-enumerate_from, length-enumerate_from}
 use Rattle.cb_classfile.specs.declared.class.ClassFile.{ClassFile}
 use Rattle.cb_hierarchy.specs.Resolution.{first_some}
-use Rattle.cb_link.specs.Lacked.{class_lacks, entry_lacks}
+use Rattle.cb_link.specs.InnerLacked.{class_lacks, entry_lacks}
 use Rattle.cb_link.proofs.LackedLaws.{first_here, lacking_by_class, none_all, none_here}
 use Rattle.cb_link.proofs.lacking.first_lacking.Goals as goal
 

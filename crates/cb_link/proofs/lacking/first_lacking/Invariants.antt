@@ -1,7 +1,7 @@
 use Rattle.std.proofs.Common.{◌≡◌, None, map, take}
 use Rattle.std.specs.List.{enumerate_from}
 use Rattle.cb_hierarchy.specs.Resolution.{first_some}
-use Rattle.cb_link.specs.Lacked.{entry_lacks}
+use Rattle.cb_link.specs.InnerLacked.{entry_lacks}
 use Rattle.cb_link.proofs.lacking.first_lacking.Given as goal
 
 abbrev pub invariant-loop-class : goal.invariant-loop-class

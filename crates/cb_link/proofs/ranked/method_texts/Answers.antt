@@ -1,6 +1,6 @@
 use Rattle.std.proofs.Common.{◌∙◌, ap, ◌++◌, map}
 use Rattle.cb_link.specs.Numbers.{texts_in}
-use Rattle.cb_link.specs.Ranking.{texts_of_methods}
+use Rattle.cb_link.specs.InnerRanks.{texts_of_methods}
 use Rattle.cb_link.proofs.Ranks.{flat_grows}
 use Rattle.cb_link.proofs.ranked.method_texts.Goals as goal
 

@@ -1,7 +1,7 @@
 use Rattle.std.proofs.Common.{◌≡◌, take}
 use Rattle.std.specs.List.{flat_map}
 use Rattle.cb_hierarchy.specs.Classes.{listed}
-use Rattle.cb_link.specs.Ranking.{number_at}
+use Rattle.cb_link.specs.InnerRanks.{number_at}
 use Rattle.cb_link.proofs.ranked.numbers_at.Given as goal
 
 abbrev pub invariant-loop-index : goal.invariant-loop-index

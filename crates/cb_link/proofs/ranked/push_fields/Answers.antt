@@ -1,4 +1,4 @@
-use Rattle.cb_link.specs.Ranking.{rank_field}
+use Rattle.cb_link.specs.InnerRanks.{rank_field}
 use Rattle.cb_link.proofs.Ranks.{pushed}
 use Rattle.cb_link.proofs.ranked.push_fields.Goals as goal
 

@@ -1,5 +1,5 @@
 use Rattle.std.proofs.Common.{◌≡◌, ◌++◌, map, take}
-use Rattle.cb_link.specs.Ranking.{rank_field}
+use Rattle.cb_link.specs.InnerRanks.{rank_field}
 use Rattle.cb_link.proofs.ranked.push_fields.Given as goal
 
 abbrev pub invariant-loop-field : goal.invariant-loop-field

@@ -1,5 +1,5 @@
 use Rattle.std.proofs.Common.{◌≡◌, ◌++◌, map, take}
-use Rattle.cb_link.specs.Ranking.{rank_method}
+use Rattle.cb_link.specs.InnerRanks.{rank_method}
 use Rattle.cb_link.proofs.ranked.push_methods.Given as goal
 
 abbrev pub invariant-loop-method : goal.invariant-loop-method

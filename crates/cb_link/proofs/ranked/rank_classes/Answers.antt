@@ -1,5 +1,5 @@
 use Rattle.std.proofs.Common.{◌∙◌, ap}
-use Rattle.cb_link.specs.Ranking.{rank}
+use Rattle.cb_link.specs.InnerRanks.{rank}
 use Rattle.cb_link.proofs.PlacesLaws.{mapped_more}
 use Rattle.cb_link.proofs.ranked.rank_classes.Goals as goal
 

@@ -1,5 +1,5 @@
 use Rattle.std.proofs.Common.{◌≡◌, map, take}
-use Rattle.cb_link.specs.Ranking.{package_name, rank}
+use Rattle.cb_link.specs.InnerRanks.{package_name, rank}
 use Rattle.cb_link.proofs.ranked.rank_classes.Given as goal
 
 abbrev pub invariant-loop-class : goal.invariant-loop-class

@@ -1,5 +1,5 @@
 use Rattle.std.proofs.Common.{◌∙◌, ap₂, ◌++◌, map}
-use Rattle.cb_link.specs.Ranking.{fields_of_class, rank_field}
+use Rattle.cb_link.specs.InnerRanks.{fields_of_class, rank_field}
 use Rattle.cb_link.proofs.Ranks.{numbered_grows}
 use Rattle.cb_link.proofs.ranked.rank_fields.Goals as goal
 

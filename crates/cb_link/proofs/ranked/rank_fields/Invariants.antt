@@ -1,6 +1,6 @@
 use Rattle.std.proofs.Common.{◌≡◌, take}
 use Rattle.std.specs.List.{enumerate_from, flat_map}
-use Rattle.cb_link.specs.Ranking.{fields_of_class}
+use Rattle.cb_link.specs.InnerRanks.{fields_of_class}
 use Rattle.cb_link.proofs.ranked.rank_fields.Given as goal
 
 abbrev pub invariant-loop-index : goal.invariant-loop-index

@@ -1,5 +1,5 @@
 use Rattle.std.proofs.Common.{◌∙◌, ap₂, ◌++◌, map}
-use Rattle.cb_link.specs.Ranking.{methods_of_class, rank_method}
+use Rattle.cb_link.specs.InnerRanks.{methods_of_class, rank_method}
 use Rattle.cb_link.proofs.Ranks.{numbered_grows}
 use Rattle.cb_link.proofs.ranked.rank_methods.Goals as goal
 

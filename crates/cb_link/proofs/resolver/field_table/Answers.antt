@@ -3,7 +3,7 @@ use Rattle.std.specs.List.{enumerate_from, flat_map}
 use Rattle.std.proofs.lemmas.Result.{IfOk-weaker}
 use Rattle.cb_hierarchy.specs.Members.{AreMembers}
 use Rattle.cb_link.specs.Numbers.{ranked_fields}
-use Rattle.cb_link.specs.Ranking.{fields_of_class}
+use Rattle.cb_link.specs.InnerRanks.{fields_of_class}
 use Rattle.cb_link.proofs.Bounded.{field_members}
 use Rattle.cb_link.proofs.Counted.{fields_by_class}
 use Rattle.cb_link.proofs.resolver.field_table.Goals as goal

@@ -1,5 +1,5 @@
 use Rattle.std.proofs.Common.{◌∙◌, ap, map}
-use Rattle.cb_link.specs.Ranking.{package_name, rank}
+use Rattle.cb_link.specs.InnerRanks.{package_name, rank}
 use Rattle.cb_link.proofs.resolver.judged.Goals as goal
 
 pub hierarchy_of-requires-clause-ranked : goal.hierarchy_of-requires-clause-ranked

@@ -3,7 +3,7 @@ use Rattle.std.specs.List.{enumerate_from, flat_map}
 use Rattle.std.proofs.lemmas.Result.{IfOk-weaker}
 use Rattle.cb_hierarchy.specs.Members.{AreMembers}
 use Rattle.cb_link.specs.Numbers.{ranked_methods}
-use Rattle.cb_link.specs.Ranking.{methods_of_class}
+use Rattle.cb_link.specs.InnerRanks.{methods_of_class}
 use Rattle.cb_link.proofs.Bounded.{method_members}
 use Rattle.cb_link.proofs.Counted.{methods_by_class}
 use Rattle.cb_link.proofs.resolver.method_table.Goals as goal

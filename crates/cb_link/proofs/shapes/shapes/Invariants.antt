@@ -1,5 +1,5 @@
 use Rattle.cb_link.specs.Slots.{shape}
-use Rattle.cb_link.specs.Tabled.{AreAll}
+use Rattle.cb_link.specs.InnerTables.{AreAll}
 use Rattle.cb_link.proofs.shapes.shapes.Given as goal
 
 abbrev pub invariant-loop-kind : goal.invariant-loop-kind

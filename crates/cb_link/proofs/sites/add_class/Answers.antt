@@ -1,7 +1,7 @@
 use Rattle.std.proofs.Common.{◌+◌, length, subst, arith}
 use Rattle.std.specs.Prelude.{IfErr}
-use Rattle.cb_link.specs.Inside.{IsTooMany}
-use Rattle.cb_link.specs.Sited.{Exceeds, body_makings}
+use Rattle.cb_link.specs.Inner.{IsTooMany}
+use Rattle.cb_link.specs.InnerSites.{Exceeds, body_makings}
 use Rattle.cb_link.proofs.Handed.{handed_from}
 use Rattle.cb_link.proofs.SitedLaws.{exceeds, grown, methods_fit, methods_grow, methods_make, refused_more}
 use Rattle.cb_link.proofs.sites.add_class.Goals as goal

@@ -1,10 +1,10 @@
 use Rattle.std.proofs.Common.{◌≡◌, ◌+◌, ◌∙◌, ap, ◌++◌, length, map, subst}
 use Rattle.std.specs.List.{flat_map}
 use Rattle.std.specs.Prelude.{IfErr}
-use Rattle.cb_link.specs.Inside.{IsTooMany}
+use Rattle.cb_link.specs.Inner.{IsTooMany}
 use Rattle.cb_link.specs.Making.{made_by}
 use Rattle.cb_link.specs.Program.{linked_site}
-use Rattle.cb_link.specs.Sited.{Exceeds, insn_makings, made_at}
+use Rattle.cb_link.specs.InnerSites.{Exceeds, insn_makings, made_at}
 use Rattle.cb_link.proofs.Handed.{handed_from}
 use Rattle.cb_link.proofs.SitedLaws.{code_fits, code_grows, exceeds, grown, refused_more}
 use Rattle.cb_link.proofs.sites.add_code.Goals as goal

@@ -1,7 +1,7 @@
 use Rattle.std.proofs.Common.{◌≡◌, ◌++◌, map, take}
 use Rattle.std.specs.List.{flat_map}
 use Rattle.cb_link.specs.Program.{linked_site}
-use Rattle.cb_link.specs.Sited.{insn_makings}
+use Rattle.cb_link.specs.InnerSites.{insn_makings}
 use Rattle.cb_link.proofs.sites.add_code.Given as goal
 
 abbrev pub invariant-loop-place : goal.invariant-loop-place

@@ -1,7 +1,7 @@
 use Rattle.std.proofs.Common.{◌≡◌, ◌+◌, ◌∙◌, ap, ℕ, List, [], ◌∷◌, ◌++◌}
 use Rattle.cb_kinds.specs.Basics.{kind_number}
 use Rattle.cb_link.specs.Making.{Making}
-use Rattle.cb_link.specs.Sited.{made_at}
+use Rattle.cb_link.specs.InnerSites.{made_at}
 use Rattle.cb_link.proofs.Handed.{handed_from}
 use Rattle.cb_link.proofs.PlacesLaws.{map_more}
 use Rattle.cb_link.proofs.SitedLaws.{exceeds, grown, made_fits, refused_more}

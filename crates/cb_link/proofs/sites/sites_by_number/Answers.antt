@@ -1,7 +1,7 @@
 use Rattle.std.proofs.Common.{◌+◌, ◌<◌, [], length, arith}
 use Rattle.cb_link.specs.Judging.{site_count, site_limit}
 use Rattle.cb_link.specs.Making.{makings}
-use Rattle.cb_link.specs.Sited.{Exceeds, class_makings}
+use Rattle.cb_link.specs.InnerSites.{Exceeds, class_makings}
 use Rattle.cb_link.proofs.Handed.{handed_from}
 use Rattle.cb_link.proofs.SitedLaws.{classes_fit, classes_grow, count_grows, exceeds, grown, refused_more}
 use Rattle.cb_link.proofs.sites.sites_by_number.Goals as goal

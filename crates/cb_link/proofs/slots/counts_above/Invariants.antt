@@ -1,5 +1,5 @@
 use Rattle.std.proofs.Common.{◌≡◌, map, take}
-use Rattle.cb_link.specs.Counting.{count_above}
+use Rattle.cb_link.specs.InnerCounts.{count_above}
 use Rattle.cb_link.proofs.slots.counts_above.Given as goal
 
 abbrev pub invariant-loop-class : goal.invariant-loop-class

@@ -1,6 +1,6 @@
 use Rattle.std.proofs.Common.{◌≡◌, ◌∙◌, ap, subst, sym, map, Some}
 use Rattle.std.specs.Prelude.{slice_get}
-use Rattle.cb_link.specs.Counting.{HasCounted, count_above}
+use Rattle.cb_link.specs.InnerCounts.{HasCounted, count_above}
 use Rattle.cb_link.proofs.Slotted.{counted_more, counted_none}
 use Rattle.cb_link.proofs.slots.slots.Goals as goal
 

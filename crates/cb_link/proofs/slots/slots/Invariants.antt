@@ -1,4 +1,4 @@
-use Rattle.cb_link.specs.Counting.{HasCounted}
+use Rattle.cb_link.specs.InnerCounts.{HasCounted}
 use Rattle.cb_link.proofs.slots.slots.Given as goal
 
 abbrev pub invariant-loop-index : goal.invariant-loop-index

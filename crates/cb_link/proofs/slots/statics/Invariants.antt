@@ -1,5 +1,5 @@
 use Rattle.std.proofs.Common.{◌≡◌, ◌≤◌, length, take}
-use Rattle.cb_link.specs.Counting.{statics_in}
+use Rattle.cb_link.specs.InnerCounts.{statics_in}
 use Rattle.cb_link.proofs.slots.statics.Given as goal
 
 abbrev pub invariant-loop-number : goal.invariant-loop-number

@@ -5,7 +5,7 @@ use Rattle.cb_link.specs.Numbers.{same_name}
 use Rattle.cb_link.specs.Having.{HasOwnName}
 use Rattle.cb_link.specs.declared.refusal.Refusal.TheVariants.{FolderFault}
 use Rattle.cb_load.specs.Loading.{AreLoaded, Stops}
-use Rattle.cb_load.specs.Turning.{AreAbsent, IsNext, Stands}
+use Rattle.cb_load.specs.InnerTurns.{AreAbsent, IsNext, Stands}
 use Rattle.cb_link.proofs.Laws.{handed_from}
 use Rattle.cb_load.proofs.LoadFaults.{fault_of_ok, fault_then, no_fault}
 use Rattle.cb_load.proofs.LinkLaws.{few_of_library}

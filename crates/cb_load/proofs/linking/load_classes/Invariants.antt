@@ -1,6 +1,6 @@
 use Rattle.std.proofs.Common.{◌≡◌, ◌-◌, ◌≤◌, length}
 use Rattle.cb_io.specs.Faults.{CountsFaults}
-use Rattle.cb_load.specs.Turning.{AreAbsent, Stands}
+use Rattle.cb_load.specs.InnerTurns.{AreAbsent, Stands}
 use Rattle.cb_load.proofs.linking.load_classes.Given as goal
 
 abbrev pub invariant-loop-absent : goal.invariant-loop-absent

@@ -2,7 +2,7 @@ use Rattle.std.proofs.Common.{◌∙◌, sym, subst}
 use Rattle.std.proofs.lemmas.Bool.{false≢true}
 use Rattle.cb_load.specs.Names.{Entry}
 use Rattle.cb_load.specs.Loading.{IsClassOf}
-use Rattle.cb_load.specs.Turning.{StopsAt}
+use Rattle.cb_load.specs.InnerTurns.{StopsAt}
 use Rattle.cb_link.proofs.Laws.{handed}
 use Rattle.cb_load.proofs.LoadFiles.{crowded_entry, long_entry, missing_entry, no_class_entry, opaque_entry, read_entry}
 use Rattle.cb_load.proofs.loading.class_for.Goals as goal

@@ -1,6 +1,6 @@
 use Rattle.std.proofs.Common.{take}
 use Rattle.std.specs.List.{flat_map}
-use Rattle.cb_load.specs.Using.{Enters}
+use Rattle.cb_load.specs.InnerUses.{Enters}
 use Rattle.cb_load.proofs.names.enter_each.Given as goal
 
 abbrev pub invariant-loop-item : goal.invariant-loop-item

@@ -1,5 +1,5 @@
 use Rattle.std.proofs.Common.{◌≡◌, length}
-use Rattle.cb_load.specs.Entering.{marked}
+use Rattle.cb_load.specs.InnerEntering.{marked}
 use Rattle.cb_load.specs.Inner.{entered_all}
 use Rattle.cb_load.specs.Names.{names_in}
 use Rattle.cb_load.proofs.text_names.enter_descriptor.Given as goal

@@ -1,7 +1,7 @@
 use Rattle.std.proofs.Common.{◌≡◌, ◌∙◌, ap, sym, subst, [], IfOk, Option}
 use Rattle.cb_verify.specs.Expansion.{reversed}
 use Rattle.cb_verify.specs.Frames.{Frame, with_stack}
-use Rattle.cb_verify.specs.Laid.{bare}
+use Rattle.cb_verify.specs.InnerLaid.{bare}
 use Rattle.cb_verify.specs.Within.{Within}
 use Rattle.cb_verify.proofs.Stacking.{framed}
 use Rattle.cb_verify.proofs.expansion.frame_of.Goals as goal

@@ -1,5 +1,5 @@
 use Rattle.std.proofs.Common.{◌≡◌, ℕ, ◌+◌, ◌-◌, length}
-use Rattle.cb_verify.specs.Tabled.{turn_in}
+use Rattle.cb_verify.specs.InnerTables.{turn_in}
 use Rattle.cb_verify.proofs.frame_table.reach.Given as goal
 
 abbrev pub invariant-loop-row : goal.invariant-loop-row

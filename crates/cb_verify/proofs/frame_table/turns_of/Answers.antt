@@ -2,7 +2,7 @@ use Rattle.std.proofs.Common.{◌≡◌, ◌∙◌, ap, arith, sym, ℕ, ◌+◌
 use Rattle.std.specs.Prelude.{option_and_then, slice_get}
 use Rattle.std.specs.List.{find}
 use Rattle.cb_verify.specs.Frames.{Frame}
-use Rattle.cb_verify.specs.Tabled.{entered_turn, turn_in}
+use Rattle.cb_verify.specs.InnerTables.{entered_turn, turn_in}
 use Rattle.cb_verify.proofs.Tables.{below_items, entered_next}
 use Rattle.cb_verify.proofs.frame_table.turns_of.Goals as goal
 

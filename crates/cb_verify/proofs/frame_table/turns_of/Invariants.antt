@@ -1,7 +1,7 @@
 use Rattle.std.proofs.Common.{◌≡◌, ◌≤◌, ℕ, ◌==◌, drop}
 use Rattle.std.specs.Prelude.{option_and_then, slice_get}
 use Rattle.std.specs.List.{find}
-use Rattle.cb_verify.specs.Tabled.{turn_in}
+use Rattle.cb_verify.specs.InnerTables.{turn_in}
 use Rattle.cb_verify.proofs.frame_table.turns_of.Given as goal
 
 abbrev pub invariant-loop-turn : goal.invariant-loop-turn

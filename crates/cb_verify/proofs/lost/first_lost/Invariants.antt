@@ -1,5 +1,5 @@
 use Rattle.std.proofs.Common.{◌≡◌, drop}
-use Rattle.cb_verify.specs.Passing.{lesser, stranded}
+use Rattle.cb_verify.specs.InnerPassing.{lesser, stranded}
 use Rattle.cb_verify.specs.Typed.{least}
 use Rattle.cb_verify.proofs.lost.first_lost.Given as goal
 

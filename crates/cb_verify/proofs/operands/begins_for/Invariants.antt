@@ -1,5 +1,5 @@
 use Rattle.std.proofs.Common.{◌≡◌, drop}
-use Rattle.cb_verify.specs.Prefixes.{begins_as, is_wanted}
+use Rattle.cb_verify.specs.InnerPrefixes.{begins_as, is_wanted}
 use Rattle.cb_verify.proofs.operands.begins_for.Given as goal
 
 abbrev pub invariant-loop-place : goal.invariant-loop-place

@@ -1,5 +1,5 @@
 use Rattle.std.proofs.Common.{◌≡◌, drop}
-use Rattle.cb_verify.specs.Prefixes.{begins_as}
+use Rattle.cb_verify.specs.InnerPrefixes.{begins_as}
 use Rattle.cb_verify.specs.Types.{is_of}
 use Rattle.cb_verify.proofs.operands.begins_with.Given as goal
 

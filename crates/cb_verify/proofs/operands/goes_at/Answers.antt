@@ -1,6 +1,6 @@
 use Rattle.std.proofs.Common.{◌∙◌, ap, arith, ◌+◌, ◌&&◌, drop, nat_lt, sym}
-use Rattle.cb_verify.specs.Prefixes.{begins_as}
-use Rattle.cb_verify.specs.Prefixes.{is_wanted}
+use Rattle.cb_verify.specs.InnerPrefixes.{begins_as}
+use Rattle.cb_verify.specs.InnerPrefixes.{is_wanted}
 use Rattle.cb_verify.specs.Types.{goes_to}
 use Rattle.cb_verify.proofs.Prefixes.{not_one_more, one_more}
 use Rattle.cb_verify.proofs.operands.goes_at.Goals as goal

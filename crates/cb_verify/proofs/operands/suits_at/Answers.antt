@@ -1,5 +1,5 @@
 use Rattle.std.proofs.Common.{◌∙◌, ap, arith, ◌+◌, ◌&&◌, drop, nat_lt, sym}
-use Rattle.cb_verify.specs.Prefixes.{begins_as}
+use Rattle.cb_verify.specs.InnerPrefixes.{begins_as}
 use Rattle.cb_verify.specs.Types.{is_of}
 use Rattle.cb_verify.proofs.Prefixes.{not_one_more, one_more}
 use Rattle.cb_verify.proofs.operands.suits_at.Goals as goal

@@ -1,7 +1,7 @@
 use Rattle.std.proofs.Common.{◌≡◌, ◌∙◌, ap, sym, ℕ, List, [], Option, None, drop}
 use Rattle.cb_insn.specs.declared.insn.Insn.{Insn}
 use Rattle.cb_verify.specs.declared.pass.Walk.{Walk}
-use Rattle.cb_verify.specs.Passing.{walked}
+use Rattle.cb_verify.specs.InnerPassing.{walked}
 use Rattle.cb_verify.specs.Typed.{Declared}
 use Rattle.cb_verify.specs.Within.{Within}
 use Rattle.cb_verify.specs.Frames.{Frame}

@@ -1,5 +1,5 @@
 use Rattle.std.proofs.Common.{◌≡◌, [], None, drop}
-use Rattle.cb_verify.specs.Passing.{walked}
+use Rattle.cb_verify.specs.InnerPassing.{walked}
 use Rattle.cb_verify.proofs.pass.walk_over.Given as goal
 
 abbrev pub invariant-loop-turn : goal.invariant-loop-turn

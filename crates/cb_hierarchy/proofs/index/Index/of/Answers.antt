@@ -1,6 +1,6 @@
 use Rattle.std.proofs.Common.{◌∙◌, ap, sym, subst, arith, map, take, ◌++◌, ◌∷◌, []}
 use Rattle.std.specs.HashMap.{get}
-use Rattle.cb_hierarchy.specs.Indexed.{IsIndexOf, same_member}
+use Rattle.cb_hierarchy.specs.InnerIndex.{IsIndexOf, same_member}
 use Rattle.cb_hierarchy.proofs.IndexLaws.{inserted, kept, one_more, taken}
 use Rattle.cb_hierarchy.proofs.index.Index.of.Goals as goal
 use Rattle.cb_hierarchy.proofs.index.Index.of.Goals.{then-not-contains_key+in_ok-insert, else-not-contains_key}

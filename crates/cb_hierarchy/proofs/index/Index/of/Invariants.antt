@@ -1,6 +1,6 @@
 use Rattle.std.proofs.Common.{◌≡◌, map, take}
 use Rattle.std.specs.HashMap.{get}
-use Rattle.cb_hierarchy.specs.Indexed.{IsIndexOf, same_member}
+use Rattle.cb_hierarchy.specs.InnerIndex.{IsIndexOf, same_member}
 use Rattle.cb_hierarchy.proofs.index.Index.of.Given as goal
 
 abbrev pub invariant-loop-member : goal.invariant-loop-member

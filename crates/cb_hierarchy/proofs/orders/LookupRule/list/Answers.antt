@@ -4,7 +4,7 @@ use Rattle.cb_hierarchy.proofs.Named.{superclass_is, superclass_below, superinte
 use Rattle.cb_hierarchy.specs.Classes.{superinterfaces}
 use Rattle.cb_hierarchy.specs.Inner.{list_at}
 use Rattle.cb_hierarchy.specs.Orders.{distinct}
-use Rattle.cb_hierarchy.specs.Rows.{superclass_named}
+use Rattle.cb_hierarchy.specs.InnerRows.{superclass_named}
 use Rattle.cb_hierarchy.proofs.orders.LookupRule.list.Goals as goal
 
 pub append_lists-requires : goal.append_lists-requires

@@ -1,5 +1,5 @@
 use Rattle.std.proofs.Common.{◌∙◌, arith, length-set, get_or, refl, subst}
-use Rattle.cb_hierarchy.specs.Reaching.{IsRowBy}
+use Rattle.cb_hierarchy.specs.InnerReaching.{IsRowBy}
 use Rattle.cb_hierarchy.proofs.ReachLaws.{class_within, row_more, table_is}
 use Rattle.cb_hierarchy.proofs.selection.Selection.of.Goals as goal
 

@@ -1,6 +1,6 @@
 use Rattle.std.proofs.Common.{◌≡◌, ℕ, length, take}
 use Rattle.std.specs.List.{Contains}
-use Rattle.cb_hierarchy.specs.Reaching.{IsMade}
+use Rattle.cb_hierarchy.specs.InnerReaching.{IsMade}
 use Rattle.cb_hierarchy.proofs.selection.Selection.of.Given as goal
 
 abbrev pub invariant-loop-class : goal.invariant-loop-class

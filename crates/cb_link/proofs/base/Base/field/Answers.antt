@@ -1,5 +1,5 @@
 use Rattle.std.proofs.Common.{subst}
-use Rattle.cb_link.specs.Turned.{HasField}
+use Rattle.cb_link.specs.InnerPlaces.{HasField}
 use Rattle.cb_link.proofs.PlacedLaws.{has_field}
 use Rattle.cb_link.proofs.base.Base.field.Goals as goal
 

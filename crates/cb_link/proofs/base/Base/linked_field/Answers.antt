@@ -1,5 +1,5 @@
 use Rattle.std.proofs.Common.{length, subst}
-use Rattle.cb_link.specs.Counting.{HasField}
+use Rattle.cb_link.specs.InnerCounts.{HasField}
 use Rattle.cb_link.specs.Having.{IsBelow}
 use Rattle.cb_link.proofs.FieldPlaces.{has_field}
 use Rattle.cb_link.proofs.MembersAmong.{field_within}

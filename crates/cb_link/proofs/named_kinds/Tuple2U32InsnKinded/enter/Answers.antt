@@ -2,7 +2,7 @@ use Rattle.std.proofs.Common.{◌∙◌, ap}
 use Rattle.std.specs.List.{flat_map}
 use Rattle.cb_kinds.specs.Kinds.{kinds_of_name}
 use Rattle.cb_kinds.specs.Texts.{entered_all}
-use Rattle.cb_link.specs.Kinded.{named_kinds}
+use Rattle.cb_link.specs.InnerOperands.{named_kinds}
 use Rattle.cb_link.specs.Making.{made_by}
 use Rattle.cb_link.proofs.KindedParts.{then_more}
 use Rattle.cb_link.proofs.named_kinds.Tuple2U32InsnKinded.enter.Goals as goal

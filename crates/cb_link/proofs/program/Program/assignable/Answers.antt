@@ -1,6 +1,6 @@
 use Rattle.std.proofs.Common.{◌∙◌, ap, subst}
-use Rattle.cb_link.specs.Formed.{compared}
-use Rattle.cb_link.specs.Tabled.{IsKindTable}
+use Rattle.cb_link.specs.InnerKinds.{compared}
+use Rattle.cb_link.specs.InnerTables.{IsKindTable}
 use Rattle.cb_link.proofs.KindLaws.{assignable_is, inner_within}
 use Rattle.cb_link.proofs.program.Program.assignable.Goals as goal
 

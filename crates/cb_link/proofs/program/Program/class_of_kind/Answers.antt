@@ -1,5 +1,5 @@
 use Rattle.std.proofs.Common.{subst}
-use Rattle.cb_link.specs.Tabled.{IsKindTable}
+use Rattle.cb_link.specs.InnerTables.{IsKindTable}
 use Rattle.cb_link.proofs.KindLaws.{class_within}
 use Rattle.cb_link.proofs.program.Program.class_of_kind.Goals as goal
 

@@ -1,5 +1,5 @@
 use Rattle.std.proofs.Common.{◌∙◌, ◌≤◌, ap, length, arith}
-use Rattle.cb_link.specs.Turned.{constant_of}
+use Rattle.cb_link.specs.InnerPlaces.{constant_of}
 use Rattle.cb_link.proofs.ConstantAnswers.{nothing_there, told_there}
 use Rattle.cb_link.proofs.program.Program.constant_of.Goals as goal
 

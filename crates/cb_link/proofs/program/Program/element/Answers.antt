@@ -1,6 +1,6 @@
 use Rattle.std.proofs.Common.{subst}
 use Rattle.cb_link.specs.Having.{IsWhole}
-use Rattle.cb_link.specs.Tabled.{IsKindTable}
+use Rattle.cb_link.specs.InnerTables.{IsKindTable}
 use Rattle.cb_link.proofs.KindLaws.{element_within}
 use Rattle.cb_link.proofs.program.Program.element.Goals as goal
 

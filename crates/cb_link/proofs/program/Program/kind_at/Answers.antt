@@ -1,6 +1,6 @@
 use Rattle.std.proofs.Common.{◌≡◌, ◌∙◌, ◌<◌, IfSome, ap, length, subst, sym}
 use Rattle.cb_link.specs.Named.{kind_at}
-use Rattle.cb_link.specs.Turned.{kind_of}
+use Rattle.cb_link.specs.InnerPlaces.{kind_of}
 use Rattle.cb_link.proofs.ConstantAnswers.{kind_of_constant}
 use Rattle.cb_link.proofs.NamedThere.{kind_at_below}
 use Rattle.cb_link.proofs.program.Program.kind_at.Goals as goal

@@ -3,7 +3,7 @@ use Rattle.std.specs.Prelude.{slice_get}
 use Rattle.cb_link.specs.Having.{IsWhole}
 use Rattle.cb_link.specs.Named.{IsThere}
 use Rattle.cb_link.specs.Slots.{statics}
-use Rattle.cb_link.specs.Turned.{HasField}
+use Rattle.cb_link.specs.InnerPlaces.{HasField}
 use Rattle.cb_link.proofs.ConstantAnswers.{field_class, field_place, initial_is, static_within}
 use Rattle.cb_link.proofs.NamedThere.{class_constant_there}
 use Rattle.cb_link.proofs.program.Program.static_initial.Goals as goal

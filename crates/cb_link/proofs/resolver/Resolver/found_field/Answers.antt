@@ -1,7 +1,7 @@
 use Rattle.std.proofs.Common.{◌∙◌, ap, ap₂, sym, List, ℕ}
 use Rattle.cb_hierarchy.specs.Resolution.{resolved_field}
 use Rattle.cb_kinds.specs.Texts.{number_of_pair}
-use Rattle.cb_link.specs.Inside.{names_of_member}
+use Rattle.cb_link.specs.Inner.{names_of_member}
 use Rattle.cb_link.specs.Numbers.{field_texts, hierarchy, ranked_fields}
 use Rattle.cb_link.proofs.Finding.{field_is}
 use Rattle.cb_link.proofs.resolver.Resolver.found_field.Goals as goal

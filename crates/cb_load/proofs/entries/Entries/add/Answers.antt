@@ -2,7 +2,7 @@ use Rattle.std.proofs.Common.{◌∙◌, ap, map}
 use Rattle.std.specs.List.{list_any}
 use Rattle.cb_load.specs.Closure.{covers}
 use Rattle.cb_load.specs.Inner.{entered}
-use Rattle.cb_load.specs.Entering.{key_entry}
+use Rattle.cb_load.specs.InnerEntering.{key_entry}
 use Rattle.cb_load.proofs.EnteredKeys.{inserted}
 use Rattle.cb_load.proofs.entries.Entries.add.Goals as goal
 

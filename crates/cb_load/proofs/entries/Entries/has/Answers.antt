@@ -1,6 +1,6 @@
 use Rattle.std.proofs.Common.{◌∙◌, ap}
 use Rattle.std.specs.List.{list_any}
-use Rattle.cb_load.specs.Entering.{is_same}
+use Rattle.cb_load.specs.InnerEntering.{is_same}
 use Rattle.cb_load.proofs.EnteredKeys.{found}
 use Rattle.cb_load.proofs.entries.Entries.has.Goals as goal
 

@@ -2,7 +2,7 @@ use Rattle.std.proofs.Common.{◌≡◌, ◌<◌, ◌≤◌, ◌∙◌, length, 
 use Rattle.std.specs.List.{list_any}
 use Rattle.cb_link.specs.Numbers.{same_name}
 use Rattle.cb_link.specs.declared.refusal.Refusal.TheVariants.{FolderFault}
-use Rattle.cb_load.specs.Turning.{AreAbsent}
+use Rattle.cb_load.specs.InnerTurns.{AreAbsent}
 use Rattle.cb_load.specs.Loading.{Stops}
 use Rattle.cb_load.specs.Files.{MayStandAt, path_of}
 use Rattle.cb_link.proofs.Laws.{handed}

@@ -1,7 +1,7 @@
 use Rattle.std.proofs.Common.{◌≡◌, List, ℕ}
 use Rattle.cb_io.specs.Faults.{CountsFaults}
 use Rattle.cb_classfile.specs.declared.class.ClassFile.{ClassFile}
-use Rattle.cb_load.specs.Turning.{AreAbsent, Stands}
+use Rattle.cb_load.specs.InnerTurns.{AreAbsent, Stands}
 use Rattle.cb_load.proofs.loading.Loading.next.Given as goal
 
 abbrev pub invariant-loop-place : goal.invariant-loop-place

@@ -1,6 +1,6 @@
 use Rattle.std.proofs.Common.{◌∙◌, ap, ◌++◌, ◌∷◌, []}
 use Rattle.std.specs.List.{list_any}
-use Rattle.cb_load.specs.Using.{is_use}
+use Rattle.cb_load.specs.InnerUses.{is_use}
 use Rattle.cb_load.proofs.UsedLaws.{added}
 use Rattle.cb_load.proofs.uses.Uses.add.Goals as goal
 

@@ -1,6 +1,6 @@
 use Rattle.std.proofs.Common.{◌≡◌, ◌∙◌, ap, sym, [], ◌∷◌, ◌++◌, ◌+◌, get_or, length, take}
 use Rattle.cb_verify.specs.declared.verification_type.VerificationType.TheVariants.{Top}
-use Rattle.cb_verify.specs.Laid.{laid_in}
+use Rattle.cb_verify.specs.InnerLaid.{laid_in}
 use Rattle.cb_verify.proofs.LaidSteps.{added_more, added_never, holds, step_said}
 use Rattle.cb_verify.proofs.laid.Laid.append.Goals as goal
 

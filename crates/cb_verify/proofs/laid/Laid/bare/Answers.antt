@@ -1,7 +1,7 @@
 use Rattle.std.proofs.Common.{◌≡◌, ◌∙◌, ap, sym, subst, [], nat_lt}
 use Rattle.cb_verify.specs.Frames.{has_this}
-use Rattle.cb_verify.specs.Laid.{Laid, bare}
-use Rattle.cb_verify.specs.Locals.{IsKnownTo}
+use Rattle.cb_verify.specs.InnerLaid.{Laid, bare}
+use Rattle.cb_verify.specs.InnerLocals.{IsKnownTo}
 use Rattle.cb_verify.proofs.Known.{known_laid}
 use Rattle.cb_verify.proofs.LaidValues.{some_this}
 use Rattle.cb_verify.proofs.laid.Laid.bare.Goals as goal

@@ -1,7 +1,7 @@
 use Rattle.std.proofs.Common.{◌≡◌, ◌∙◌, ap, sym, subst, arith, Some, length, ◌-◌, take}
 use Rattle.cb_verify.specs.declared.verification_type.VerificationType.TheVariants.{Top}
 use Rattle.cb_verify.specs.Frames.{height}
-use Rattle.cb_verify.specs.Laid.{Laid, laid_in, this_count}
+use Rattle.cb_verify.specs.InnerLaid.{Laid, laid_in, this_count}
 use Rattle.cb_verify.proofs.LaidSteps.{kept_length, laid_same, popped, some_words, without_one}
 use Rattle.cb_verify.proofs.LaidValues.{count_push, height-push, lies_within}
 use Rattle.cb_verify.proofs.laid.Laid.pop.Goals as goal

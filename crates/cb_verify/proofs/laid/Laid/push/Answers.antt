@@ -1,6 +1,6 @@
 use Rattle.std.proofs.Common.{◌≡◌, ◌∙◌, ap, sym, subst, arith, None, Some, length, ◌+◌, ◌≤◌, ◌++◌, ◌∷◌, []}
 use Rattle.cb_verify.specs.Frames.{height}
-use Rattle.cb_verify.specs.Laid.{Laid, laid_in, this_count}
+use Rattle.cb_verify.specs.InnerLaid.{Laid, laid_in, this_count}
 use Rattle.cb_verify.specs.Types.{words}
 use Rattle.cb_verify.proofs.LaidSteps.{kept_length, laid_same, no_room, pushed, some_words}
 use Rattle.cb_verify.proofs.LaidValues.{count_push, few_this, height-push, lies_within}

@@ -1,6 +1,6 @@
 use Rattle.std.proofs.Common.{◌∙◌, ap, sym, arith, List, ◌-◌, ◌+◌, ◌≤◌, length, take, Some}
 use Rattle.cb_verify.specs.declared.verification_type.VerificationType.{VerificationType}
-use Rattle.cb_verify.specs.Laid.{Laid, laid_in}
+use Rattle.cb_verify.specs.InnerLaid.{Laid, laid_in}
 use Rattle.cb_verify.proofs.LaidSteps.{holds, left_less, step_said}
 use Rattle.cb_verify.proofs.laid.Laid.without_last.Goals as goal
 

@@ -1,6 +1,6 @@
 use Rattle.std.proofs.Common.{refl, sym, subst, arith}
 use Rattle.std.specs.Cmp.Lexicographic.{unequal}
-use Rattle.cb_verify.specs.Locals.{IsKnownTo}
+use Rattle.cb_verify.specs.InnerLocals.{IsKnownTo}
 use Rattle.cb_verify.specs.Types.{goes_to}
 use Rattle.cb_verify.proofs.FrameLists.{pair_failed, pair_left}
 use Rattle.cb_verify.proofs.Known.{pairs_known}

@@ -1,6 +1,6 @@
 use Rattle.std.proofs.Common.{◌∙◌, ap, sym, subst, arith, cond, length}
 use Rattle.cb_verify.specs.Frames.{is_same}
-use Rattle.cb_verify.specs.Locals.{IsKnownTo}
+use Rattle.cb_verify.specs.InnerLocals.{IsKnownTo}
 use Rattle.cb_verify.proofs.FrameLists.{split_kept, split_length, split_put}
 use Rattle.cb_verify.proofs.Known.{replaced_known}
 use Rattle.cb_verify.proofs.locals.Locals.replaced.Goals as goal

@@ -1,6 +1,6 @@
 use Rattle.std.proofs.Common.{ap, sym, subst, arith, ℕ, ◌+◌, ◌≤◌, List, length}
 use Rattle.cb_verify.specs.declared.verification_type.VerificationType.{VerificationType}
-use Rattle.cb_verify.specs.Locals.{IsKnownTo}
+use Rattle.cb_verify.specs.InnerLocals.{IsKnownTo}
 use Rattle.cb_verify.proofs.Known.{known_more}
 use Rattle.cb_verify.proofs.locals.Locals.with.Goals as goal
 use Rattle.cb_verify.proofs.locals.Locals.with.Goals.{then-number-self, else-number-self}

@@ -1,6 +1,6 @@
 use Rattle.std.proofs.Common.{◌∙◌, ◌+◌, ◌++◌, ap, sym, take}
 use Rattle.std.specs.Option.{option_and_then}
-use Rattle.cb_verify.specs.Copies.{inserted}
+use Rattle.cb_verify.specs.InnerCopies.{inserted}
 use Rattle.cb_verify.specs.Frames.{Frame, with_stack}
 use Rattle.cb_verify.proofs.FrameLists.{legal_is}
 use Rattle.cb_verify.proofs.Shuffling.{copied_is}

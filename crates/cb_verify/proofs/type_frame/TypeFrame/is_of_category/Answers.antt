@@ -1,5 +1,5 @@
 use Rattle.std.proofs.Common.{◌∙◌, ap, sym}
-use Rattle.cb_verify.specs.Copies.{is_category}
+use Rattle.cb_verify.specs.InnerCopies.{is_category}
 use Rattle.cb_verify.proofs.FrameLists.{begins_at}
 use Rattle.cb_verify.proofs.type_frame.TypeFrame.is_of_category.Goals as goal
 

@@ -6,7 +6,7 @@ use Rattle.cb_hierarchy.specs.declared.member.Method.{Method}
 use Rattle.cb_hierarchy.specs.Classes.{is_final, is_interface, superclass, superinterfaces}
 use Rattle.cb_hierarchy.specs.Inner.{has, list_at}
 use Rattle.cb_hierarchy.specs.Resolution.{is_private, method_is}
-use Rattle.cb_hierarchy.specs.Rows.{marked}
+use Rattle.cb_hierarchy.specs.InnerRows.{marked}
 use Rattle.cb_hierarchy.specs.Selection.{is_seen}
 
 -- whether a method of a signature is final and not static

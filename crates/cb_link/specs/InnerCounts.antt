@@ -14,7 +14,7 @@ use Rattle.cb_link.specs.Numbers.{Numbered, fields_of, hierarchy, ranked_methods
 use Rattle.cb_link.specs.Places.{IsPlaced}
 use Rattle.cb_link.specs.Program.{Linked, linked_field}
 use Rattle.cb_link.specs.Slots.{is_enum_static, is_own, slot_of}
-use Rattle.cb_link.specs.Tabled.{AreAll}
+use Rattle.cb_link.specs.InnerTables.{AreAll}
 
 -- the numbers of the static fields
 abbrev pub statics_in : List RankedField → List ℕ

@@ -5,7 +5,7 @@ use Rattle.cb_hierarchy.specs.Above.{IsAcyclic}
 use Rattle.cb_hierarchy.specs.Classes.{AreClasses}
 use Rattle.cb_hierarchy.specs.Inner.{IsParentsFirst}
 use Rattle.cb_hierarchy.specs.Orders.{is_subclass, lookup_order, upwards}
-use Rattle.cb_hierarchy.specs.Rows.{marked}
+use Rattle.cb_hierarchy.specs.InnerRows.{marked}
 
 -- the classes parents first, their lists upwards and those of lookup, and a row for each that marks its list of lookup
 pub record AreKept (classes : List Class) (order : List ℕ) (upward lookup : List (List ℕ)) (rows : List (List Bool)) : Type 0 where

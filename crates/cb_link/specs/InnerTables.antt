@@ -13,12 +13,12 @@ use Rattle.cb_link.specs.declared.kind_table.KindTable.{KindTable}
 use Rattle.cb_link.specs.declared.place_tables.PlaceTables.{PlaceTables}
 use Rattle.cb_link.specs.declared.places.Places.{Places}
 use Rattle.cb_link.specs.Calls.{initial_parents, initialiser}
-use Rattle.cb_link.specs.Formed.{row_of}
+use Rattle.cb_link.specs.InnerKinds.{row_of}
 use Rattle.cb_link.specs.Having.{IsWhole}
 use Rattle.cb_link.specs.Numbers.{hierarchy, name_of, ranked_fields, ranked_methods}
 use Rattle.cb_link.specs.Program.{Linked}
 use Rattle.cb_link.specs.Slots.{enum_statics, object_fields, shape, slot_of, statics}
-use Rattle.cb_link.specs.Turned.{HasPlaces, constants_of, sites_before}
+use Rattle.cb_link.specs.InnerPlaces.{HasPlaces, constants_of, sites_before}
 
 -- a list has so many entries, and each is what is said of its place
 pub record AreAll {A : Type 0} (count : ℕ) (said : ℕ → A) (entries : List A) : Type 0 where

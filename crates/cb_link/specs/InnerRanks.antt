@@ -13,7 +13,8 @@ use Rattle.cb_hierarchy.specs.declared.member.Method.{Method as RankedMethod}
 use Rattle.cb_hierarchy.specs.Classes.{listed}
 use Rattle.cb_kinds.specs.Basics.{kind_number}
 use Rattle.cb_kinds.specs.Texts.{number_of, own_number}
-use Rattle.cb_link.specs.Numbers.{acc_abstract, acc_final, acc_interface, acc_static, has_flag, name_of, package_of, texts_in, visibility_of}
+use Rattle.cb_classfile.specs.Flags.{acc_abstract, acc_interface, acc_static}
+use Rattle.cb_link.specs.Numbers.{acc_final, has_flag, name_of, package_of, texts_in, visibility_of}
 
 abbrev pub number_at : List (List ℕ) → List Constant → ℕ → Option ℕ
 number_at names pool index = option_and_then (number_of names) (class_at pool index)

@@ -7,7 +7,7 @@ use Rattle.cb_text.specs.Naming.{MemberNames, member_at, text_at}
 use Rattle.cb_load.specs.declared.uses.Use.{Use}
 use Rattle.cb_load.specs.Names.{Entry, all_of, class_names, names_in}
 use Rattle.cb_load.specs.Closure.{covers}
-use Rattle.cb_load.specs.Entering.{marked}
+use Rattle.cb_load.specs.InnerEntering.{marked}
 use Rattle.cb_load.specs.Inner.{entered_all}
 
 -- whether a use is just this one
