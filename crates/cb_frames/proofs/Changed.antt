@@ -1,5 +1,5 @@
 -- The topmost frame changed in its slots, and what is read there.
-use Rattle.std.proofs.Common.{◌≡◌, ◌∙◌, sym, refl, ap, subst, arith, ℕ, ◌+◌, ◌-◌, ◌<◌, ◌≤◌, Some, List, [], ◌∷◌, ◌++◌, length, drop, take, get_or, reverse, slice_get, slice_range, slice_set, length-set}
+use Rattle.std.proofs.Common.{◌≡◌, ◌∙◌, sym, refl, ap, subst, arith, ℕ, ◌+◌, ◌-◌, ◌<◌, ◌≤◌, Some, List, [], ◌∷◌, ◌++◌, length, drop, take, get_or, reverse, slice_get, slice_range, slice_set, length-drop, length-set}
 use Rattle.std.proofs.lemmas.List.{drop-drop, drop-replicate, drop-set-lt, drop-take, drop_all, drop_at, get_or-reverse, get_or-set_same, length-reverse, reverse-append, reverse-reverse, take-set-le, take_at}
 use Rattle.std.proofs.lemmas.List.Edits.{between_more, between_none, get_or-between, length-between}
 use Rattle.std.proofs.lemmas.Option.{slice_get-get_or}
@@ -9,7 +9,7 @@ use Rattle.cb_frames.specs.declared.standing.Standing.{Standing}
 use Rattle.cb_frames.specs.declared.standing.What.{What}
 use Rattle.cb_frames.specs.declared.standing.What.TheVariants as whats
 use Rattle.cb_frames.specs.Inner.{AreStacked, IsPlaced, blank, blanks, frame_as, frames_in, wiped}
-use Rattle.cb_frames.specs.Tops.{at_place, locals_in, on_top, room_in, stack_in, with_locals, with_stack}
+use Rattle.cb_frames.specs.Tops.{at_place, changed_in, locals_in, on_top, room_in, stack_in, with_locals, with_stack}
 use Rattle.cb_frames.proofs.Parts.{filled_behind, filled_front, filled_length, filled_part, joined_parts, one_filled, part_set_above, part_set_below, part_set_within, same_behind, same_front, same_part, taken_of_none}
 use Rattle.cb_frames.proofs.Stacked.{Kept, kept_placed}
 
@@ -101,6 +101,21 @@ room_as whats.Class xs top lie some = absurd (omega (arith, some))
 pub room_within : (xs : List Value) (top : Standing) (list : List Standing) → AreStacked xs top list → top.end ≤ length xs → 0 < on_top 0 room_in (frames_in xs top list) → top.next < top.end
 room_within xs top [] are inside some = absurd (omega (arith, some))
 room_within xs top (below ∷ rest) are inside some = room_as top.what xs top (lies xs below.end top are.0 inside) some
+
+-- without its topmost value the stack has room for one more
+popped_room_as : (what : What) (xs : List Value) (top : Standing) → Lies xs top → 0 < length (stack_in (frame_as what xs top))
+    → room_in (with_stack (λ stack. drop 1 stack) (frame_as what xs top)) ≡ room_in (frame_as what xs top) + 1
+popped_room_as whats.Method xs top lie some =
+    let locals : length (slice_range xs top.base top.floor) ≡ top.floor - top.base = length-between xs top.base top.floor (omega (arith, lie.stack, lie.room, lie.inside)) in
+    let stack : length (slice_range xs top.floor top.next) ≡ top.next - top.floor = length-between xs top.floor top.next (omega (arith, lie.room, lie.inside)) in
+    let turned : length (reverse (slice_range xs top.floor top.next)) ≡ length (slice_range xs top.floor top.next) = length-reverse (slice_range xs top.floor top.next) in
+    omega (arith, some, locals, stack, turned, length-drop 1 (reverse (slice_range xs top.floor top.next)), lie.locals, lie.stack, lie.room)
+popped_room_as whats.Class xs top lie some = absurd (omega (arith, some))
+
+pub popped_room : (xs : List Value) (top : Standing) (list : List Standing) → AreStacked xs top list → top.end ≤ length xs → 0 < length (on_top [] stack_in (frames_in xs top list))
+    → on_top 0 room_in (changed_in (with_stack (λ stack. drop 1 stack)) (frames_in xs top list)) ≡ on_top 0 room_in (frames_in xs top list) + 1
+popped_room xs top [] are inside some = absurd (omega (arith, some))
+popped_room xs top (below ∷ rest) are inside some = popped_room_as top.what xs top (lies xs below.end top are.0 inside) some
 
 stack_with_more : (xs : List Value) (from next : ℕ) (item : Value) → from ≤ next → next < length xs
     → reverse (slice_range (slice_set xs next item) from (next + 1)) ≡ item ∷ reverse (slice_range xs from next)

@@ -1,5 +1,5 @@
 // The local variables and the stack of the topmost frame.
-ghost use Rattle.std.specs.Prelude.{◌≡◌, ◌<◌, [], ◌∷◌, drop, length, slice_get, slice_set, Some};
+ghost use Rattle.std.specs.Prelude.{◌≡◌, ◌<◌, ◌+◌, [], ◌∷◌, drop, length, slice_get, slice_set, Some};
 ghost use Rattle.cb_frames.specs.Held.{with_change};
 ghost use Rattle.cb_frames.specs.Tops.{locals_in, on_top, room_in, stack_in, with_locals, with_stack};
 
@@ -13,7 +13,7 @@ impl FrameStack {
         requires { i < length (on_top [] locals_in self.now.frames) }
         ensures { slice_get (on_top [] locals_in self.now.frames) i ≡ Some result }
     {
-        self.slots[self.top.base + i as usize]
+        copy_of(&self.slots[self.top.base + i as usize])
     }
 
     /// Gives a local variable another value.
@@ -38,9 +38,10 @@ impl FrameStack {
         requires { 0 < length (on_top [] stack_in self.old.frames) }
         ensures value { slice_get (on_top [] stack_in self.old.frames) 0 ≡ Some result }
         ensures rest { self.new ≡ with_change self.old (with_stack (λ stack. drop 1 stack)) }
+        ensures room { on_top 0 room_in self.new.frames ≡ on_top 0 room_in self.old.frames + 1 }
     {
         let next = self.top.next - 1;
-        let value = self.slots[next];
+        let value = copy_of(&self.slots[next]);
         self.slots[next] = Value::Int(0);
         self.top.next = next;
         value
@@ -51,7 +52,7 @@ impl FrameStack {
         requires { below < length (on_top [] stack_in self.now.frames) }
         ensures { slice_get (on_top [] stack_in self.now.frames) below ≡ Some result }
     {
-        self.slots[self.top.next - 1 - below as usize]
+        copy_of(&self.slots[self.top.next - 1 - below as usize])
     }
 
     /// Takes all values from the stack.
@@ -61,5 +62,16 @@ impl FrameStack {
     {
         wipe(&mut self.slots, self.top.floor, self.top.next);
         self.top.next = self.top.floor;
+    }
+}
+
+/// A value that is read as it was written, which is by its kind: a processor waits where it has to read two writes at once.
+fn copy_of(value: &Value) -> Value
+    ensures { result ≡ value.now }
+{
+    match value {
+        Value::Int(number) => Value::Int(*number),
+        Value::Long(number) => Value::Long(*number),
+        Value::Ref(at) => Value::Ref(*at),
     }
 }

@@ -1,5 +1,5 @@
 // The local variables and the stack of the topmost frame of the roots.
-ghost use Rattle.std.specs.Prelude.{◌≡◌, ◌<◌, length, slice_get, IsTrue, Some};
+ghost use Rattle.std.specs.Prelude.{◌≡◌, ◌<◌, ◌+◌, length, slice_get, IsTrue, Some};
 ghost use Rattle.cb_frames.specs.Limited.{with_roots};
 ghost use Rattle.cb_frames.specs.Tops.{cleared, pushed, runs_method, top_locals, top_room, top_stack, with_local, without};
 
@@ -36,6 +36,7 @@ impl Roots {
         requires { 0 < length (top_stack self.old.roots) }
         ensures value { slice_get (top_stack self.old.roots) 0 ≡ Some result }
         ensures rest { self.new ≡ with_roots self.old (without self.old.roots 1) }
+        ensures room { top_room self.new.roots ≡ top_room self.old.roots + 1 }
     {
         self.frames.pop()
     }

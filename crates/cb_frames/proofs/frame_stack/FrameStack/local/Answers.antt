@@ -1,4 +1,4 @@
-use Rattle.std.proofs.Common.{◌<◌, ◌≡◌, [], Some, arith, length, slice_get}
+use Rattle.std.proofs.Common.{◌<◌, ◌≡◌, ◌∙◌, [], Some, ap, arith, length, slice_get, sym}
 use Rattle.cb_frames.specs.Tops.{locals_in, on_top}
 use Rattle.cb_frames.proofs.Changed.{local_read, local_within}
 use Rattle.cb_frames.proofs.Stacked.{few_slots, seen, shown}
@@ -21,3 +21,4 @@ returns c =
     let there = seen (λ frames. c.args.i < length (on_top [] locals_in frames)) c.self.view_is c.requires in
     shown (λ frames. slice_get (on_top [] locals_in frames) c.args.i ≡ Some c.index.result.now) c.self.view_is
     (local_read c.self.inside.slots.items c.self.inside.top _ c.args.i _ c.self.invariant.stacked c.self.invariant.inside there c.index.ensures)
+    ∙ ap Some (sym c.copy_of.ensures)

@@ -1,4 +1,4 @@
-use Rattle.std.proofs.Common.{◌<◌, ◌≡◌, [], Some, arith, length, slice_get}
+use Rattle.std.proofs.Common.{◌<◌, ◌≡◌, ◌∙◌, [], Some, ap, arith, length, slice_get, sym}
 use Rattle.cb_frames.specs.Tops.{on_top, stack_in}
 use Rattle.cb_frames.proofs.Changed.{peeked, stack_counted}
 use Rattle.cb_frames.proofs.Stacked.{seen, shown}
@@ -25,3 +25,4 @@ returns c =
     let there = seen (λ frames. c.args.below < length (on_top [] stack_in frames)) c.self.view_is c.requires in
     shown (λ frames. slice_get (on_top [] stack_in frames) c.args.below ≡ Some c.index.result.now) c.self.view_is
     (peeked c.self.inside.slots.items c.self.inside.top _ c.args.below _ c.self.invariant.stacked c.self.invariant.inside there c.index.ensures)
+    ∙ ap Some (sym c.copy_of.ensures)

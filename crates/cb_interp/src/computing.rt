@@ -1,0 +1,201 @@
+// Instructions that compute from numbers.
+ghost use Rattle.std.specs.Prelude.{◌≡◌, ◌≤◌, ◌<◌, is_some, true, Some};
+ghost use Rattle.std.specs.Int.{int_wrap, w32};
+ghost use Rattle.cb_frames.specs.Tops.{top_room, top_stack};
+ghost use Rattle.cb_shapes.specs.declared.computation.Computation.TheVariants as computations;
+ghost use Rattle.cb_interp.specs.Effects.{behind_computation, computed_on, gave, growth_of};
+
+use crate::operands::{give_for_one, give_for_two, int_at, long_at};
+use cb_arith::{IntOp, LongOp, Narrow, ShiftOp, compare, int_op, long_op, long_shift, narrow};
+use cb_frames::Roots;
+use cb_plain::Value;
+use cb_shapes::Computation;
+
+/// Does to the stack of the topmost frame what a computation does, and says whether it has: a division by zero changes nothing
+/// (JVMS §6.5).
+pub fn compute(roots: &mut Roots, computation: Computation) -> bool
+    requires there { is_some (computed_on computation (top_stack roots.old.roots)) ≡ true }
+    requires room { growth_of computation ≤ top_room roots.old.roots }
+    ensures behind { behind_computation computation roots.old.roots ≡ Some roots.new.roots }
+    ensures limit { roots.new.limit ≡ roots.old.limit }
+    ensures gave { gave computation roots.old.roots ≡ Some result }
+{
+    match computation {
+        Computation::Nothing => true,
+        Computation::IntConstant(number) => int_constant(roots, number),
+        Computation::LongConstant(number) => long_constant(roots, number),
+        Computation::OfInts(op) => of_ints(roots, op),
+        Computation::OfLongs(op) => of_longs(roots, op),
+        Computation::ShiftLong(op) => shift_long(roots, op),
+        Computation::NegateInt => negate_int(roots),
+        Computation::NegateLong => negate_long(roots),
+        Computation::IntToLong => int_to_long(roots),
+        Computation::LongToInt => long_to_int(roots),
+        Computation::MakeNarrow(to) => make_narrow(roots, to),
+        Computation::CompareLongs => compare_longs(roots),
+    }
+}
+
+/// An operation on two ints.
+fn of_ints(roots: &mut Roots, op: IntOp) -> bool
+    requires there { is_some (computed_on (computations.OfInts op) (top_stack roots.old.roots)) ≡ true }
+    ensures behind { behind_computation (computations.OfInts op) roots.old.roots ≡ Some roots.new.roots }
+    ensures limit { roots.new.limit ≡ roots.old.limit }
+    ensures gave { gave (computations.OfInts op) roots.old.roots ≡ Some result }
+{
+    let b = int_at(roots, 0);
+    let a = int_at(roots, 1);
+    match int_op(op, a, b) {
+        Some(number) => {
+            give_for_two(roots, Value::Int(number));
+            true
+        }
+        None => false,
+    }
+}
+
+/// An operation on two longs.
+fn of_longs(roots: &mut Roots, op: LongOp) -> bool
+    requires there { is_some (computed_on (computations.OfLongs op) (top_stack roots.old.roots)) ≡ true }
+    ensures behind { behind_computation (computations.OfLongs op) roots.old.roots ≡ Some roots.new.roots }
+    ensures limit { roots.new.limit ≡ roots.old.limit }
+    ensures gave { gave (computations.OfLongs op) roots.old.roots ≡ Some result }
+{
+    let b = long_at(roots, 0);
+    let a = long_at(roots, 1);
+    match long_op(op, a, b) {
+        Some(number) => {
+            give_for_two(roots, Value::Long(number));
+            true
+        }
+        None => false,
+    }
+}
+
+/// A shift of a long.
+fn shift_long(roots: &mut Roots, op: ShiftOp) -> bool
+    requires there { is_some (computed_on (computations.ShiftLong op) (top_stack roots.old.roots)) ≡ true }
+    ensures behind { behind_computation (computations.ShiftLong op) roots.old.roots ≡ Some roots.new.roots }
+    ensures limit { roots.new.limit ≡ roots.old.limit }
+    ensures gave { gave (computations.ShiftLong op) roots.old.roots ≡ Some result }
+{
+    let by = int_at(roots, 0);
+    let a = long_at(roots, 1);
+    give_for_two(roots, Value::Long(long_shift(op, a, by)));
+    true
+}
+
+/// `lcmp`
+fn compare_longs(roots: &mut Roots) -> bool
+    requires there { is_some (computed_on computations.CompareLongs (top_stack roots.old.roots)) ≡ true }
+    ensures behind { behind_computation computations.CompareLongs roots.old.roots ≡ Some roots.new.roots }
+    ensures limit { roots.new.limit ≡ roots.old.limit }
+    ensures gave { gave computations.CompareLongs roots.old.roots ≡ Some result }
+{
+    let b = long_at(roots, 0);
+    let a = long_at(roots, 1);
+    give_for_two(roots, Value::Int(compare(a, b)));
+    true
+}
+
+/// `ineg`
+fn negate_int(roots: &mut Roots) -> bool
+    requires there { is_some (computed_on computations.NegateInt (top_stack roots.old.roots)) ≡ true }
+    ensures behind { behind_computation computations.NegateInt roots.old.roots ≡ Some roots.new.roots }
+    ensures limit { roots.new.limit ≡ roots.old.limit }
+    ensures gave { gave computations.NegateInt roots.old.roots ≡ Some result }
+{
+    let a = int_at(roots, 0);
+    match int_op(IntOp::Sub, 0, a) {
+        Some(number) => {
+            give_for_one(roots, Value::Int(number));
+            true
+        }
+        None => false,
+    }
+}
+
+/// `lneg`
+fn negate_long(roots: &mut Roots) -> bool
+    requires there { is_some (computed_on computations.NegateLong (top_stack roots.old.roots)) ≡ true }
+    ensures behind { behind_computation computations.NegateLong roots.old.roots ≡ Some roots.new.roots }
+    ensures limit { roots.new.limit ≡ roots.old.limit }
+    ensures gave { gave computations.NegateLong roots.old.roots ≡ Some result }
+{
+    let a = long_at(roots, 0);
+    match long_op(LongOp::Sub, 0, a) {
+        Some(number) => {
+            give_for_one(roots, Value::Long(number));
+            true
+        }
+        None => false,
+    }
+}
+
+/// `i2l`
+fn int_to_long(roots: &mut Roots) -> bool
+    requires there { is_some (computed_on computations.IntToLong (top_stack roots.old.roots)) ≡ true }
+    ensures behind { behind_computation computations.IntToLong roots.old.roots ≡ Some roots.new.roots }
+    ensures limit { roots.new.limit ≡ roots.old.limit }
+    ensures gave { gave computations.IntToLong roots.old.roots ≡ Some result }
+{
+    let a = int_at(roots, 0);
+    give_for_one(roots, Value::Long(i64::from(a)));
+    true
+}
+
+/// `l2i`
+fn long_to_int(roots: &mut Roots) -> bool
+    requires there { is_some (computed_on computations.LongToInt (top_stack roots.old.roots)) ≡ true }
+    ensures behind { behind_computation computations.LongToInt roots.old.roots ≡ Some roots.new.roots }
+    ensures limit { roots.new.limit ≡ roots.old.limit }
+    ensures gave { gave computations.LongToInt roots.old.roots ≡ Some result }
+{
+    let a = long_at(roots, 0);
+    give_for_one(roots, Value::Int(low_int(a)));
+    true
+}
+
+/// `i2b`, `i2c`, `i2s`
+fn make_narrow(roots: &mut Roots, to: Narrow) -> bool
+    requires there { is_some (computed_on (computations.MakeNarrow to) (top_stack roots.old.roots)) ≡ true }
+    ensures behind { behind_computation (computations.MakeNarrow to) roots.old.roots ≡ Some roots.new.roots }
+    ensures limit { roots.new.limit ≡ roots.old.limit }
+    ensures gave { gave (computations.MakeNarrow to) roots.old.roots ≡ Some result }
+{
+    let a = int_at(roots, 0);
+    give_for_one(roots, Value::Int(narrow(to, a)));
+    true
+}
+
+/// `iconst_m1` to `sipush`
+fn int_constant(roots: &mut Roots, number: i32) -> bool
+    requires there { is_some (computed_on (computations.IntConstant number) (top_stack roots.old.roots)) ≡ true }
+    requires room { 0 < top_room roots.old.roots }
+    ensures behind { behind_computation (computations.IntConstant number) roots.old.roots ≡ Some roots.new.roots }
+    ensures limit { roots.new.limit ≡ roots.old.limit }
+    ensures gave { gave (computations.IntConstant number) roots.old.roots ≡ Some result }
+{
+    roots.push(Value::Int(number));
+    true
+}
+
+/// `lconst_0`, `lconst_1`
+fn long_constant(roots: &mut Roots, number: i64) -> bool
+    requires there { is_some (computed_on (computations.LongConstant number) (top_stack roots.old.roots)) ≡ true }
+    requires room { 0 < top_room roots.old.roots }
+    ensures behind { behind_computation (computations.LongConstant number) roots.old.roots ≡ Some roots.new.roots }
+    ensures limit { roots.new.limit ≡ roots.old.limit }
+    ensures gave { gave (computations.LongConstant number) roots.old.roots ≡ Some result }
+{
+    roots.push(Value::Long(number));
+    true
+}
+
+/// The int that the low 32 bits of a long are.
+fn low_int(a: i64) -> i32
+    ensures { result ≡ int_wrap w32 a }
+{
+    let low = a.rem_euclid(1 << 32);
+    (low as u32).cast_signed()
+}

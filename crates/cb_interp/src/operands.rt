@@ -1,0 +1,89 @@
+// Operands on the stack of the topmost frame.
+ghost use Rattle.std.specs.Prelude.{◌≡◌, ◌<◌, ◌+◌, ◌∷◌, drop, length, slice_get, true, Some};
+ghost use Rattle.cb_frames.specs.Limited.{with_roots};
+ghost use Rattle.cb_frames.specs.Tops.{top_room, top_stack};
+ghost use Rattle.cb_plain.specs.declared.value.Value.TheVariants as values;
+ghost use Rattle.cb_shapes.specs.declared.sort.Sort.TheVariants as sorts;
+ghost use Rattle.cb_interp.specs.Effects.{has_sort, stacked};
+
+use cb_frames::Roots;
+use cb_plain::Value;
+
+/// The int at a depth of the stack.
+pub(crate) fn int_at(roots: &Roots, below: u32) -> i32
+    requires { has_sort sorts.Int (slice_get (top_stack roots.now.roots) below) ≡ true }
+    ensures { slice_get (top_stack roots.now.roots) below ≡ Some (values.Int result) }
+{
+    match roots.peek(below) {
+        Value::Int(number) => number,
+        Value::Long(_) | Value::Ref(_) => 0,
+    }
+}
+
+/// The long at a depth of the stack.
+pub(crate) fn long_at(roots: &Roots, below: u32) -> i64
+    requires { has_sort sorts.Long (slice_get (top_stack roots.now.roots) below) ≡ true }
+    ensures { slice_get (top_stack roots.now.roots) below ≡ Some (values.Long result) }
+{
+    match roots.peek(below) {
+        Value::Long(number) => number,
+        Value::Int(_) | Value::Ref(_) => 0,
+    }
+}
+
+/// Puts a value in place of the topmost one.
+pub(crate) fn give_for_one(roots: &mut Roots, value: Value)
+    requires { 0 < length (top_stack roots.old.roots) }
+    ensures { roots.new ≡ with_roots roots.old (stacked roots.old.roots (value ∷ drop 1 (top_stack roots.old.roots))) }
+{
+    roots.pop();
+    roots.push(value);
+}
+
+/// Puts a value in place of the two topmost ones.
+pub(crate) fn give_for_two(roots: &mut Roots, value: Value)
+    requires { 1 < length (top_stack roots.old.roots) }
+    ensures { roots.new ≡ with_roots roots.old (stacked roots.old.roots (value ∷ drop 2 (top_stack roots.old.roots))) }
+{
+    roots.pop();
+    roots.pop();
+    roots.push(value);
+}
+
+/// Puts two values on the stack, the second upon the first.
+pub(crate) fn push_two(roots: &mut Roots, first: Value, second: Value)
+    requires { 1 < top_room roots.old.roots }
+    ensures pushed { roots.new ≡ with_roots roots.old (stacked roots.old.roots (second ∷ first ∷ top_stack roots.old.roots)) }
+    ensures room { top_room roots.old.roots ≡ top_room roots.new.roots + 2 }
+{
+    roots.push(first);
+    roots.push(second);
+}
+
+/// Takes the topmost value.
+pub(crate) fn take_one(roots: &mut Roots)
+    requires { 0 < length (top_stack roots.old.roots) }
+    ensures { roots.new ≡ with_roots roots.old (stacked roots.old.roots (drop 1 (top_stack roots.old.roots))) }
+{
+    roots.pop();
+}
+
+/// Takes the two topmost values.
+pub(crate) fn take_two(roots: &mut Roots)
+    requires { 1 < length (top_stack roots.old.roots) }
+    ensures { roots.new ≡ with_roots roots.old (stacked roots.old.roots (drop 2 (top_stack roots.old.roots))) }
+{
+    roots.pop();
+    roots.pop();
+}
+
+/// The place of the object, or 0 for null, to which the topmost value refers.
+pub(crate) fn reference_on_top(roots: &Roots) -> u64
+    requires { has_sort sorts.Reference (slice_get (top_stack roots.now.roots) 0) ≡ true }
+    ensures { slice_get (top_stack roots.now.roots) 0 ≡ Some (values.Ref result) }
+{
+    match roots.peek(0) {
+        Value::Ref(at) => at,
+        Value::Int(_) | Value::Long(_) => 0,
+    }
+}
