@@ -38,7 +38,7 @@ use Rattle.cb_safety.proofs.Rising.{code_rises}
 no_serial : {P : Type 0} (program : Linked) (kinds : Kinds) (kind : ℕ) → IsOfKind program kinds kind 0 → P
 no_serial program kinds kind is = absurd (none-some is.own is.there)
 
-standing_frames : (program : Linked) (kinds : Kinds) (pending : ℕ) (frames : List Frame) → AreFrames program kinds pending frames → pending ≡ 0 → AreStanding program kinds frames
+pub standing_frames : (program : Linked) (kinds : Kinds) (pending : ℕ) (frames : List Frame) → AreFrames program kinds pending frames → pending ≡ 0 → AreStanding program kinds frames
 standing_frames program kinds pending frames (AreFrames.Running own standing) zero = standing
 standing_frames program kinds pending frames (AreFrames.Unwinding serial own is covered) zero =
     no_serial program kinds kind_of_throwable (subst (λ (own : ℕ). IsOfKind program kinds kind_of_throwable own) zero is)
@@ -60,7 +60,7 @@ topmost program state frame below typed zero same =
 -- ---- a state with the topmost frame at another place
 
 -- a frame where it arrives
-arrived : (program : Linked) (kinds : Kinds) (method : Within) → method.program ≡ program → HoldsOn program → (one other : verified.Frame) (held stack : List Value)
+pub arrived : (program : Linked) (kinds : Kinds) (method : Within) → method.program ≡ program → HoldsOn program → (one other : verified.Frame) (held stack : List Value)
     → (one ≡ other) ⊎ (verified.frame_goes_to program one other ≡ true) → HaveTypes method kinds one.locals held → IsStack method kinds one.stack stack
     → HaveTypes method kinds other.locals held × IsStack method kinds other.stack stack
 arrived program kinds method own holds one other held stack (inl same) have is =

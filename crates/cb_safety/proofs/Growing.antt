@@ -41,11 +41,12 @@ holds_more : (program : Linked) (kinds more : Kinds) (contents : List Content) (
 holds_more program kinds more contents place basic holds =
     record { content = holds.content; there = holds.there; fits = has_content_more program kinds more basic holds.content holds.fits }
 
-is_object_more : (program : Linked) (kinds more : Kinds) (object : Object) → IsObject program kinds object → IsObject program (kinds ++ more) object
+pub is_object_more : (program : Linked) (kinds more : Kinds) (object : Object) → IsObject program kinds object → IsObject program (kinds ++ more) object
 is_object_more program kinds more object is = record {
   kind = is.kind;
   fields = λ class slot basic own declared. holds_more program kinds more object.contents slot basic (is.fields class slot basic own declared);
   elements = λ basic place own low. holds_more program kinds more object.contents place basic (is.elements basic place own low);
+  few = is.few;
 }
 
 -- what is so of each object that was there, and of each that is placed, is so of each that is there now

@@ -16,7 +16,7 @@ use Rattle.cb_safety.specs.Order.{HasOrder}
 
 -- ---- of the names of classes
 
-is_text : (one other : List ℕ) → same_text one other ≡ true → one ≡ other
+pub is_text : (one other : List ℕ) → same_text one other ≡ true → one ≡ other
 is_text one other same = (bytes_decides one other).0 same
 
 pub object_is : (name : List ℕ) → is_object name ≡ true → is_above_arrays name ≡ true
@@ -33,11 +33,11 @@ module _ (classes : List ClassFile) where
   instance_object one other is =
       or_left (same_text one other || is_object other) (is_below classes one other) (or_right (same_text one other) (is_object other) is)
 
-  instance_below : (one other : List ℕ) → is_below classes one other ≡ true → is_instance classes one other ≡ true
+  pub instance_below : (one other : List ℕ) → is_below classes one other ≡ true → is_instance classes one other ≡ true
   instance_below one other is = or_right (same_text one other || is_object other) (is_below classes one other) is
 
   -- an instance of a name has that name, or the name is Object's, or it is below it
-  instance_cases : (one other : List ℕ) → is_instance classes one other ≡ true → (one ≡ other) ⊎ ((is_object other ≡ true) ⊎ (is_below classes one other ≡ true))
+  pub instance_cases : (one other : List ℕ) → is_instance classes one other ≡ true → (one ≡ other) ⊎ ((is_object other ≡ true) ⊎ (is_below classes one other ≡ true))
   instance_cases one other is = elim (or_cases (same_text one other || is_object other) (is_below classes one other) is) [
     | inl first ↦ elim (or_cases (same_text one other) (is_object other) first) [
       | inl same ↦ inl (is_text one other same)
@@ -140,7 +140,7 @@ base_below among unit other rest others no_array none =
 
 module _ (classes : List ClassFile) where
   -- a type that begins with a base type's letter holds what begins with that letter
-  base_holds : (unit other : ℕ) (rest others : List ℕ) → (other == bracket) ≡ false → (other == letter_class) ≡ false
+  pub base_holds : (unit other : ℕ) (rest others : List ℕ) → (other == bracket) ≡ false → (other == letter_class) ≡ false
       → is_held_as classes (unit ∷ rest) (other ∷ others) ≡ (unit == other)
   base_holds unit other rest others no_array none =
       same_base (other == bracket) (other == letter_class) ((unit == bracket) && is_held_as classes rest others)

@@ -44,7 +44,7 @@ use Rattle.cb_safety.proofs.Searching.{all_pass}
 
 -- ---- lists
 
-all_firsts : (P : List ℕ → Type 0) (texts : List (List ℕ)) → AllByRecursion P texts → AllByRecursion P (firsts texts)
+pub all_firsts : (P : List ℕ → Type 0) (texts : List (List ℕ)) → AllByRecursion P texts → AllByRecursion P (firsts texts)
 all_firsts P [] all = tt
 all_firsts P (text ∷ texts) all = (all.0, all_filtered P (λ other. not (same_text text other)) (firsts texts) (all_firsts P texts all.1))
 
@@ -173,7 +173,7 @@ plain_part : (part behind : List ℕ) → IsUnqualifiedName part → is_array (p
 plain_part [] behind part = absurd (omega (arith, part.0))
 plain_part (unit ∷ part) behind named = ne_eqb unit bracket named.1.0.2
 
-plain_name : (name : List ℕ) → IsClassName name → is_array name ≡ false
+pub plain_name : (name : List ℕ) → IsClassName name → is_array name ≡ false
 plain_name name ([], some, each, is) = absurd (omega (arith, some))
 plain_name name (part ∷ [], some, each, is) = ap is_array (is ∙ sym (append-nil part)) ∙ plain_part part [] each.0
 plain_name name (part ∷ other ∷ parts, some, each, is) = ap is_array is ∙ plain_part part (slash ∷ join_with_byte slash (other ∷ parts)) each.0

@@ -35,7 +35,7 @@ use Rattle.cb_safety.proofs.Subclasses.{none_above, subclass_above, subclass_nex
 
 -- ---- numbers of classes
 
-number_low : (texts : List (List ℕ)) (name : List ℕ) (number : ℕ) → number_of texts name ≡ Some number → number < length texts
+pub number_low : (texts : List (List ℕ)) (name : List ℕ) (number : ℕ) → number_of texts name ≡ Some number → number < length texts
 number_low texts name number found = go (nat_lt place (length texts)) refl found where
   place : ℕ
   place = position_or_len (same_text name) texts
@@ -63,14 +63,14 @@ parents_low classes number = go (slice_get classes number) (slice_get-map (ranke
       (at_low (map name_of classes) (class_at class.pool class.super_class))
       (all_lists (Low classes) (λ index. listed (class_number_at classes class.pool index)) class.interfaces (λ index. at_low (map name_of classes) (class_at class.pool index))))
 
-named_low : (classes : List ClassFile) (class parent : ℕ) → Contains (parents (hierarchy classes) class) parent → parent < length (hierarchy classes)
+pub named_low : (classes : List ClassFile) (class parent : ℕ) → Contains (parents (hierarchy classes) class) parent → parent < length (hierarchy classes)
 named_low classes class parent among =
     let many : length (hierarchy classes) ≡ length classes = length-map classes (ranked classes) in
     let named : length (map name_of classes) ≡ length classes = length-map classes name_of in
     let low : parent < length (map name_of classes) = all_each (Low classes) (parents (hierarchy classes) class) parent (parents_low classes class) among in
     omega (arith, low, many, named)
 
-number_within : (classes : List ClassFile) (name : List ℕ) (number : ℕ) → class_number classes name ≡ Some number → number < length (hierarchy classes)
+pub number_within : (classes : List ClassFile) (name : List ℕ) (number : ℕ) → class_number classes name ≡ Some number → number < length (hierarchy classes)
 number_within classes name number is =
     let many : length (hierarchy classes) ≡ length classes = length-map classes (ranked classes) in
     let named : length (map name_of classes) ≡ length classes = length-map classes name_of in
@@ -78,7 +78,7 @@ number_within classes name number is =
     omega (arith, low, many, named)
 
 -- what has parents is there
-named_in : (classes : List Ranked) (number parent : ℕ) → Contains (parents classes number) parent → number < length classes
+pub named_in : (classes : List Ranked) (number parent : ℕ) → Contains (parents classes number) parent → number < length classes
 named_in classes number parent among = go (cases_lt number (length classes)) where
   go : (number < length classes) ⊎ (length classes ≤ number) → number < length classes
   go (inl low) = low
@@ -91,18 +91,18 @@ below_in : (classes : List Ranked) (class other : ℕ) → IsAbove (parents clas
 below_in classes class other (Direct one parent among) = named_in classes one parent among
 below_in classes class other (Through one parent last among above) = named_in classes one parent among
 
-acyclic : (classes : List Ranked) (methods : List RankedMethod) → AreGood classes methods → IsAcyclic classes
+pub acyclic : (classes : List Ranked) (methods : List RankedMethod) → AreGood classes methods → IsAcyclic classes
 acyclic classes methods good = λ class above. good class (below_in classes class class above) (IsItsOwn above)
 
 -- one name is below another by the numbers of both
-record IsBetween (classes : List ClassFile) (one other : List ℕ) : Type 0 where
+pub record IsBetween (classes : List ClassFile) (one other : List ℕ) : Type 0 where
   pub lower : ℕ
   pub upper : ℕ
   pub from : class_number classes one ≡ Some lower
   pub to : class_number classes other ≡ Some upper
   pub below : is_subclass (hierarchy classes) lower upper ≡ true
 
-between_them : (classes : List ClassFile) (one other : List ℕ) → is_below classes one other ≡ true → IsBetween classes one other
+pub between_them : (classes : List ClassFile) (one other : List ℕ) → is_below classes one other ≡ true → IsBetween classes one other
 between_them classes one other so = go (class_number classes one) (class_number classes other) refl refl so where
   go : (from to : Option ℕ) → class_number classes one ≡ from → class_number classes other ≡ to → between classes from to ≡ true → IsBetween classes one other
   go None to from_is to_is so = absurd (false≢true so)
@@ -127,7 +127,7 @@ below_next classes methods good one two three is next =
 -- above an interface are interfaces and what has no parents
 module _ (classes : List Ranked) (root : ℕ) (last : parents classes root ≡ [])
     (each : (class parent : ℕ) → is_interface classes class ≡ true → Contains (parents classes class) parent → (is_interface classes parent ≡ true) ⊎ (parent ≡ root)) where
-  above_interface : (class other : ℕ) → IsAbove (parents classes) class other → is_interface classes class ≡ true → (is_interface classes other ≡ true) ⊎ (other ≡ root)
+  pub above_interface : (class other : ℕ) → IsAbove (parents classes) class other → is_interface classes class ≡ true → (is_interface classes other ≡ true) ⊎ (other ≡ root)
   above_interface class other (Direct from parent among) is = each from parent is among
   above_interface class other (Through from parent to among rest) is = elim (each from parent is among) [
     | inl interface ↦ above_interface parent to rest interface
@@ -167,12 +167,12 @@ rows_extend (row ∷ rows) (class ∷ classes) so are =
 pub library_extends : (library : List ClassFile) → AreLibrary library → AllByRecursion ExtendsObject library
 library_extends library are = rows_extend core_classes library all_extend are
 
-none_zipped : {Row Item : Type 0} (Is : Row → Item → Type 0) (items : List Item) → AllZip Is [] items → items ≡ []
+pub none_zipped : {Row Item : Type 0} (Is : Row → Item → Type 0) (items : List Item) → AllZip Is [] items → items ≡ []
 none_zipped Is [] are = refl
 none_zipped Is (item ∷ items) are = absurd are
 
 -- Object, Cloneable and Serializable by their places
-record IsFronted (classes : List ClassFile) : Type 0 where
+pub record IsFronted (classes : List ClassFile) : Type 0 where
   pub object : class_number classes (codes "java/lang/Object") ≡ Some 0
   pub last : parents (hierarchy classes) 0 ≡ []
   pub own : (name : List ℕ) → class_number classes name ≡ Some 0 → is_object name ≡ true
@@ -233,7 +233,7 @@ module _ (one two three four five : ClassFile) (more : List ClassFile) where
   serializable_is : IsRecordOf serializable_interface five → is_interface (hierarchy fronted) 4 ≡ true
   serializable_is of = ap (has_flag acc_interface) of.flags
 
-fronted_by : (library more : List ClassFile) → AreLibrary library → IsFronted (library ++ more)
+pub fronted_by : (library more : List ClassFile) → AreLibrary library → IsFronted (library ++ more)
 fronted_by [] more are = absurd are
 fronted_by (one ∷ []) more are = absurd are.1
 fronted_by (one ∷ two ∷ []) more are = absurd are.1.1
@@ -264,7 +264,7 @@ module _ (classes : List ClassFile) (methods : List RankedMethod) (front : IsFro
       let number : class_number_at classes own.pool own.super_class ≡ Some 0 = ap (option_and_then (class_number classes)) named ∙ front.object in
       rw there (ap listed number)
 
-  each_parent : (class parent : ℕ) → is_interface (hierarchy classes) class ≡ true → Contains (parents (hierarchy classes) class) parent → (is_interface (hierarchy classes) parent ≡ true) ⊎ (parent ≡ 0)
+  pub each_parent : (class parent : ℕ) → is_interface (hierarchy classes) class ≡ true → Contains (parents (hierarchy classes) class) parent → (is_interface (hierarchy classes) parent ≡ true) ⊎ (parent ≡ 0)
   each_parent class parent is among = go (slice_get classes class) refl where
     only : Contains (0 ∷ []) parent → parent ≡ 0
     only (zero, low, is) = sym is

@@ -47,7 +47,7 @@ spelled_in code bytes pc insn spelled there =
     (λ placed found same. subst IsInsn same
     (found_all (λ (placed : ℕ × Insn). IsInsn placed.1) (λ (placed : ℕ × Insn). placed.0 == pc) code placed (all_spelled 0 code bytes spelled.spelled) found))
 
-insn_spelled : (program : Linked) (number pc : ℕ) (insn : Insn) → IsSpelled program → insn_in (code_at program number) pc ≡ Some insn → IsInsn insn
+pub insn_spelled : (program : Linked) (number pc : ℕ) (insn : Insn) → IsSpelled program → insn_in (code_at program number) pc ≡ Some insn → IsInsn insn
 insn_spelled program number pc insn spelled there = let (bytes, spells) = spelled number in spelled_in (code_at program number) bytes pc insn spells there
 
 -- ---- by which opcodes an instruction goes elsewhere or names a constant
@@ -106,13 +106,13 @@ all_agree : (operand : Operand) → list_all (agrees_at operand) (range_with_len
 all_agree operands.Nothing = refl
 all_agree other = refl
 
-in_range : (P : ℕ → Type 0) (from count number : ℕ) → AllByRecursion P (range_with_len from count) → number < count → P (from + number)
+pub in_range : (P : ℕ → Type 0) (from count number : ℕ) → AllByRecursion P (range_with_len from count) → number < count → P (from + number)
 in_range P from zero number all low = absurd (omega (arith, low))
 in_range P from (suc count) zero all low = subst P (let same : from ≡ from + 0 = omega arith in same) all.0
 in_range P from (suc count) (suc number) all low =
     subst P (let same : from + 1 + number ≡ from + suc number = omega arith in same) (in_range P (from + 1) count number all.1 (omega (arith, low)))
 
-from_zero : (P : ℕ → Type 0) (count number : ℕ) → AllByRecursion P (range_with_len 0 count) → number < count → P number
+pub from_zero : (P : ℕ → Type 0) (count number : ℕ) → AllByRecursion P (range_with_len 0 count) → number < count → P number
 from_zero P count number all low = subst P (let same : 0 + number ≡ number = omega arith in same) (in_range P 0 count number all low)
 
 past : (opcode bound : ℕ) (one other : Option Form) → opcodes_end ≤ opcode → nat_le bound opcodes_end ≡ true → other ≡ None → (if nat_lt opcode bound then one else other) ≡ None
@@ -276,7 +276,7 @@ constant_stays opcode operand low =
 
 -- ---- what is said of operands
 
-split_if : (test : Bool) (one other : Option Action) (action : Action) → (if test then one else other) ≡ Some action
+pub split_if : (test : Bool) (one other : Option Action) (action : Action) → (if test then one else other) ≡ Some action
     → ((test ≡ true) × (one ≡ Some action)) ⊎ (other ≡ Some action)
 split_if true one other action so = inl (refl, so)
 split_if false one other action so = inr so

@@ -52,7 +52,7 @@ stands_in lists (first ∷ numbers) number so =
           record { at = rest.at; among = Contains-append_right (first ∷ []) numbers rest.at rest.among; there = rest.there }
     ]
 
-stands_there : (lists : ℕ → List ℕ) (numbers : List ℕ) (at number : ℕ) → Contains numbers at → stands number (lists at) ≡ true → stands number (flat_map lists numbers) ≡ true
+pub stands_there : (lists : ℕ → List ℕ) (numbers : List ℕ) (at number : ℕ) → Contains numbers at → stands number (lists at) ≡ true → stands number (flat_map lists numbers) ≡ true
 stands_there lists [] at number (place, low, is) there = absurd (past place low) where
   past : (place : ℕ) → place < 0 → ⊥
   past place low = omega (arith, low)
@@ -91,7 +91,7 @@ any_low count number (other ∷ numbers) all is = go (eqb number other) refl is 
   go false apart any rest = rest any
 
 -- from a class upwards there are no more classes, one above the other, than so many
-abbrev Ends : List Class → ℕ → ℕ → Type 0
+abbrev pub Ends : List Class → ℕ → ℕ → Type 0
 Ends classes zero class = ⊥
 Ends classes (suc turns) class = (parent : ℕ) → Contains (parents classes class) parent → Ends classes turns parent
 
@@ -133,7 +133,7 @@ module _ (classes : List Class) where
       ]
 
   -- and where there are enough turns, all of these are looked at
-  own_looked : (turns class : ℕ) → Ends classes turns class → stands class (looked turns class) ≡ true
+  pub own_looked : (turns class : ℕ) → Ends classes turns class → stands class (looked turns class) ≡ true
   own_looked zero class ends = absurd ends
   own_looked (suc turns) class ends = looked_more turns class class ∙ or_left (class == class) (interfaces || supers) (eq-eqb class class refl) where
     interfaces : Bool
@@ -155,7 +155,7 @@ module _ (classes : List Class) where
       supers : Bool
       supers = stands other (flat_map (looked turns) (superclass classes class))
 
-  all_looked : (turns class other : ℕ) → Ends classes turns class → IsAbove (parents classes) class other → stands other (looked turns class) ≡ true
+  pub all_looked : (turns class other : ℕ) → Ends classes turns class → IsAbove (parents classes) class other → stands other (looked turns class) ≡ true
   all_looked zero class other ends above = absurd ends
   all_looked (suc turns) class other ends (Direct from parent among) = parent_looked turns class other other among (own_looked turns other (ends other among))
   all_looked (suc turns) class other ends (Through from parent last among rest) =
@@ -181,8 +181,12 @@ module _ (classes : List Class) where
         )
         (omega (arith, many)) (low class parent among)
 
-    ends : (class : ℕ) → class < length classes → Ends classes (length classes) class
+    pub ends : (class : ℕ) → class < length classes → Ends classes (length classes) class
     ends class within = ends_behind (length classes) class [] none_twice tt tt (omega arith) within
+
+    -- a class is below each of its parents
+    pub subclass_parent : (class parent : ℕ) → Contains (parents classes class) parent → class < length classes → is_subclass classes class parent ≡ true
+    subclass_parent class parent among within = all_looked (length classes) class parent (ends class within) (Direct class parent among)
 
     pub subclass_next : (one two three : ℕ) → one < length classes → is_subclass classes one two ≡ true → is_subclass classes two three ≡ true → is_subclass classes one three ≡ true
     subclass_next one two three within is next = elim (looked_above (length classes) one two is) [

@@ -24,12 +24,12 @@ use Rattle.cb_safety.proofs.Growing.{are_statics_more, are_tables_more, heap_gro
 
 -- ---- frames that stand are covered
 
-standing_covered : (program : Linked) (kinds : Kinds) (frames : List Frame) → AreStanding program kinds frames → AreCovered program kinds frames
+pub standing_covered : (program : Linked) (kinds : Kinds) (frames : List Frame) → AreStanding program kinds frames → AreCovered program kinds frames
 standing_covered program kinds frames AreStanding.NotYet = AreCovered.Nothing
 standing_covered program kinds frames (AreStanding.AMethod frame below stands rest) = AreCovered.AMethod frame below (record { at = stands.at; locals = stands.locals }) rest
 standing_covered program kinds frames (AreStanding.AnInitialisation class place below is rest) = AreCovered.AnInitialisation class place below is rest
 
-frames_covered : (program : Linked) (kinds : Kinds) (pending : ℕ) (frames : List Frame) → AreFrames program kinds pending frames → AreCovered program kinds frames
+pub frames_covered : (program : Linked) (kinds : Kinds) (pending : ℕ) (frames : List Frame) → AreFrames program kinds pending frames → AreCovered program kinds frames
 frames_covered program kinds pending frames (AreFrames.Running own standing) = standing_covered program kinds own standing
 frames_covered program kinds pending frames (AreFrames.Unwinding serial own is covered) = covered
 
@@ -41,11 +41,11 @@ null_at (suc zero) low = refl
 null_at (suc (suc zero)) low = refl
 null_at (suc (suc (suc slot))) low = absurd (omega (arith, low))
 
-null_fits : (program : Linked) (kinds : Kinds) (basic : Basic) → is_reference basic ≡ true → HasContent program kinds basic (Reference 0)
+pub null_fits : (program : Linked) (kinds : Kinds) (basic : Basic) → is_reference basic ≡ true → HasContent program kinds basic (Reference 0)
 null_fits program kinds (basics.Reference kind) is = HasContent.AReference kind 0 Refers.ToNull
 null_fits program kinds other is = absurd (false≢true is)
 
-kind_low : (program : Linked) (own kind : ℕ) → holds_kind program own kind ≡ true → own < length program.kinds
+pub kind_low : (program : Linked) (own kind : ℕ) → holds_kind program own kind ≡ true → own < length program.kinds
 kind_low program own kind holds =
     let (both, held) = and_parts (nat_lt own (length program.kinds) && nat_lt kind (length program.kinds)) (is_held_as program.classes (type_of_kind program own) (type_of_kind program kind)) holds in
     ltb-true own (length program.kinds) (and_parts (nat_lt own (length program.kinds)) (nat_lt kind (length program.kinds)) both).0
@@ -57,6 +57,7 @@ thrown_object program kinds site kind thrown = record {
       let (low, is) = thrown.fields class slot basic own declared in
       record { content = Reference 0; there = null_at slot low; fits = null_fits program kinds basic is };
   elements = λ basic place own low. absurd (none-some basic (sym thrown.no_elements ∙ own));
+  few = λ basic own. absurd (none-some basic (sym thrown.no_elements ∙ own));
 }
 
 -- ---- the state

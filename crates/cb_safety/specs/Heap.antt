@@ -1,11 +1,12 @@
 -- Objects that are as their kinds say.
-use Rattle.std.specs.Prelude.{◌≡◌, ◌<◌, ℕ, List, Option, Some, IsTrue, is_some, length, slice_get}
+use Rattle.std.specs.Prelude.{◌≡◌, ◌<◌, ◌≤◌, ℕ, List, Option, Some, IsTrue, is_some, length, slice_get}
 use Rattle.std.specs.List.{list_all}
 use Rattle.cb_kinds.specs.declared.basic.Basic.{Basic}
 use Rattle.cb_link.specs.Calls.{class_of_kind}
 use Rattle.cb_link.specs.Program.{Linked}
 use Rattle.cb_link.specs.Slots.{field_basic}
 use Rattle.cb_machine.specs.Arrays.{element_of}
+use Rattle.cb_machine.specs.Performing.{most_elements}
 use Rattle.cb_plain.specs.State.{Content, Object}
 use Rattle.cb_plain.specs.Updates.{object_in}
 use Rattle.cb_safety.specs.Held.{HasContent}
@@ -17,13 +18,14 @@ pub record Holds (program : Linked) (kinds : Kinds) (contents : List Content) (p
   pub there : slice_get contents place ≡ Some content
   pub fits : HasContent program kinds basic content
 
--- each field of an object of a class, and each element of an array
+-- each field of an object of a class, and each element of an array, of which an int says how many there are (JVMS §6.5, newarray)
 pub record IsObject (program : Linked) (kinds : Kinds) (object : Object) : Type 0 where
   pub kind : object.kind < length program.kinds
   pub fields : (class slot : ℕ) → (basic : Basic) → class_of_kind program object.kind ≡ Some class → field_basic program class slot ≡ Some basic →
       Holds program kinds object.contents slot basic
   pub elements : (basic : Basic) → (place : ℕ) → element_of program object.kind ≡ Some basic → place < length object.contents →
       Holds program kinds object.contents place basic
+  pub few : (basic : Basic) → element_of program object.kind ≡ Some basic → length object.contents ≤ most_elements
 
 -- all objects are there, and each is as it should be
 pub record IsHeap (program : Linked) (objects : List (Option Object)) : Type 0 where
