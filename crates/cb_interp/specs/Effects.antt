@@ -1,5 +1,5 @@
 -- What instructions that change the topmost frame alone do to its operand stack.
-use Rattle.std.specs.Prelude.{ℤ, ◌+ℤ◌, ℕ, ◌+◌, Bool, true, false, List, [], ◌∷◌, ◌++◌, length, map, nat_le, Option, Some, None, option_and_then, option_map, slice_get, slice_set, if◌then◌else◌}
+use Rattle.std.specs.Prelude.{ℤ, ◌+ℤ◌, ℕ, ◌+◌, Bool, true, false, List, [], ◌∷◌, ◌++◌, length, map, nat_le, Option, Some, None, option_and_then, option_map, slice_get, if◌then◌else◌}
 use Rattle.std.specs.Int.{int_wrap, w32}
 use Rattle.cb_frames.specs.Tops.{pushed, top_locals, top_stack, with_local, with_locals, with_stack, with_top, without}
 use Rattle.cb_machine.specs.Branching.{holds}
@@ -8,7 +8,7 @@ use Rattle.cb_machine.specs.Standing.{same_sort, taken}
 use Rattle.cb_machine.specs.Values.{category_of_value, numbers_of, of_sort, sort_of}
 use Rattle.cb_plain.specs.Depth.{slots_of}
 use Rattle.cb_plain.specs.declared.value.Value.{Value}
-use Rattle.cb_plain.specs.declared.value.Value.TheVariants.{Int, Long, Ref}
+use Rattle.cb_plain.specs.declared.value.Value.TheVariants.{Int}
 use Rattle.cb_plain.specs.State.{Roots}
 use Rattle.cb_shapes.specs.Computations.{Computed, ByZero, Gives, computed, gives, takes}
 use Rattle.cb_shapes.specs.Conditions.{takes as tested}
