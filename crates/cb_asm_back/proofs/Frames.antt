@@ -18,7 +18,8 @@ use Rattle.cb_asm_record.specs.Grammar.{frame_places as line_places}
 use Rattle.cb_asm_record.specs.Labels.{place_at}
 use Rattle.cb_asm_record.specs.Record.{delta_behind, frames_behind, map_type_of}
 use Rattle.cb_asm_record.specs.Uses.{frame_uses, type_uses}
-use Rattle.cb_asm_list.specs.Expansion.{Types, all_of, expanded_behind, frame_at, place_behind, type_in, types_in}
+use Rattle.cb_classfile.specs.Expansion.{all_of, place_behind}
+use Rattle.cb_asm_list.specs.Expansion.{Types, expanded_behind, frame_at, type_in, types_in}
 use Rattle.cb_asm_list.specs.Listing.{among, frame_line_of, frame_places, optional_places, placed_frame, places_of, type_of, type_places}
 use Rattle.cb_asm_back.proofs.Lists.{always, each_map, flat_agree, flat_of_map, map_agree, map_append, map_of_flat, map_twice, parts}
 use Rattle.cb_asm_back.proofs.Relabelling.{AreRead, frame_line_by, type_by}

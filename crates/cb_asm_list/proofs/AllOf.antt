@@ -1,7 +1,7 @@
 -- Items that are gathered one by one as long as none is missing.
 use Rattle.std.proofs.Common.{◌≡◌, ◌∙◌, ap, sym, refl, append_assoc, append-nil, ℕ, ◌+◌, ◌<◌, ◌≤◌, List, [], ◌∷◌, ◌++◌, length, drop, get_or, map, Option, Some, None, option_map}
 use Rattle.std.proofs.lemmas.List.{drop_all, drop_more}
-use Rattle.cb_asm_list.specs.Expansion.{all_of}
+use Rattle.cb_classfile.specs.Expansion.{all_of}
 use Rattle.cb_asm_list.proofs.Lists.{map_twice}
 
 -- those behind some that are there

@@ -1,19 +1,19 @@
 -- Frames in full (JVMS §4.7.4, §4.10.1.6): each kind of frame says how its locals differ from those of the frame before
 -- it, the first from those at the method's start.
-use Rattle.std.specs.Prelude.{ℕ, ◌+◌, ◌-◌, List, [], ◌∷◌, ◌++◌, length, take, map, Option, Some, None, option_map, option_and_then, codes, bit_and, nat_le, ◌==◌, ◌&&◌, not, if◌then◌else◌}
+use Rattle.std.specs.Prelude.{ℕ, List, [], ◌∷◌, ◌++◌, map, Option, Some, None, option_map, option_and_then, codes, bit_and, ◌==◌, ◌&&◌, not, if◌then◌else◌}
 use Rattle.std.specs.Option.{unwrap_or}
 use Rattle.cb_text.specs.declared.constant.Constant.{Constant}
 use Rattle.cb_names.specs.declared.base.BaseType.TheVariants as base
 use Rattle.cb_names.specs.Types.{Element, Primitive, Named, JavaType, type_text}
 use Rattle.cb_classfile.specs.declared.class.ClassFile.{ClassFile}
 use Rattle.cb_classfile.specs.declared.frame_form.FrameForm.{FrameForm}
-use Rattle.cb_classfile.specs.declared.frame_form.FrameForm.TheVariants as forms
 use Rattle.cb_classfile.specs.declared.frame_map.MapFrame.{MapFrame}
 use Rattle.cb_classfile.specs.declared.map_type.MapType.{MapType}
 use Rattle.cb_classfile.specs.declared.map_type.MapType.TheVariants as types
 use Rattle.cb_classfile.specs.declared.method.Method.{Method}
 use Rattle.cb_classfile.specs.Class.{object}
 use Rattle.cb_classfile.specs.Flags.{acc_static}
+use Rattle.cb_classfile.specs.Expansion.{all_of, frames_behind, locals_in as locals_by}
 use Rattle.cb_classfile.specs.FrameMap.{form_of_frame}
 use Rattle.cb_classfile.specs.Pool.{text_at, class_at}
 use Rattle.cb_asm_line.specs.Lines.{same_text}
@@ -25,12 +25,6 @@ use Rattle.cb_asm_line.specs.declared.frame.FrameType.TheVariants.{Top, Int, Lon
 -- types of a frame, with places for labels
 abbrev pub Types : Type 0
 Types = List (FrameType ℕ)
-
--- each of some, or none where one is missing
-abbrev pub all_of : {Item : Type 0} → List (Option Item) → Option (List Item)
-all_of [] = Some []
-all_of (None ∷ items) = None
-all_of (Some item ∷ items) = option_map (λ rest. item ∷ rest) (all_of items)
 
 -- a type by its names. A float and a double have no words
 abbrev pub type_in : List Constant → MapType → Option (FrameType ℕ)
@@ -77,22 +71,9 @@ abbrev pub start_types : ClassFile → Method → Option Types
 start_types class method =
     option_map (λ parameters. this_types method.flags.0 (class_named class class.this_class) (text_named class method.name) ++ parameters) (all_of (map parameter_type (parameters_of (text_named class method.descriptor))))
 
--- the last ones taken off, where there are so many
-abbrev pub without_last : ℕ → Types → Option Types
-without_last count locals = if nat_le count (length locals) then Some (take (length locals - count) locals) else None
-
 -- the locals of a frame by those before it, if both are there
 abbrev pub locals_in : FrameForm → List Constant → MapFrame → Option Types → Option Types
-locals_in forms.Chop pool frame locals = option_and_then (without_last (251 - frame.kind)) locals
-locals_in forms.Append pool frame locals =
-    option_and_then (λ before. option_map (λ added. before ++ added) (types_in pool frame.locals)) locals
-locals_in forms.Full pool frame locals = types_in pool frame.locals
-locals_in form pool frame locals = locals
-
--- the place of a frame: the first one's delta, and that of another counts from behind the place before it
-abbrev pub place_behind : Option ℕ → ℕ → ℕ
-place_behind None delta = delta
-place_behind (Some previous) delta = previous + delta + 1
+locals_in form pool frame locals = locals_by (type_in pool) form frame locals
 
 -- a frame at a place, where its locals and its stack are there
 abbrev pub frame_at : ℕ → Option Types → Option Types → Option (Frame ℕ)
@@ -102,11 +83,8 @@ frame_at place locals stack =
 -- the frames behind one at a place with such locals, or behind the method's start. None stands for one that can't be
 -- expanded
 abbrev pub expanded_behind : List Constant → Option ℕ → Option Types → List MapFrame → List (Option (Frame ℕ))
-expanded_behind pool previous locals [] = []
-expanded_behind pool previous locals (frame ∷ frames) =
-    let place = place_behind previous frame.delta in
-    let now = locals_in (form_of_frame frame.kind) pool frame locals in
-    frame_at place now (types_in pool frame.stack) ∷ expanded_behind pool (Some place) now frames
+expanded_behind pool previous locals frames =
+    frames_behind (λ frame. locals_in (form_of_frame frame.kind) pool frame) (λ place now stack. frame_at place now (types_in pool stack)) previous locals frames
 
 abbrev pub expanded : ClassFile → Method → List MapFrame → List (Option (Frame ℕ))
 expanded class method frames = expanded_behind class.pool None (start_types class method) frames

@@ -1,7 +1,8 @@
 // The frames of a method in full (JVMS §4.7.4).
 ghost use Rattle.std.specs.Prelude.{◌≡◌, ◌+◌, ◌^◌, ◌<◌, ◌++◌, IfOk, IfSome, length, option_and_then, option_map};
 ghost use Rattle.std.specs.List.{flat_map, list_all};
-ghost use Rattle.cb_asm_list.specs.Expansion.{frame_at as frame_with, locals_in as locals_of, place_behind as place_after, types_in, without_last as without_last_of};
+ghost use Rattle.cb_classfile.specs.Expansion.{place_behind as place_after, without_last as without_last_of};
+ghost use Rattle.cb_asm_list.specs.Expansion.{frame_at as frame_with, locals_in as locals_of, types_in};
 ghost use Rattle.cb_asm_list.specs.Inner.{placed_among};
 ghost use Rattle.cb_asm_list.specs.Listing.{among, frame_places, listed_frames as frames_of, places_of, type_places};
 ghost use Rattle.cb_classfile.specs.FrameMap.{form_of_frame};

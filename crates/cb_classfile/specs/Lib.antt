@@ -2,6 +2,7 @@ pub mod Answers
 pub mod Attributes
 pub mod Class
 pub mod Code
+pub mod Expansion
 pub mod Faults
 pub mod Flags
 pub mod FrameMap

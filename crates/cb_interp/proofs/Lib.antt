@@ -1,1 +1,3 @@
 pub mod Leaving
+mod Moved
+mod Read

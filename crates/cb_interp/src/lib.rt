@@ -13,7 +13,7 @@ mod shuffling;
 mod testing;
 
 pub use computing::compute;
-pub use law::effects_as_said;
+pub use law::{effects_are_read, effects_as_said};
 pub use moving::{increase, load, store};
 pub use shuffling::shuffle;
 pub use testing::test;

@@ -1,5 +1,5 @@
 // Keys in order, of which the first of equal ones counts.
-ghost use Rattle.std.specs.Prelude.{◌≡◌, ◌<◌, ◌^◌, [], ◌∷◌, ◌++◌, length, position, OnOk, OnErr};
+ghost use Rattle.std.specs.Prelude.{◌≡◌, ◌<◌, ◌+◌, ◌^◌, ◌↔◌, [], ◌∷◌, ◌++◌, length, position, IsTrue, OnOk, OnErr};
 
 use cb_plain::OutOfMemory;
 use indexmap::IndexMap;
@@ -60,7 +60,7 @@ impl<K: Copy + Eq + Hash + Drop> FirstPlaces<K> {
         ensures refused { OnErr result (self.new ≡ self.old) }
     {
         let place = self.keys.len();
-        if place >= MOST {
+        if !has_number(place) {
             return Err(AllocError);
         }
         self.keys.reserve(1)?;
@@ -70,4 +70,11 @@ impl<K: Copy + Eq + Hash + Drop> FirstPlaces<K> {
         self.keys.push(key)?;
         Ok(())
     }
+}
+
+/// Whether one more than so many keys still has a place.
+fn has_number(count: usize) -> bool
+    ensures { IsTrue result ↔ (count + 1 < 2 ^ 32) }
+{
+    count < MOST
 }

@@ -1,5 +1,5 @@
 // Texts by their numbers.
-ghost use Rattle.std.specs.Prelude.{◌≡◌, ◌<◌, ◌^◌, [], length, slice_get, IfOk, OnOk, OnErr, Some};
+ghost use Rattle.std.specs.Prelude.{◌≡◌, ◌<◌, ◌+◌, ◌^◌, ◌↔◌, [], length, slice_get, IfOk, IsTrue, OnOk, OnErr, Some};
 ghost use Rattle.cb_kinds.specs.Texts.{entered, number_of};
 
 use cb_plain::OutOfMemory;
@@ -71,11 +71,18 @@ impl Texts {
         if self.texts.contains(text) {
             return Ok(());
         }
-        if self.texts.len() >= MOST {
+        if !has_number(self.texts.len()) {
             return Err(AllocError);
         }
         let copy = Vec::from_slice(self.alloc, text)?;
         self.texts.insert(copy)?;
         Ok(())
     }
+}
+
+/// Whether one more than so many texts still has a number.
+fn has_number(count: usize) -> bool
+    ensures { IsTrue result ↔ (count + 1 < 2 ^ 32) }
+{
+    count < MOST
 }

@@ -28,7 +28,6 @@ pub mod Finding
 pub mod Ranged
 pub mod Ranks
 pub mod RowLaws
-pub mod PlaceRows
 pub mod PlaceTurns
 pub mod PlaceAnswers
 pub mod ConstantAnswers

@@ -6,10 +6,9 @@ ghost use Rattle.cb_link.specs.InnerCounts.{HasSelection};
 ghost use Rattle.cb_link.specs.InnerTables.{AreAll, IsCallTables};
 
 use crate::base::Base;
-use crate::numbering::number_of;
 use crate::resolver::Resolver;
 use cb_hierarchy::{MethodTable, Selection, initialised_before};
-use cb_plain::{List, Numbers, OutOfMemory};
+use cb_plain::{List, Numbers, OutOfMemory, number_of};
 use std::alloc::Global;
 
 /// The name of the initialiser of a class, and its descriptor (JVMS §2.9).

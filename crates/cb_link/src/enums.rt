@@ -13,13 +13,12 @@ ghost use Rattle.cb_link.specs.InnerTables.{AreAll};
 
 use crate::base::Base;
 use crate::descriptors::text_or_none;
-use crate::numbering::number_of;
 use crate::ranked::name_of;
 use crate::resolver::Resolver;
 use cb_classfile::{ClassFile, Field, FieldFlags};
 use cb_hierarchy::Hierarchy;
 use cb_kinds::array_of;
-use cb_plain::{Numbers, OutOfMemory};
+use cb_plain::{Numbers, OutOfMemory, number_of};
 use std::alloc::Global;
 
 /// The access flags of an enum's constant (JVMS table 4.5-A).

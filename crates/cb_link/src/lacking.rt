@@ -1,5 +1,5 @@
 // The members that instructions name and that can't be had.
-ghost use Rattle.std.specs.Prelude.{◌≡◌, ◌+◌, IfOk};
+ghost use Rattle.std.specs.Prelude.{◌≡◌, IfOk};
 ghost use Rattle.cb_link.specs.InnerLacked.{body_lacks, class_lacks, code_lacks};
 ghost use Rattle.cb_link.specs.Lacking.{first_lacking, lacks};
 
@@ -7,9 +7,9 @@ use crate::lacked::{lacks_class, lacks_member};
 use crate::resolver::Resolver;
 use cb_classfile::{ClassFile, Method, index_in, opcode};
 use cb_insn::Insn;
-use cb_plain::OutOfMemory;
+use cb_plain::{OutOfMemory, one_more};
 use cb_text::{Pool, Units};
-use std::alloc::{AllocError, Global};
+use std::alloc::Global;
 
 /// The first class, by its number, of whose instructions one names a member that can't be had, with the text of that member:
 /// by class, method and place. `OutOfMemory` where no memory was to be had. Takes expected time in the instructions, times what
@@ -26,19 +26,9 @@ pub(crate) fn first_lacking(
         if let Some(text) = class_lacks(alloc, resolver, number, class)? {
             return Ok(Some((number, text)));
         }
-        number = next_number(number)?;
+        number = one_more(number)?;
     }
     Ok(None)
-}
-
-/// The number behind one. `OutOfMemory` where there is none.
-fn next_number(number: u32) -> Result<u32, OutOfMemory>
-    ensures { IfOk result (λ next. next ≡ number + 1) }
-{
-    match number.checked_add(1) {
-        Some(next) => Ok(next),
-        None => Err(AllocError),
-    }
 }
 
 /// What the first instruction of a class lacks that lacks something.

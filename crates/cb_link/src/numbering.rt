@@ -6,9 +6,9 @@ ghost use Rattle.cb_link.specs.Places.{numbered_in};
 
 use cb_classfile::ClassFile;
 use cb_kinds::Texts;
-use cb_plain::{List, OutOfMemory};
+use cb_plain::{List, OutOfMemory, number_of};
 use cb_text::Pool;
-use std::alloc::{AllocError, Global};
+use std::alloc::Global;
 
 /// A member of a class that a program numbers.
 pub(crate) trait Numbering: Sized {
@@ -69,14 +69,4 @@ fn add_members<T: Numbering>(
         list.push(linked)?;
     }
     Ok(())
-}
-
-/// An index as a number. `OutOfMemory` from 2^32 on.
-pub(crate) fn number_of(index: usize) -> Result<u32, OutOfMemory>
-    ensures { IfOk result (λ number. number ≡ index) }
-{
-    match u32::try_from(index) {
-        Ok(number) => Ok(number),
-        Err(_) => Err(AllocError),
-    }
 }

@@ -8,14 +8,13 @@ ghost use Rattle.cb_kinds.specs.Texts.{own_number};
 ghost use Rattle.cb_link.specs.Numbers.{has_flag, name_of, or_none, package_of, texts_in, visibility_of};
 ghost use Rattle.cb_link.specs.InnerRanks.{fields_of_class, methods_of_class, number_at, package_name, rank, rank_field, rank_method, texts_of_fields, texts_of_methods};
 
-use crate::numbering::number_of;
 use cb_classfile::{ClassFile, ClassFlags, Field, Method, MethodFlags};
 use cb_hierarchy::{
     Class, Classes, Declared, Field as RankedField, Fields as RankedFields, Method as RankedMethod,
     Methods as RankedMethods, Visibility,
 };
 use cb_kinds::{PairNumbers, TextNumbers};
-use cb_plain::{Numbers, OutOfMemory};
+use cb_plain::{Numbers, OutOfMemory, number_of};
 use cb_text::Pool;
 use std::alloc::Global;
 

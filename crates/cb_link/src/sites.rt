@@ -8,12 +8,12 @@ ghost use Rattle.cb_link.specs.Program.{linked_site};
 ghost use Rattle.cb_link.specs.InnerSites.{Exceeds, body_makings, class_makings, insn_makings, made_at};
 
 use crate::making::made_by;
-use crate::numbering::number_of;
 use crate::site_list::SiteList;
 use crate::{Refusal, Site, Sites};
 use cb_classfile::{ClassFile, Method};
 use cb_insn::Insn;
 use cb_kinds::{Texts, kind_number};
+use cb_plain::{number_of, one_more};
 use cb_text::{Pool, Units};
 use std::alloc::Global;
 
@@ -51,20 +51,9 @@ fn add_class(
     let methods = class.methods.as_slice();
     for method in methods {
         add_method(alloc, &class.pool, number, method, kinds, sites)?;
-        number = next_number(number)?;
+        number = one_more(number)?;
     }
     Ok(number)
-}
-
-/// The number behind one. `OutOfMemory` where there is none.
-fn next_number(number: u32) -> Result<u32, Refusal>
-    ensures next { IfOk result (λ next. next ≡ number + 1) }
-    ensures refused { IfErr result (λ refusal. refusal ≡ Refusal.OutOfMemory) }
-{
-    match number.checked_add(1) {
-        Some(next) => Ok(next),
-        None => Err(Refusal::OutOfMemory),
-    }
 }
 
 /// Adds the sites of a method.

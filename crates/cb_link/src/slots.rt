@@ -7,10 +7,9 @@ ghost use Rattle.cb_hierarchy.specs.declared.member.Field.{Field as Ranked};
 ghost use Rattle.cb_link.specs.InnerCounts.{count_above, slot_by, statics_in};
 ghost use Rattle.cb_link.specs.InnerTables.{AreAll};
 
-use crate::numbering::number_of;
 use cb_hierarchy::{Class, Field, FieldTable, Hierarchy};
-use cb_plain::{List, Numbers, OutOfMemory};
-use std::alloc::{AllocError, Global};
+use cb_plain::{List, Numbers, OutOfMemory, number_of, one_more};
+use std::alloc::Global;
 
 /// The slots of the fields that come next: that of a static one, and by class that of a field of objects.
 #[derive(Drop)]
@@ -38,16 +37,6 @@ impl NextSlots {
             self.objects[class] = one_more(slot)?;
             Ok(slot)
         }
-    }
-}
-
-/// One more than a number. `OutOfMemory` where there is none.
-fn one_more(number: u32) -> Result<u32, OutOfMemory>
-    ensures { IfOk result (λ more. more ≡ number + 1) }
-{
-    match number.checked_add(1) {
-        Some(more) => Ok(more),
-        None => Err(AllocError),
     }
 }
 

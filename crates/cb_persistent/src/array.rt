@@ -1,5 +1,5 @@
 // Arrays that stay as they are.
-ghost use Rattle.std.specs.Prelude.{◌≡◌, ◌^◌, ◌<◌, ◌↔◌, [], ◌++◌, length, replicate, slice_get, slice_set, IfOk, IsTrue, Some};
+ghost use Rattle.std.specs.Prelude.{◌≡◌, ◌^◌, ◌*◌, ◌<◌, ◌↔◌, [], ◌++◌, length, replicate, slice_get, slice_set, IfOk, IsTrue, Some};
 
 use crate::tree::Tree;
 use cb_plain::OutOfMemory;
@@ -74,7 +74,7 @@ impl<T: Copy + Drop> PersistentArray<T> {
         if self.len == 0 {
             return Ok(PersistentArray::empty());
         }
-        if self.len > usize::MAX / 2 {
+        if !has_double(self.len) {
             return Err(AllocError);
         }
         let (front, _) = Tree::filled(alloc, self.len, item)?;
@@ -134,4 +134,11 @@ impl<T: Copy + Drop> PersistentArray<T> {
             len: self.len,
         })
     }
+}
+
+/// Whether twice as many items can be counted.
+fn has_double(len: usize) -> bool
+    ensures { IsTrue result ↔ (len * 2 < 2 ^ 64) }
+{
+    len <= usize::MAX / 2
 }

@@ -1,4 +1,6 @@
 pub mod Depth
+pub mod InnerPlaces
+pub mod PlaceTable
 pub mod Reach
 pub mod Requests
 pub mod Roots

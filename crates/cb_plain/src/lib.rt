@@ -2,7 +2,7 @@
 //! want of memory. `specs/` has besides the state of a machine (`State`), roots and states with one thing changed (`Roots`, `Updates`), the
 //! frame of a method that is entered (`Depth`), and what can be reached (`Reach`).
 //!
-//! No clause says that memory is to be had: that `push`, `with_capacity` and `Name::of` don't always give up is shown by
+//! No clause says that memory is to be had: that `push`, `with_capacity`, `Name::of` and `PlaceTable::of` don't always give up is shown by
 //! tests alone. Nor does a clause speak of the room that `with_capacity` takes.
 #![tactic(auto)]
 
@@ -10,6 +10,8 @@ mod class_state;
 mod list;
 mod memory;
 mod name;
+mod number;
+mod place_table;
 mod request;
 mod shape;
 mod table;
@@ -20,6 +22,8 @@ pub use class_state::ClassState;
 pub use list::{List, Marks, Numbers, Places};
 pub use memory::OutOfMemory;
 pub use name::{Name, Names};
+pub use number::{number_of, one_more};
+pub use place_table::PlaceTable;
 pub use request::Request;
 pub use shape::{Shape, Shapes};
 pub use table::Table;

@@ -1,5 +1,5 @@
 -- ldc, ldc_w and ldc2_w.
-use Rattle.std.proofs.Common.{◌≡◌, ◌∙◌, ap, refl, sym, subst, ℕ, ℤ, ◌<◌, List, ◌∷◌, ◌++◌, length, Option, Some, None, option_and_then, option_map}
+use Rattle.std.proofs.Common.{◌≡◌, refl, sym, subst, ℕ, List, ◌∷◌, ◌++◌, Option, Some, None, option_and_then, option_map}
 use Rattle.std.specs.List.{AllByRecursion}
 use Rattle.cb_classfile.specs.Class.{IsWellFormed}
 use Rattle.cb_hierarchy.specs.Classes.{listed}
@@ -9,7 +9,7 @@ use Rattle.cb_link.specs.Named.{IsThere, code_at, insn_in, named}
 use Rattle.cb_link.specs.Program.{Linked}
 use Rattle.cb_link.specs.declared.named.Named.{Named}
 use Rattle.cb_link.specs.declared.named.Named.TheVariants as meanings
-use Rattle.cb_link.proofs.NamedThere.{insn_there}
+use Rattle.cb_link.proofs.Laws.{insn_there}
 use Rattle.cb_machine.specs.Computing.{loads_constant}
 use Rattle.cb_machine.specs.Machine.{Machine}
 use Rattle.cb_machine.specs.Plans.{Plan, leaving}
@@ -17,7 +17,6 @@ use Rattle.cb_machine.specs.Standing.{Now, leaves, leaves_with}
 use Rattle.cb_machine.specs.Steps.{done}
 use Rattle.cb_machine.specs.Strings.{Placed, class_object, constant_string}
 use Rattle.cb_plain.specs.State.{Frame, MethodFrame, OfMethod, State}
-use Rattle.cb_plain.specs.declared.value.Value.{Value}
 use Rattle.cb_plain.specs.declared.value.Value.TheVariants as values
 use Rattle.cb_shapes.specs.Shapes.{action_of}
 use Rattle.cb_shapes.specs.declared.action.Action.TheVariants as actions
@@ -27,7 +26,7 @@ use Rattle.cb_verify.specs.Calls.{put_on}
 use Rattle.cb_verify.specs.Frames as verified
 use Rattle.cb_verify.specs.Rules.{constant_type}
 use Rattle.cb_verify.specs.Typed.{IsTyped}
-use Rattle.cb_verify.specs.Within.{Within, kind_of_class, kind_of_string}
+use Rattle.cb_verify.specs.Within.{kind_of_class, kind_of_string}
 use Rattle.cb_safety.specs.Advancing.{Advances, HoldsOn, IsSpelled}
 use Rattle.cb_safety.specs.Constants.{HasClassObjects}
 use Rattle.cb_safety.specs.Held.{HasType, IsStack}
@@ -40,7 +39,7 @@ use Rattle.cb_safety.proofs.ClassObjects.{HasClassObject, class_made}
 use Rattle.cb_safety.proofs.Declared.{is_own}
 use Rattle.cb_safety.proofs.Extended.{is_stack_more}
 use Rattle.cb_safety.proofs.Fitting.{FitsNamed, named_fits}
-use Rattle.cb_safety.proofs.Going.{Planned, Stage, advances_by, lays_next, now_at, planned_by, running, stage_of}
+use Rattle.cb_safety.proofs.Going.{Planned, Stage, advances_by, lays_next, now_at, running, stage_of}
 use Rattle.cb_safety.proofs.Grown.{Grows, constant_grows, grows_first, lays_good}
 use Rattle.cb_safety.proofs.Makings.{IsMade, made_is}
 use Rattle.cb_safety.proofs.StringsMade.{HasString, IsGood, objects_in}

@@ -1,5 +1,5 @@
 -- Numbers that constants name fit the types of their values.
-use Rattle.std.proofs.Common.{◌≡◌, ◌∙◌, ap, refl, sym, subst, ℕ, ℤ, zero, suc, pos, FitsSigned, IfSome, ◌<◌, ◌^◌, Bool, true, false, List, Option, Some, None, option_and_then, option_map, slice_get, if◌then◌else◌}
+use Rattle.std.proofs.Common.{◌≡◌, refl, sym, subst, ℕ, zero, suc, pos, FitsSigned, IfSome, ◌<◌, ◌^◌, Bool, true, false, List, Option, Some, None, option_and_then, option_map, slice_get, if◌then◌else◌}
 use Rattle.std.specs.Int.{Width, cast_signed, w32, w64}
 use Rattle.std.specs.List.{AllByRecursion}
 use Rattle.std.specs.Option.{option_or}
@@ -8,7 +8,6 @@ use mir.Val.{bits}
 use Rattle.cb_arith.proofs.Wrapping.{int_wrap-pos}
 use Rattle.cb_classfile.specs.Class.{IsWellFormed}
 use Rattle.cb_classfile.specs.Needed.{index_in}
-use Rattle.cb_classfile.specs.declared.class.ClassFile.{ClassFile}
 use Rattle.cb_hierarchy.specs.declared.member.Field.{Field as RankedField}
 use Rattle.cb_insn.specs.declared.insn.Insn.{Insn}
 use Rattle.cb_kinds.specs.Texts.{number_of}
@@ -20,7 +19,7 @@ use Rattle.cb_link.specs.Slots.{slot_of}
 use Rattle.cb_link.specs.declared.named.Named.{Named}
 use Rattle.cb_link.specs.declared.named.Named.TheVariants as meanings
 use Rattle.cb_classfile.specs.declared.method.Method.{Method}
-use Rattle.cb_link.proofs.FoundLow.{chained, either, mapped, whenever}
+use Rattle.cb_link.proofs.Laws.{chained, either, mapped}
 use Rattle.cb_plain.specs.declared.value.Value.{Value}
 use Rattle.cb_plain.specs.declared.value.Value.TheVariants as values
 use Rattle.cb_text.specs.Naming.{MemberNames, class_at, int_at, int_of, long_at, long_of, member_at, string_at}

@@ -6,7 +6,7 @@ use Rattle.std.proofs.lemmas.Option.{slice_get-get_or}
 use Rattle.cb_link.specs.Calls.{initial_parents, initialiser}
 use Rattle.cb_link.specs.Numbers.{ranked_methods}
 use Rattle.cb_link.specs.Program.{Linked}
-use Rattle.cb_link.proofs.NumbersLow.{initial_within}
+use Rattle.cb_link.proofs.Laws.{initial_within}
 use Rattle.cb_machine.specs.Entering.{entered_upon}
 use Rattle.cb_machine.specs.Initialising.{begun_upon, initialising}
 use Rattle.cb_machine.specs.Machine.{Machine, body_of}

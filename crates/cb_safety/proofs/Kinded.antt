@@ -12,7 +12,7 @@ use Rattle.cb_classfile.specs.Pool.{class_at}
 use Rattle.cb_classfile.specs.declared.needed.ConstantKind.TheVariants as needs
 use Rattle.cb_kinds.specs.Kinds.{kinds_of_name}
 use Rattle.cb_kinds.specs.Texts.{number_of, same_text}
-use Rattle.cb_link.proofs.KindsAmong.{all_named}
+use Rattle.cb_link.proofs.Laws.{all_named}
 use Rattle.cb_link.specs.Having.{IsWhole}
 use Rattle.cb_link.specs.Making.{class_kinds, fixed_kinds}
 use Rattle.cb_link.specs.Named.{code_at, constant_named, insn_in, member_named, or_nothing}

@@ -22,7 +22,7 @@ use Rattle.cb_classfile.specs.Needed.{HasConstant, StandsAt, index_in, is_of_kin
 use Rattle.cb_classfile.specs.Pool.{class_at}
 use Rattle.cb_classfile.specs.Tables.{SpellsEach}
 use Rattle.cb_kinds.specs.Kinds.{kinds_of_name, kinds_of_type, name_in}
-use Rattle.cb_link.proofs.PlacedLaws.{placed}
+use Rattle.cb_link.proofs.Laws.{placed}
 use Rattle.cb_link.specs.Having.{IsWhole}
 use Rattle.cb_hierarchy.specs.Classes.{listed}
 use Rattle.cb_link.specs.Making.{body_kinds, class_kinds, descriptor_kinds, field_kinds, frame_kinds, handler_kinds, insn_kinds, made_by, member_kinds, method_kinds, named_in}

@@ -12,7 +12,7 @@ use Rattle.cb_kinds.specs.Kinds.{ends_name, is_array, name_in, type_of_name}
 use Rattle.cb_kinds.specs.Texts.{same_text}
 use Rattle.cb_kinds.specs.declared.basic.Basic.{Basic}
 use Rattle.cb_kinds.specs.declared.basic.Basic.TheVariants.{Boolean, Byte, Char, Int, Long, Reference, Short}
-use Rattle.cb_link.proofs.KindsAmong.{element_low}
+use Rattle.cb_link.proofs.Laws.{element_low}
 use Rattle.cb_link.specs.Having.{HasOwnName, IsBelow, IsWhole}
 use Rattle.cb_link.specs.Numbers.{class_number, name_of, or_none}
 use Rattle.cb_link.specs.Program.{Linked}

@@ -19,8 +19,8 @@ use Rattle.cb_hierarchy.specs.declared.member.Declared.{Declared}
 use Rattle.cb_hierarchy.specs.declared.member.Field.{Field as RankedField}
 use Rattle.cb_kinds.specs.Kinds.{is_array, name_in, type_of_name}
 use Rattle.cb_kinds.specs.Texts.{number_of_pair, same_text}
-use Rattle.cb_link.proofs.PlacedLaws.{placed}
-use Rattle.cb_link.proofs.SlotLaws.{object_slot}
+use Rattle.cb_link.proofs.Laws.{placed}
+use Rattle.cb_link.proofs.Laws.{object_slot}
 use Rattle.cb_link.specs.Numbers.{Numbered, class_number, field_texts, fields_of, has_flag, hierarchy, ranked, ranked_field, ranked_fields, ranked_methods}
 use Rattle.cb_link.specs.Places.{IsPlaced}
 use Rattle.cb_link.specs.Resolving.{found_field, holder, object}

@@ -26,7 +26,7 @@ use Rattle.cb_link.specs.Slots.{basic_of_field, slot_of}
 use Rattle.cb_link.specs.declared.linked.LinkedField.{LinkedField}
 use Rattle.cb_link.specs.declared.named.Named.{Named}
 use Rattle.cb_link.specs.declared.named.Named.TheVariants as meanings
-use Rattle.cb_link.proofs.SlotPlaces.{static_slot}
+use Rattle.cb_link.proofs.Laws.{static_slot}
 use Rattle.cb_plain.specs.declared.value.Value.TheVariants as values
 use Rattle.cb_shapes.specs.Control.{condition_of}
 use Rattle.cb_shapes.specs.References.{by_constant, reference}

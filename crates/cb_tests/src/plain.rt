@@ -1,5 +1,5 @@
 // Lists and names with ample memory.
-use cb_plain::{Marks, Name, Names, Numbers, OutOfMemory, Shape, Shapes, Value};
+use cb_plain::{Marks, Name, Names, Numbers, OutOfMemory, PlaceTable, Shape, Shapes, Value};
 
 #[test]
 fn a_list_has_its_items_in_the_order_of_their_pushes(rt: HostRuntime) -> Result<(), OutOfMemory> {
@@ -32,5 +32,14 @@ fn names_values_and_shapes_are_what_they_are_made_of(rt: HostRuntime) -> Result<
     shapes.push(Shape::Elements(false))?;
     assert!(rt; matches!(shapes.get(1), Shape::Elements(false)));
     assert!(rt; Value::Ref(0) != Value::Long(0));
+    Ok(())
+}
+
+#[test]
+fn a_table_has_the_first_item_of_each_place(rt: HostRuntime) -> Result<(), OutOfMemory> {
+    let items = [(4, 'a'), (0, 'b'), (4, 'c')];
+    let table = PlaceTable::of(rt.alloc(), items.as_slice())?;
+    let found = [0, 1, 4, 5].map(|place| table.index(place));
+    assert_eq!(rt; found, [Some(1), None, Some(0), None]);
     Ok(())
 }

@@ -4,7 +4,8 @@ use Rattle.std.proofs.lemmas.List.{append-nil, drop_all, drop_more}
 use Rattle.cb_classfile.specs.declared.frame_map.MapFrame.{MapFrame}
 use Rattle.cb_classfile.specs.FrameMap.{form_of_frame}
 use Rattle.cb_verify.specs.declared.verification_type.VerificationType.{VerificationType}
-use Rattle.cb_verify.specs.Expansion.{declared, declared_behind, expanded, fitting, place_behind, start_types, values_in}
+use Rattle.cb_classfile.specs.Expansion.{place_behind}
+use Rattle.cb_verify.specs.Expansion.{declared, declared_behind, expanded, fitting, values_in}
 use Rattle.cb_verify.specs.Frames.{Frame, laid}
 use Rattle.cb_verify.specs.InnerLaid.{IsLaid, Laid, laid_behind, laid_in}
 use Rattle.cb_verify.specs.Within.{Within}

@@ -1,11 +1,11 @@
 -- What `Laid` keeps and answers, step by step.
 use Rattle.std.proofs.Common.{◌≡◌, ◌∙◌, ap, sym, refl, arith, subst, ℕ, ◌+◌, ◌-◌, ◌<◌, ◌≤◌, List, [], ◌∷◌, ◌++◌, append_assoc, drop, get_or, length, length-append, slice_set, take, Option, Some, None, option_and_then, option_map}
 use Rattle.std.proofs.lemmas.Bool.{cond-true, cond-false, le-leb, lt-leb}
-use Rattle.std.proofs.lemmas.List.{length-set, length-take-le, take-append-drop, take-take, take_all, take_at, take_more}
+use Rattle.std.proofs.lemmas.List.{length-set, length-take-le, take-append-drop, take-take, take_at, take_more}
 use Rattle.std.proofs.lemmas.Option.{same_Some}
 use Rattle.cb_verify.specs.declared.verification_type.VerificationType.{VerificationType}
 use Rattle.cb_verify.specs.declared.verification_type.VerificationType.TheVariants.{Top, Long}
-use Rattle.cb_verify.specs.Expansion.{without_last}
+use Rattle.cb_classfile.specs.Expansion.{without_last}
 use Rattle.cb_verify.specs.Frames.{height, laid}
 use Rattle.cb_verify.specs.InnerLaid.{Laid, laid_in}
 use Rattle.cb_verify.specs.Types.{words}

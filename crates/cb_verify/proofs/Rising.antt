@@ -10,7 +10,8 @@ use Rattle.std.proofs.lemmas.List.Sorted.{IsPartitionedBy-ltb}
 use Rattle.cb_classfile.specs.declared.frame_map.MapFrame.{MapFrame}
 use Rattle.cb_classfile.specs.FrameMap.{form_of_frame}
 use Rattle.cb_verify.specs.declared.verification_type.VerificationType.{VerificationType}
-use Rattle.cb_verify.specs.Expansion.{declared, declared_behind, fitting, place_behind, start_types, values_in}
+use Rattle.cb_classfile.specs.Expansion.{place_behind}
+use Rattle.cb_verify.specs.Expansion.{declared, declared_behind, fitting, start_types, values_in}
 use Rattle.cb_verify.specs.Frames.{Frame}
 use Rattle.cb_verify.specs.InnerTables.{if_at}
 use Rattle.cb_verify.specs.Within.{Within}

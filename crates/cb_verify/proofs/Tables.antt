@@ -1,39 +1,30 @@
--- A table from places to frames, frame by frame from the last one.
-use Rattle.std.proofs.Common.{◌≡◌, ◌∙◌, ap, refl, sym, arith, ℕ, ◌+◌, ◌<◌, ◌≤◌, ◌==◌, Bool, true, false, List, [], ◌∷◌, Option, Some, None, cond, drop, get_or, length, nat_lt}
-use Rattle.std.specs.Prelude.{option_and_then, slice_get, if◌then◌else◌}
-use Rattle.std.specs.List.{find}
-use Rattle.std.proofs.lemmas.Bool.Decides.{nat_tests}
-use Rattle.std.proofs.lemmas.Option.{slice_get_past, slice_get_read}
-use Rattle.cb_verify.specs.InnerTables.{below, entered_turn}
-use Rattle.cb_verify.proofs.Dropped.{drop_next}
+-- What stands at a place of a table.
+use Rattle.std.proofs.Common.{◌≡◌, ◌∙◌, ap, refl, sym, ℕ, ◌==◌, Bool, true, false, List, Option, Some, None, cond, length, nat_lt}
+use Rattle.std.specs.Prelude.{option_and_then, option_map, slice_get}
+use Rattle.std.specs.List.{find, position_or_len}
+use Rattle.std.proofs.lemmas.Bool.{ltb-false}
+use Rattle.std.proofs.lemmas.List.Folds.{find_at}
+use Rattle.std.proofs.lemmas.Option.{slice_get_past}
+use Rattle.cb_plain.specs.PlaceTable.{IsTableOf, answered, index_at}
+use Rattle.cb_verify.specs.Frames.{Frame}
+use Rattle.cb_verify.specs.Framed.{frame_at_place}
 
--- a number is that of an item where it is one of as many
-pub below_items : {Item : Type 0} (items : List Item) (turn : Option ℕ) → option_and_then (slice_get items) (option_and_then (below (length items)) turn)
-    ≡ option_and_then (slice_get items) turn
-below_items items None = refl
-below_items {Item} items (Some turn) = go (nat_lt turn (length items)) refl where
-  go : (low : Bool) → nat_lt turn (length items) ≡ low → option_and_then (slice_get items) (if nat_lt turn (length items) then Some turn else None) ≡ slice_get items turn
-  go true is = ap (λ (low : Bool). option_and_then (slice_get items) (if low then Some turn else None)) is
-  go false is =
-      ap (λ (low : Bool). option_and_then (slice_get items) (if low then Some turn else None)) is
-      ∙ sym (slice_get_past items turn (let past : length items ≤ turn = grind (arith, nat_tests) in past))
+-- the item of the index of the first one there is the first one there
+pub found_at : {Item : Type 0} (items : List (ℕ × Item)) (place : ℕ) → option_and_then (slice_get items) (index_at items place) ≡ find (λ item. item.0 == place) items
+found_at {Item} items place = go (nat_lt index (length items)) refl ∙ sym (find_at test items) where
+  test : ℕ × Item → Bool
+  test item = item.0 == place
 
--- one more item in front
-pub entered_next : {Item : Type 0} (items : List (ℕ × Item)) (place pc : ℕ) (item : ℕ × Item) (old new : Option ℕ) → place < length items → item ≡ get_or items place item
-    → new ≡ entered_turn old (item.0 == pc) place
-    → option_and_then (slice_get items) old ≡ find (λ entry. entry.0 == pc) (drop (place + 1) items)
-    → option_and_then (slice_get items) new ≡ find (λ entry. entry.0 == pc) (drop place items)
-entered_next {Item} items place pc item old new low is enters before =
-    ap (option_and_then (slice_get items)) enters ∙ go (item.0 == pc) refl
-    ∙ sym (ap (find (λ (entry : ℕ × Item). entry.0 == pc)) (drop_next items place item there)) where
-      there : slice_get items place ≡ Some item
-      there = slice_get_read items (length items) place item refl low is
+  index : ℕ
+  index = position_or_len test items
 
-      go : (here : Bool) → (item.0 == pc) ≡ here
-          → option_and_then (slice_get items) (entered_turn old (item.0 == pc) place) ≡ find (λ (entry : ℕ × Item). entry.0 == pc) (item ∷ drop (place + 1) items)
-      go true here =
-          ap (λ (here : Bool). option_and_then (slice_get items) (entered_turn old here place)) here ∙ there
-          ∙ sym (ap (λ (here : Bool). cond here (Some item) (find (λ (entry : ℕ × Item). entry.0 == pc) (drop (place + 1) items))) here)
-      go false here =
-          ap (λ (here : Bool). option_and_then (slice_get items) (entered_turn old here place)) here ∙ before
-          ∙ sym (ap (λ (here : Bool). cond here (Some item) (find (λ (entry : ℕ × Item). entry.0 == pc) (drop (place + 1) items))) here)
+  go : (low : Bool) → nat_lt index (length items) ≡ low → option_and_then (slice_get items) (cond low (Some index) None) ≡ slice_get items index
+  go true is = refl
+  go false is = sym (slice_get_past items index (ltb-false index (length items) is))
+
+-- the frame of what a table answers for a place is the one there
+pub frame_found : (frames all : List (ℕ × Frame)) (table : List (Option ℕ)) (pc : ℕ) (found : Option ℕ) → frames ≡ all → IsTableOf frames table → found ≡ answered table pc
+    → option_map (λ entry. entry.1) (option_and_then (slice_get frames) found) ≡ frame_at_place pc all
+frame_found frames all table pc found same is at =
+    ap (λ found. option_map (λ (entry : ℕ × Frame). entry.1) (option_and_then (slice_get frames) found)) (at ∙ is pc)
+    ∙ ap (option_map (λ (entry : ℕ × Frame). entry.1)) (found_at frames pc) ∙ ap (frame_at_place pc) same

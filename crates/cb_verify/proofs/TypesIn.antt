@@ -1,9 +1,10 @@
 -- The types that a file declares, one after the other.
-use Rattle.std.proofs.Common.{◌≡◌, ◌∙◌, ap, sym, refl, ℕ, ◌+◌, ◌<◌, ◌≤◌, List, [], ◌∷◌, ◌++◌, length, drop, get_or, map, append_assoc, Option, Some, None, option_map}
-use Rattle.std.proofs.lemmas.List.{append-nil, drop_all, drop_more}
+use Rattle.std.proofs.Common.{◌≡◌, ◌∙◌, ap, sym, refl, ℕ, ◌+◌, ◌<◌, List, [], ◌∷◌, ◌++◌, length, drop, get_or, map, append_assoc, Option, Some, None, option_map}
+use Rattle.std.proofs.lemmas.List.{drop_more}
 use Rattle.cb_classfile.specs.declared.map_type.MapType.{MapType}
 use Rattle.cb_verify.specs.declared.verification_type.VerificationType.{VerificationType}
-use Rattle.cb_verify.specs.Expansion.{all_of, type_in, types_in}
+use Rattle.cb_classfile.specs.Expansion.{all_of}
+use Rattle.cb_verify.specs.Expansion.{type_in, types_in}
 use Rattle.cb_verify.specs.Within.{Within}
 
 -- known types in front of those of the rest

@@ -1,11 +1,11 @@
 -- The frames that a method declares, in full (JVMS §4.7.4, §4.10.1.4), and the one with which it begins (§4.10.1.6).
-use Rattle.std.specs.Prelude.{ℕ, ◌+◌, ◌-◌, List, [], ◌∷◌, ◌++◌, length, map, take, Option, Some, None, is_some, option_and_then, option_map, nat_le, ◌==◌, ◌&&◌, if◌then◌else◌}
+use Rattle.std.specs.Prelude.{ℕ, List, [], ◌∷◌, ◌++◌, map, Option, Some, None, is_some, option_and_then, option_map, ◌==◌, ◌&&◌, if◌then◌else◌}
 use Rattle.std.specs.List.{find}
 use Rattle.cb_classfile.specs.declared.frame_form.FrameForm.{FrameForm}
-use Rattle.cb_classfile.specs.declared.frame_form.FrameForm.TheVariants as forms
 use Rattle.cb_classfile.specs.declared.frame_map.MapFrame.{MapFrame}
 use Rattle.cb_classfile.specs.declared.map_type.MapType.{MapType}
 use Rattle.cb_classfile.specs.declared.map_type.MapType.TheVariants as types
+use Rattle.cb_classfile.specs.Expansion.{all_of, frames_behind, locals_in}
 use Rattle.cb_classfile.specs.FrameMap.{form_of_frame}
 use Rattle.cb_verify.specs.declared.verification_type.VerificationType.{VerificationType}
 use Rattle.cb_verify.specs.declared.verification_type.VerificationType.TheVariants.{Top, Int, Long, Null, This, Object, New}
@@ -13,12 +13,6 @@ use Rattle.cb_verify.specs.Frames.{Frame, has_this, is_legal, laid}
 use Rattle.cb_verify.specs.Leaving.{new_kind}
 use Rattle.cb_verify.specs.Types.{type_of}
 use Rattle.cb_verify.specs.Within.{Within, kind_named, parameters, result_of}
-
--- each of some, or none where one is missing
-abbrev pub all_of : {Item : Type 0} → List (Option Item) → Option (List Item)
-all_of [] = Some []
-all_of (None ∷ items) = None
-all_of (Some item ∷ items) = option_map (λ rest. item ∷ rest) (all_of items)
 
 -- what a type in a file says. One that isn't initialised is of a place at which `new` stands
 abbrev pub type_in : Within → MapType → Option VerificationType
@@ -59,20 +53,8 @@ abbrev pub start : Within → Option Frame
 start method = if method.is_constructor && is_some (result_of method) then None else frame_of method (start_types method) []
 
 -- the values in the local variables of a frame by those before it, if both are there
-abbrev pub without_last : ℕ → List VerificationType → Option (List VerificationType)
-without_last count values = if nat_le count (length values) then Some (take (length values - count) values) else None
-
 abbrev pub values_in : Within → FrameForm → MapFrame → Option (List VerificationType) → Option (List VerificationType)
-values_in method forms.Chop frame before = option_and_then (without_last (251 - frame.kind)) before
-values_in method forms.Append frame before =
-    option_and_then (λ values. option_map (λ added. values ++ added) (types_in method frame.locals)) before
-values_in method forms.Full frame before = types_in method frame.locals
-values_in method form frame before = before
-
--- the place of a frame: the first one's delta, and that of another counts from behind the place before it
-abbrev pub place_behind : Option ℕ → ℕ → ℕ
-place_behind None delta = delta
-place_behind (Some previous) delta = previous + delta + 1
+values_in method form frame before = locals_in (type_in method) form frame before
 
 -- values for which the method's local variables have room
 abbrev pub fitting : Within → List VerificationType → Option (List VerificationType)
@@ -85,11 +67,9 @@ abbrev pub expanded : Within → Option (List VerificationType) → List MapType
 expanded method values stacked = option_and_then (λ locals. option_and_then (frame_of method locals) (types_in method stacked)) values
 
 abbrev pub declared_behind : Within → Option ℕ → Option (List VerificationType) → List MapFrame → List (ℕ × Option Frame)
-declared_behind method previous before [] = []
-declared_behind method previous before (frame ∷ frames) =
-    let place = place_behind previous frame.delta in
-    let values = option_and_then (fitting method) (values_in method (form_of_frame frame.kind) frame before) in
-    (place, expanded method values frame.stack) ∷ declared_behind method (Some place) values frames
+declared_behind method previous before frames =
+    frames_behind (λ frame values. option_and_then (fitting method) (values_in method (form_of_frame frame.kind) frame values))
+    (λ place values stack. (place, expanded method values stack)) previous before frames
 
 abbrev pub declared : Within → List (ℕ × Option Frame)
 declared method = declared_behind method None (fitting method (start_types method)) method.body.frames

@@ -1,7 +1,8 @@
 // The frames that a method declares, in full, and the one with which it begins.
-ghost use Rattle.std.specs.Prelude.{◌≡◌, ◌==◌, IfOk, IfSome, nat_lt, option_and_then, option_copied, option_map, slice_get};
+ghost use Rattle.std.specs.Prelude.{◌≡◌, ◌==◌, ◌≤◌, ◌^◌, IfOk, IfSome, IsErr, nat_lt, option_and_then, option_copied, option_map, slice_get};
 ghost use Rattle.std.specs.List.{find};
-ghost use Rattle.cb_verify.specs.Expansion.{declared, declared_at, expanded, frame_of, place_behind, start, start_types};
+ghost use Rattle.cb_classfile.specs.Expansion.{place_behind};
+ghost use Rattle.cb_verify.specs.Expansion.{declared, declared_at, expanded, frame_of, start, start_types};
 ghost use Rattle.cb_verify.specs.InnerLaid.{IsLaid, laid_behind, laid_in};
 ghost use Rattle.cb_verify.specs.InnerTables.{if_at};
 
@@ -120,7 +121,8 @@ fn laid_types(
 
 /// The place of a frame by the one before it. A file has fewer than 2 ^ 16 frames, so that none is past 2 ^ 32.
 fn place_behind(previous: Option<u32>, delta: u16) -> Result<u32, OutOfMemory>
-    ensures { IfOk result (λ place. place ≡ place_behind previous delta) }
+    ensures place { IfOk result (λ place. place ≡ place_behind previous delta) }
+    ensures refused { IsErr result → 2 ^ 32 ≤ place_behind previous delta }
 {
     match previous {
         None => Ok(u32::from(delta)),

@@ -1,6 +1,6 @@
 // Values in local variables.
 ghost use Rattle.std.specs.Prelude.{◌≡◌, ◌-◌, ◌<◌, [], ◌∷◌, ◌++◌, length, option_and_then, take, IfOk, Some};
-ghost use Rattle.cb_verify.specs.Expansion.{without_last};
+ghost use Rattle.cb_classfile.specs.Expansion.{without_last};
 ghost use Rattle.cb_verify.specs.InnerLaid.{bare, laid_in, this_count};
 
 use crate::locals::Locals;

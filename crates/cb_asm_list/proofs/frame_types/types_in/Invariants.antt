@@ -1,5 +1,6 @@
 use Rattle.std.proofs.Common.{◌≡◌, drop, map}
-use Rattle.cb_asm_list.specs.Expansion.{all_of, type_in, types_in}
+use Rattle.cb_classfile.specs.Expansion.{all_of}
+use Rattle.cb_asm_list.specs.Expansion.{type_in, types_in}
 use Rattle.cb_asm_list.proofs.AllOf.{behind_these}
 use Rattle.cb_asm_list.proofs.frame_types.types_in.Given as goal
 

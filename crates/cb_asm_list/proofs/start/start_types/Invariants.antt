@@ -1,6 +1,7 @@
 use Rattle.std.proofs.Common.{◌≡◌, drop, map}
 use Rattle.cb_names.specs.Types.{type_of}
-use Rattle.cb_asm_list.specs.Expansion.{all_of, parameter_type, start_types}
+use Rattle.cb_classfile.specs.Expansion.{all_of}
+use Rattle.cb_asm_list.specs.Expansion.{parameter_type, start_types}
 use Rattle.cb_asm_list.proofs.AllOf.{behind_these}
 use Rattle.cb_asm_list.proofs.start.start_types.Given as goal
 

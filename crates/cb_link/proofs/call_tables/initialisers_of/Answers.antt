@@ -9,5 +9,5 @@ pub loop-index-preserved : goal.loop-index-preserved
 loop-index-preserved c =
     all_more c.loop-index.index (initialiser c.args.resolver.now) c.loop-index.initialisers c.push.new.self c.declared.result c.loop-index.invariant
     (c.declared.ensures
-    ∙ (λ i. option_and_then (λ signature. method_of (c.methods.ensures i) (c.in_ok-class.ensures i) signature) (c.method_signature-signature.ensures i)))
+    ∙ (λ i. option_and_then (λ signature. method_of (c.methods.ensures i) (c.in_ok-class.ensures.number i) signature) (c.method_signature-signature.ensures i)))
     c.in_ok-push.ensures.ok

@@ -44,7 +44,7 @@ loop-class-preserved c =
     let within : place < length items = omega arith in
     let behind : place < length (enumerate_from 0 items) = omega (arith, length-enumerate_from 0 items) in
     record {
-      number = c.in_ok-number.ensures ∙ ap (λ n. n + 1) c.loop-class.invariant.number;
+      number = c.in_ok-number.ensures.more ∙ ap (λ n. n + 1) c.loop-class.invariant.number;
       none = none_here (entry_lacks classes) (enumerate_from 0 items) place (number, item) behind c.loop-class.invariant.none
           (lacked_at classes items place number item c.in_ok-text.field-0 within c.loop-class.invariant.number c.class-item.is c.in_ok-text.ensures ∙ ap (option_map (λ text. (number, text))) c.in_default.is);
     }

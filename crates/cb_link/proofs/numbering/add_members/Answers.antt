@@ -10,4 +10,4 @@ loop-index-preserved g c =
     (c.in_ok-push.ensures.ok ∙ ap (λ linked. c.loop-index.list ++ linked ∷ [])
     (c.in_ok-linked.ensures
     ∙ ap (λ place. g.T.Numbering.entry_of c.args.kinds.now (record { class = c.args.number; place = place; pool = c.args.class.now.pool; member = c.index-members-index.result }))
-    c.in_ok-place.ensures))
+    c.in_ok-place.ensures.number))

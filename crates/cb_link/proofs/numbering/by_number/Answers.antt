@@ -10,4 +10,4 @@ loop-index-preserved g c =
     c.loop-index.list c.add_members.new.list c.loop-index.invariant
     (c.in_ok-add_members.ensures
     ∙ ap (λ number. c.loop-index.list ++ map (g.T.Numbering.entry_of c.args.kinds.now) (numbered_in g.T.Numbering.members (number, c.index-classes-index.result)))
-    c.in_ok-number_of.ensures)
+    c.in_ok-number_of.ensures.number)

@@ -12,7 +12,7 @@ loop-method-preserved c =
     let methods = c.as_slice-methods.result.now in
     let place = c.loop-method.method-index in
     record {
-      number = let next = c.in_ok-number.ensures.next in let before = c.loop-method.invariant.number in omega (arith, next, before);
+      number = let next = c.in_ok-number.ensures.more in let before = c.loop-method.invariant.number in omega (arith, next, before);
       sites = grown c.args.kinds.now c.args.sites.now c.loop-method.sites _ (body_makings c.loop-method.number pool c.method-item.result.body) _ c.loop-method.invariant.sites
           (methods_grow pool c.args.first methods place c.loop-method.number c.method-item.result c.loop-method.invariant.number c.loop-method-test.true c.method-item.is)
           c.add_method.new.sites c.in_ok-add_method.ensures.added;

@@ -14,7 +14,7 @@ loop-index-preserved c =
     grown c.args.kinds.now c.args.sites.now c.loop-index.sites _ (make (c.loop-index.index, c.index-made-index.result) ∷ []) _ c.loop-index.invariant
     (map_more c.args.made.now c.loop-index.index c.index-made-index.result c.loop-index-test.true c.index-made-index.is make) c.push.new.self
     (c.in_ok-push.ensures.added
-    ∙ λ i. c.loop-index.sites ++ record { method = c.args.method; place = c.args.place; dimension = c.in_ok-number_of.ensures i; kind = kind i } ∷ [])
+    ∙ λ i. c.loop-index.sites ++ record { method = c.args.method; place = c.args.place; dimension = c.in_ok-number_of.ensures.number i; kind = kind i } ∷ [])
 
 pub returns-in_err-push-clause-refused : goal.returns-in_err-push-clause-refused
 returns-in_err-push-clause-refused c =

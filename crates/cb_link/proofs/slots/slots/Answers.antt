@@ -14,7 +14,7 @@ pub loop-index-preserved : goal.loop-index-preserved
 loop-index-preserved c =
     let index = c.loop-index.index in
     let field = c.field.result.now in
-    let is : slice_get c.args.fields.now index ≡ Some field = ap (λ place. slice_get c.args.fields.now place) (sym c.in_ok-number_of.ensures) ∙ c.field.ensures in
+    let is : slice_get c.args.fields.now index ≡ Some field = ap (λ place. slice_get c.args.fields.now place) (sym c.in_ok-number_of.ensures.number) ∙ c.field.ensures in
     counted_more c.args.hierarchy.now c.args.fields.now index field is c.loop-index.next.statics c.take.new.self.statics c.loop-index.next.objects.items c.take.new.self.objects.items
     c.loop-index.slots c.push.new.self c.in_ok-slot.slot (c.requires.declared index field is) c.loop-index.invariant c.in_ok-slot.ensures.slot c.in_ok-slot.ensures.statics
     c.in_ok-slot.ensures.objects c.in_ok-push.ensures.ok

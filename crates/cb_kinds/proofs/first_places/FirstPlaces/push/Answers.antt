@@ -8,7 +8,7 @@ pub invariant_of-self-2 : goal.invariant_of-self-2
 invariant_of-self-2 g c =
     let before = c.self.inside.keys.items in
     let many : c.len-place.result ≡ length before = omega (arith, c.len-place.ensures, c.self.inside.keys.ok.0) in
-    let few : length before + 1 < 2 ^ 32 = omega (arith, c.if-place-ge-MOST.false, many) in
+    let few : length before + 1 < 2 ^ 32 = omega (arith, c.if-not-has_number.false, many) in
     elim c.if-not-contains_key.branch [
       | then-not-contains_key+in_ok-insert w ↦
           let keys : c.push.new.self.items ≡ before ++ c.args.key ∷ [] = rw (c.in_ok-push.ensures.items, w.self-inside-is, c.in_ok-reserve.ensures.items) refl in

@@ -11,7 +11,7 @@ pub loop-frame-preserved : goal.loop-frame-preserved
 loop-frame-preserved c =
     declared_more c.args.method.now c.loop-frame.previous c.loop-frame.laid c.in_ok-laid-2.laid c.args.method.now.body.frames c.loop-frame.frame-index c.in_ok-place.place c.frame-item.result
     c.in_ok-expanded.expanded c.loop-frame.frames c.push.new.self (subst (λ (frames : List MapFrame). c.loop-frame.frame-index < length frames) listed c.loop-frame-test.true)
-    (c.frame-item.is ∙ ap (λ (frames : List MapFrame). get_or frames c.loop-frame.frame-index c.frame-item.result) listed) c.loop-frame.invariant c.in_ok-place.ensures c.in_ok-laid-2.ensures
+    (c.frame-item.is ∙ ap (λ (frames : List MapFrame). get_or frames c.loop-frame.frame-index c.frame-item.result) listed) c.loop-frame.invariant c.in_ok-place.ensures.place c.in_ok-laid-2.ensures
     (c.in_ok-expanded.ensures ∙ ap (λ (stack : List MapType). expanded c.args.method.now (values_of c.in_ok-laid-2.laid) stack) c.as_slice.ensures) c.in_ok-push.ensures.ok
   where
     listed : c.as_slice-frame-items.result.now ≡ c.args.method.now.body.frames
