@@ -1,6 +1,7 @@
 // Instructions as `javap` reads them, and files that differ from a first-form file in one place.
-use cb_first_form::{Instruction, NotFirstForm, next_instruction, read_first_form};
-use cb_machine::Operator;
+use crate::rows::{bytes_of, check};
+use cb_first_form::{NotFirstForm, next_instruction, read_first_form};
+use std::alloc::Global;
 use std::test::Fail;
 
 /// `First` with the code `getstatic; bipush 6; bipush 7; imul; invokevirtual; return`, a stack of 3 entries and 1
@@ -16,27 +17,34 @@ const FIRST: &[u8] = b"\xCA\xFE\xBA\xBE\x00\x00\x00\x34\x00\x14\
     \x00\x00\x00\x18\x00\x03\x00\x01\x00\x00\x00\x0C\
     \xB2\x00\x0D\x10\x06\x10\x07\x68\xB6\x00\x13\xB1\x00\x00\x00\x00\x00\x00";
 
-#[test]
-fn instructions_are_read_by_their_opcodes(rt: HostRuntime) {
-    for (code, want) in [
-        (b"\x02".as_slice(), Some((Instruction::Push(-1), 0))),
-        (b"\x08\x99", Some((Instruction::Push(5), 1))),
-        (b"\x10\x80", Some((Instruction::Push(-128), 0))),
-        (b"\x11\x7F\xFF", Some((Instruction::Push(32767), 0))),
-        (b"\x60", Some((Instruction::Operate(Operator::Add), 0))),
-        (b"\x64", Some((Instruction::Operate(Operator::Subtract), 0))),
-        (b"\x68", Some((Instruction::Operate(Operator::Multiply), 0))),
-        (b"\xB1", Some((Instruction::Return, 0))),
-        (b"\xB2\x00\x0D\xB1", Some((Instruction::GetOut, 1))),
-        (b"\xB6\x00\x13", Some((Instruction::PrintLine, 0))),
-        (b"\xB6\x00\x0D", None),
-        (b"\x09", None),
-        (b"\x11\x7F", None),
-        (b"", None),
-    ] {
-        let next = next_instruction(code).map(|(instruction, rest)| (instruction, rest.len()));
-        assert_eq!(rt; next, want, "at {code:?}");
+/// The first instruction, and how many bytes stand behind it.
+fn told_instruction(alloc: Global, text: &str) -> Result<String, Fail> {
+    let code = bytes_of(alloc, text)?;
+    match next_instruction(&code) {
+        Some((instruction, rest)) => Ok(format!(in alloc; "{instruction:?} {}", rest.len())?),
+        None => Ok(format!(in alloc; "none")?),
     }
+}
+
+#[test]
+fn instructions_are_read_by_their_opcodes(rt: HostRuntime) -> Result<(), Fail> {
+    let rows = "
+        02          | Push(-1) 0
+        08 99       | Push(5) 1
+        10 80       | Push(-128) 0
+        11 7F FF    | Push(32767) 0
+        60          | Operate(Add) 0
+        64          | Operate(Subtract) 0
+        68          | Operate(Multiply) 0
+        B1          | Return 0
+        B2 00 0D B1 | GetOut 1
+        B6 00 13    | PrintLine 0
+        B6 00 0D    | none
+        09          | none
+        11 7F       | none
+                    | none
+    ";
+    check(&rt, rt.alloc(), rows, told_instruction)
 }
 
 #[test]
@@ -47,15 +55,27 @@ fn a_refusal_is_told_in_words(rt: HostRuntime) -> Result<(), Fail> {
 }
 
 #[test]
-fn one_other_byte_makes_another_file(rt: HostRuntime) -> Result<(), Fail> {
+fn a_file_of_the_first_form_has_its_code(rt: HostRuntime) -> Result<(), Fail> {
     let form = read_first_form(FIRST)?;
     assert_eq!(rt; form.max_stack, 3);
     assert_eq!(rt;
         form.code,
         b"\xB2\x00\x0D\x10\x06\x10\x07\x68\xB6\x00\x13\xB1".as_slice()
     );
+    Ok(())
+}
+
+/// Whether the file is still of the first form when another byte stands at a place.
+fn is_first(alloc: Global, place: usize, byte: u8) -> Result<bool, Fail> {
+    let mut file = FIRST.to_vec(alloc)?;
+    *file.get_mut(place).ok_or("no such place")? = byte;
+    Ok(read_first_form(file.as_slice()).is_ok())
+}
+
+#[test]
+fn one_other_byte_makes_another_file(rt: HostRuntime) -> Result<(), Fail> {
     // The place of a byte, another byte for it, and whether the file is still of the first form.
-    for (place, byte, is_first) in [
+    for (place, byte, want) in [
         (7, 0x35, false),
         (13, b'f', false),
         (223, 2, false),
@@ -65,14 +85,7 @@ fn one_other_byte_makes_another_file(rt: HostRuntime) -> Result<(), Fail> {
         (237, 0x6C, false),
         (247, 1, false),
     ] {
-        let mut file = FIRST.to_vec(rt.alloc())?;
-        assert!(rt; place < file.len());
-        file[place] = byte;
-        assert_eq!(rt;
-            read_first_form(file.as_slice()).is_ok(),
-            is_first,
-            "at {place}"
-        );
+        assert_eq!(rt; is_first(rt.alloc(), place, byte)?, want, "at {place}");
     }
     Ok(())
 }

@@ -1,8 +1,10 @@
 // Instructions as the JVMS and `javap` read them.
+use crate::rows::{bytes_of, check};
 use cb_insn::{
-    Code, Insn, InsnFault, List, Operand, Pair, code_size, decode, encode, encode_into, fits,
-    is_place, opcode,
+    Code, Insn, InsnFault, List, Operand, code_size, decode, encode, encode_into, fits, is_place,
+    opcode,
 };
+use std::alloc::{AllocError, Global};
 use std::test::Fail;
 
 /// The code that `javac --release 8 -g:none` of JDK 17 wrote for this method, with a `wide iinc` and both switches.
@@ -57,138 +59,83 @@ fn numbers(operand: &Operand) -> (u8, i64, i64) {
 }
 
 /// The code that the bytes spell, which are fewer than the condition of `decode` asks.
-fn decoded(rt: HostRuntime, bytes: &[u8]) -> Result<Code, InsnFault> {
+fn decoded(alloc: Global, bytes: &[u8]) -> Result<Code, InsnFault> {
     if bytes.len() >= 0x1_0000_0000 {
         return Err(InsnFault::OutOfMemory);
     }
-    decode(rt.alloc(), bytes)
+    decode(alloc, bytes)
 }
 
 /// The bytes that spell the code, written by both writers, or none where it fits no bytes.
-fn encoded(rt: HostRuntime, code: &Code) -> Result<Vec<u8>, Fail> {
+fn encoded(alloc: Global, code: &Code) -> Result<Vec<u8>, Fail> {
     if !fits(code) {
         return Err(Fail::new("it fits no bytes"));
     }
-    let mut behind = Vec::new(rt.alloc());
+    let mut behind = Vec::new(alloc);
     encode_into(&mut behind, code)?;
-    let bytes = encode(rt.alloc(), code)?;
+    let bytes = encode(alloc, code)?;
     if behind != bytes || code_size(code).map(|size| size as usize) != Some(bytes.len()) {
         return Err(Fail::new("the writers or the size differ"));
     }
     Ok(bytes)
 }
 
+/// The bytes that hexadecimal digits tell behind a colon. What stands before it says what they are.
+fn spelled(alloc: Global, text: &str) -> Result<Vec<u8>, Fail> {
+    bytes_of(alloc, text.split_once(':').ok_or("no colon")?.1)
+}
+
+/// The first instruction that bytes spell: its opcode, whether it is wide, and its operand. The code is written as it was.
+fn told_insn(alloc: Global, text: &str) -> Result<String, Fail> {
+    let bytes = spelled(alloc, text)?;
+    let code = decoded(alloc, &bytes)?;
+    if encoded(alloc, &code)? != bytes {
+        return Err(Fail::new("it is written otherwise"));
+    }
+    let Some((0, insn)) = code.as_slice().first() else {
+        return Err(Fail::new("no instruction at 0"));
+    };
+    let numbers = numbers(&insn.operand);
+    Ok(format!(in alloc; "{:02X} {} {numbers:?}", insn.opcode, insn.wide)?)
+}
+
 #[test]
 fn each_form_is_read_at_its_least_and_greatest_values(rt: HostRuntime) -> Result<(), Fail> {
-    for (bytes, opcode, wide, want) in [
-        (b"\x00".as_slice(), opcode::NOP, false, (0, 0, 0)),
-        (b"\xC3", opcode::MONITOREXIT, false, (0, 0, 0)),
-        (b"\x10\x80", opcode::BIPUSH, false, (1, -128, 0)),
-        (b"\x10\x7F", opcode::BIPUSH, false, (1, 127, 0)),
-        (b"\x11\x80\x00", opcode::SIPUSH, false, (1, -32768, 0)),
-        (b"\x11\x7F\xFF", opcode::SIPUSH, false, (1, 32767, 0)),
-        (b"\x12\x00", opcode::LDC, false, (2, 0, 0)),
-        (b"\x12\xFF", opcode::LDC, false, (2, 255, 0)),
-        (b"\x13\x00\x00", opcode::LDC_W, false, (2, 0, 0)),
-        (b"\xC1\xFF\xFF", opcode::INSTANCEOF, false, (2, 65535, 0)),
-        (b"\x15\x00", opcode::ILOAD, false, (3, 0, 0)),
-        (b"\xA9\xFF", opcode::RET, false, (3, 255, 0)),
-        (b"\xC4\x15\x00\x00", opcode::ILOAD, true, (3, 0, 0)),
-        (b"\xC4\xA9\xFF\xFF", opcode::RET, true, (3, 65535, 0)),
-        (b"\x84\x00\x80", opcode::IINC, false, (4, 0, -128)),
-        (b"\x84\xFF\x7F", opcode::IINC, false, (4, 255, 127)),
-        (
-            b"\xC4\x84\x00\x00\x80\x00",
-            opcode::IINC,
-            true,
-            (4, 0, -32768),
-        ),
-        (
-            b"\xC4\x84\xFF\xFF\x7F\xFF",
-            opcode::IINC,
-            true,
-            (4, 65535, 32767),
-        ),
-        (b"\xC8\x00\x00\x00\x00", opcode::GOTO_W, false, (5, 0, 0)),
-        (b"\xC9\x00\x00\x00\x05\x00", opcode::JSR_W, false, (5, 5, 0)),
-        (b"\xBC\x04", opcode::NEWARRAY, false, (6, 4, 0)),
-        (b"\xBC\x0B", opcode::NEWARRAY, false, (6, 11, 0)),
-        (
-            b"\xC5\x00\x00\x01",
-            opcode::MULTIANEWARRAY,
-            false,
-            (7, 0, 1),
-        ),
-        (
-            b"\xC5\xFF\xFF\xFF",
-            opcode::MULTIANEWARRAY,
-            false,
-            (7, 65535, 255),
-        ),
-        (
-            b"\xB9\x00\x00\x01\x00",
-            opcode::INVOKEINTERFACE,
-            false,
-            (8, 0, 1),
-        ),
-        (
-            b"\xB9\xFF\xFF\xFF\x00",
-            opcode::INVOKEINTERFACE,
-            false,
-            (8, 65535, 255),
-        ),
-        (
-            b"\xBA\x00\x00\x00\x00",
-            opcode::INVOKEDYNAMIC,
-            false,
-            (2, 0, 0),
-        ),
-        (
-            b"\xBA\xFF\xFF\x00\x00",
-            opcode::INVOKEDYNAMIC,
-            false,
-            (2, 65535, 0),
-        ),
-        (
-            b"\xAA\x00\x00\x00\x00\x00\x00\x00\x80\x00\x00\x00\x80\x00\x00\x00\x00\x00\x00\x00",
-            opcode::TABLESWITCH,
-            false,
-            (9, 0, -2_147_483_648),
-        ),
-        (
-            b"\xAA\x00\x00\x00\x00\x00\x00\x00\x7F\xFF\xFF\xFF\x7F\xFF\xFF\xFF\x00\x00\x00\x00",
-            opcode::TABLESWITCH,
-            false,
-            (9, 0, 2_147_483_647),
-        ),
-        (
-            b"\xAB\x00\x00\x00\x00\x00\x00\x00\x00\x00\x00\x00",
-            opcode::LOOKUPSWITCH,
-            false,
-            (10, 0, 0),
-        ),
-        (
-            b"\xAB\x00\x00\x00\x00\x00\x00\x00\x00\x00\x00\x02\x80\x00\x00\x00\x00\x00\x00\x00\
-            \x7F\xFF\xFF\xFF\x00\x00\x00\x00",
-            opcode::LOOKUPSWITCH,
-            false,
-            (10, 0, 2),
-        ),
-    ] {
-        let code = decoded(rt, bytes)?;
-        let Some((pc, insn)) = code.as_slice().first() else {
-            return Err(Fail::new("no instruction"));
-        };
-        assert_eq!(rt;
-            (*pc, insn.opcode, insn.wide),
-            (0, opcode, wide),
-            "at {bytes:?}"
-        );
-        assert_eq!(rt; numbers(&insn.operand), want, "at {bytes:?}");
-        let spelled = encoded(rt, &code)?;
-        assert_eq!(rt; spelled.as_slice(), bytes);
-    }
-    Ok(())
+    let rows = "
+        nop: 00                                                      | 00 false (0, 0, 0)
+        monitorexit: C3                                              | C3 false (0, 0, 0)
+        bipush: 10 80                                                | 10 false (1, -128, 0)
+        bipush: 10 7F                                                | 10 false (1, 127, 0)
+        sipush: 11 80 00                                             | 11 false (1, -32768, 0)
+        sipush: 11 7F FF                                             | 11 false (1, 32767, 0)
+        ldc: 12 00                                                   | 12 false (2, 0, 0)
+        ldc: 12 FF                                                   | 12 false (2, 255, 0)
+        ldc_w: 13 00 00                                              | 13 false (2, 0, 0)
+        instanceof: C1 FF FF                                         | C1 false (2, 65535, 0)
+        iload: 15 00                                                 | 15 false (3, 0, 0)
+        ret: A9 FF                                                   | A9 false (3, 255, 0)
+        iload: C4 15 00 00                                           | 15 true (3, 0, 0)
+        ret: C4 A9 FF FF                                             | A9 true (3, 65535, 0)
+        iinc: 84 00 80                                               | 84 false (4, 0, -128)
+        iinc: 84 FF 7F                                               | 84 false (4, 255, 127)
+        iinc: C4 84 00 00 80 00                                      | 84 true (4, 0, -32768)
+        iinc: C4 84 FF FF 7F FF                                      | 84 true (4, 65535, 32767)
+        goto_w: C8 00 00 00 00                                       | C8 false (5, 0, 0)
+        jsr_w: C9 00 00 00 05 00                                     | C9 false (5, 5, 0)
+        newarray: BC 04                                              | BC false (6, 4, 0)
+        newarray: BC 0B                                              | BC false (6, 11, 0)
+        multianewarray: C5 00 00 01                                  | C5 false (7, 0, 1)
+        multianewarray: C5 FF FF FF                                  | C5 false (7, 65535, 255)
+        invokeinterface: B9 00 00 01 00                              | B9 false (8, 0, 1)
+        invokeinterface: B9 FF FF FF 00                              | B9 false (8, 65535, 255)
+        invokedynamic: BA 00 00 00 00                                | BA false (2, 0, 0)
+        invokedynamic: BA FF FF 00 00                                | BA false (2, 65535, 0)
+        tableswitch: AA 00 00 00 00 00 00 00 80 00 00 00 80 00 00 00 00 00 00 00 | AA false (9, 0, -2147483648)
+        tableswitch: AA 00 00 00 00 00 00 00 7F FF FF FF 7F FF FF FF 00 00 00 00 | AA false (9, 0, 2147483647)
+        lookupswitch: AB 00 00 00 00 00 00 00 00 00 00 00            | AB false (10, 0, 0)
+        lookupswitch: AB 00 00 00 00 00 00 00 00 00 00 02 80 00 00 00 00 00 00 00 7F FF FF FF 00 00 00 00 | AB false (10, 0, 2)
+    ";
+    check(&rt, rt.alloc(), rows, told_insn)
 }
 
 #[test]
@@ -199,88 +146,61 @@ fn a_branch_reaches_as_far_as_two_bytes_tell(rt: HostRuntime) -> Result<(), Fail
         bytes.push(0)?;
     }
     bytes.extend_from_slice(b"\xA7\x80\x00")?;
-    let code = decoded(rt, &bytes)?;
+    let code = decoded(rt.alloc(), &bytes)?;
     let branches = [code.as_slice().first(), code.as_slice().last()];
     let found = branches.map(|placed| placed.map(|(pc, insn)| (*pc, numbers(&insn.operand))));
     assert_eq!(rt; found, [Some((0, (5, 32767, 0))), Some((32768, (5, 0, 0)))]);
-    let spelled = encoded(rt, &code)?;
+    let spelled = encoded(rt.alloc(), &code)?;
     assert_eq!(rt; spelled.as_slice(), bytes.as_slice());
     Ok(())
 }
 
+/// The first fault of bytes.
+fn told_fault(alloc: Global, text: &str) -> Result<String, Fail> {
+    let bytes = spelled(alloc, text)?;
+    match decoded(alloc, &bytes) {
+        Err(fault) => Ok(format!(in alloc; "{fault:?}")?),
+        Ok(_) => Err(Fail::new("no fault")),
+    }
+}
+
 #[test]
 fn the_first_fault_is_told_and_its_place(rt: HostRuntime) -> Result<(), Fail> {
-    for (bytes, want) in [
-        // Cut: an operand, the opcode behind wide, a table and a lookup, also those of most offsets and pairs.
-        (b"\x00\x10".as_slice(), InsnFault::Cut { pc: 1 }),
-        (b"\xC4", InsnFault::Cut { pc: 0 }),
-        (b"\xC4\x84\x00\x00\x00", InsnFault::Cut { pc: 0 }),
-        (b"\xC8\x00\x00\x00", InsnFault::Cut { pc: 0 }),
-        (b"\xAA\x00\x00\x00", InsnFault::Cut { pc: 0 }),
-        (
-            b"\xAA\x00\x00\x00\x00\x00\x00\x00\x80\x00\x00\x00\x7F\xFF\xFF\xFF\x00\x00\x00\x00",
-            InsnFault::Cut { pc: 0 },
-        ),
-        (
-            b"\xAB\x00\x00\x00\x00\x00\x00\x00\x7F\xFF\xFF\xFF\x00\x00\x00\x00",
-            InsnFault::Cut { pc: 0 },
-        ),
-        // No instruction's opcode.
-        (b"\x00\xCA", InsnFault::BadOpcode { pc: 1 }),
-        (b"\xFF", InsnFault::BadOpcode { pc: 0 }),
-        // Wide before another opcode, before itself, and before none.
-        (b"\xC4\x00", InsnFault::BadOperand { pc: 0 }),
-        (b"\xC4\xC4\x15\x00\x00", InsnFault::BadOperand { pc: 0 }),
-        (b"\xC4\xCA", InsnFault::BadOperand { pc: 0 }),
-        // The code of no type, no dimension, no argument, and bytes that aren't zero.
-        (b"\xBC\x03", InsnFault::BadOperand { pc: 0 }),
-        (b"\xBC\x0C", InsnFault::BadOperand { pc: 0 }),
-        (b"\xC5\x00\x01\x00", InsnFault::BadOperand { pc: 0 }),
-        (b"\xB9\x00\x01\x00\x00", InsnFault::BadOperand { pc: 0 }),
-        (b"\xB9\x00\x01\x01\x01", InsnFault::BadOperand { pc: 0 }),
-        (b"\xBA\x00\x01\x01\x00", InsnFault::BadOperand { pc: 0 }),
-        (b"\xBA\x00\x01\x00\x01", InsnFault::BadOperand { pc: 0 }),
-        // A low bound above the high one, fewer pairs than none, keys that are equal and that fall.
-        (
-            b"\xAA\x00\x00\x00\x00\x00\x00\x00\x00\x00\x00\x01\x00\x00\x00\x00",
-            InsnFault::BadOperand { pc: 0 },
-        ),
-        (
-            b"\xAB\x00\x00\x00\x00\x00\x00\x00\xFF\xFF\xFF\xFF",
-            InsnFault::BadOperand { pc: 0 },
-        ),
-        (
-            b"\xAB\x00\x00\x00\x00\x00\x00\x00\x00\x00\x00\x02\x00\x00\x00\x05\x00\x00\x00\x00\
-            \x00\x00\x00\x05\x00\x00\x00\x00",
-            InsnFault::BadOperand { pc: 0 },
-        ),
-        (
-            b"\xAB\x00\x00\x00\x00\x00\x00\x00\x00\x00\x00\x02\x00\x00\x00\x00\x00\x00\x00\x00\
-            \xFF\xFF\xFF\xFF\x00\x00\x00\x00",
-            InsnFault::BadOperand { pc: 0 },
-        ),
-        // A target within an instruction, at the end, before the start, and as far as four bytes tell.
-        (b"\xA7\x00\x01", InsnFault::BadTarget { pc: 0 }),
-        (b"\xA7\x00\x03", InsnFault::BadTarget { pc: 0 }),
-        (b"\xA7\xFF\xFF", InsnFault::BadTarget { pc: 0 }),
-        (b"\xC8\x7F\xFF\xFF\xFF", InsnFault::BadTarget { pc: 0 }),
-        (b"\x00\xC8\x80\x00\x00\x00", InsnFault::BadTarget { pc: 1 }),
-        (
-            b"\xAA\x00\x00\x00\x00\x00\x00\x00\x00\x00\x00\x00\x00\x00\x00\x00\x00\x00\x00\x01",
-            InsnFault::BadTarget { pc: 0 },
-        ),
-        (
-            b"\xAB\x00\x00\x00\x00\x00\x00\x00\x00\x00\x00\x01\x00\x00\x00\x05\x00\x00\x00\x14",
-            InsnFault::BadTarget { pc: 0 },
-        ),
-        // The least place of two targets, and a cut instruction behind a target.
-        (b"\xA7\x00\x01\xA7\x00\x01", InsnFault::BadTarget { pc: 0 }),
-        (b"\xA7\x00\x01\x10", InsnFault::Cut { pc: 3 }),
-    ] {
-        let fault = decoded(rt, bytes).err();
-        assert_eq!(rt; fault, Some(want), "at {bytes:?}");
-    }
-    Ok(())
+    let rows = "
+        a cut operand: 00 10                                                     | Cut { pc: 1 }
+        wide alone: C4                                                           | Cut { pc: 0 }
+        a cut wide iinc: C4 84 00 00 00                                          | Cut { pc: 0 }
+        a cut goto_w: C8 00 00 00                                                | Cut { pc: 0 }
+        cut padding: AA 00 00 00                                                 | Cut { pc: 0 }
+        a table of most offsets: AA 00 00 00 00 00 00 00 80 00 00 00 7F FF FF FF 00 00 00 00 | Cut { pc: 0 }
+        a lookup of most pairs: AB 00 00 00 00 00 00 00 7F FF FF FF 00 00 00 00  | Cut { pc: 0 }
+        no opcode behind a nop: 00 CA                                            | BadOpcode { pc: 1 }
+        no opcode: FF                                                            | BadOpcode { pc: 0 }
+        wide before nop: C4 00                                                   | BadOperand { pc: 0 }
+        wide before itself: C4 C4 15 00 00                                       | BadOperand { pc: 0 }
+        wide before no opcode: C4 CA                                             | BadOperand { pc: 0 }
+        an array of type 3: BC 03                                                | BadOperand { pc: 0 }
+        an array of type 12: BC 0C                                               | BadOperand { pc: 0 }
+        no dimension: C5 00 01 00                                                | BadOperand { pc: 0 }
+        no argument: B9 00 01 00 00                                              | BadOperand { pc: 0 }
+        a fourth byte of an interface call: B9 00 01 01 01                       | BadOperand { pc: 0 }
+        a third byte of a dynamic call: BA 00 01 01 00                           | BadOperand { pc: 0 }
+        a fourth byte of a dynamic call: BA 00 01 00 01                          | BadOperand { pc: 0 }
+        a low bound above the high one: AA 00 00 00 00 00 00 00 00 00 00 01 00 00 00 00 | BadOperand { pc: 0 }
+        fewer pairs than none: AB 00 00 00 00 00 00 00 FF FF FF FF               | BadOperand { pc: 0 }
+        equal keys: AB 00 00 00 00 00 00 00 00 00 00 02 00 00 00 05 00 00 00 00 00 00 00 05 00 00 00 00 | BadOperand { pc: 0 }
+        falling keys: AB 00 00 00 00 00 00 00 00 00 00 02 00 00 00 00 00 00 00 00 FF FF FF FF 00 00 00 00 | BadOperand { pc: 0 }
+        a target within an instruction: A7 00 01                                 | BadTarget { pc: 0 }
+        a target at the end: A7 00 03                                            | BadTarget { pc: 0 }
+        a target before the start: A7 FF FF                                      | BadTarget { pc: 0 }
+        a target as far ahead as four bytes tell: C8 7F FF FF FF                 | BadTarget { pc: 0 }
+        a target as far back as four bytes tell: 00 C8 80 00 00 00               | BadTarget { pc: 1 }
+        a target of a table: AA 00 00 00 00 00 00 00 00 00 00 00 00 00 00 00 00 00 00 01 | BadTarget { pc: 0 }
+        a target of a lookup: AB 00 00 00 00 00 00 00 00 00 00 01 00 00 00 05 00 00 00 14 | BadTarget { pc: 0 }
+        the least place of two targets: A7 00 01 A7 00 01                        | BadTarget { pc: 0 }
+        a cut instruction behind a target: A7 00 01 10                           | Cut { pc: 3 }
+    ";
+    check(&rt, rt.alloc(), rows, told_fault)
 }
 
 #[test]
@@ -292,8 +212,11 @@ fn a_fault_is_told_in_words(rt: HostRuntime) -> Result<(), Fail> {
 
 #[test]
 fn padding_is_any_bytes_and_written_as_zeros(rt: HostRuntime) -> Result<(), Fail> {
-    let code = decoded(rt, b"\x00\xAB\x01\xFF\x00\x00\x00\x00\x00\x00\x00\x00")?;
-    let spelled = encoded(rt, &code)?;
+    let code = decoded(
+        rt.alloc(),
+        b"\x00\xAB\x01\xFF\x00\x00\x00\x00\x00\x00\x00\x00",
+    )?;
+    let spelled = encoded(rt.alloc(), &code)?;
     assert_eq!(rt;
         spelled.as_slice(),
         b"\x00\xAB\x00\x00\x00\x00\x00\x00\x00\x00\x00\x00".as_slice()
@@ -302,23 +225,29 @@ fn padding_is_any_bytes_and_written_as_zeros(rt: HostRuntime) -> Result<(), Fail
 }
 
 #[test]
-fn a_return_is_read_and_written_at_its_place_alone(rt: HostRuntime) -> Result<(), Fail> {
-    let code = decoded(rt, b"\xB1")?;
+fn a_return_is_read_and_written(rt: HostRuntime) -> Result<(), Fail> {
+    let code = decoded(rt.alloc(), b"\xB1")?;
     assert_eq!(rt; code.len(), 1);
-    let spelled = encoded(rt, &code)?;
+    let spelled = encoded(rt.alloc(), &code)?;
     assert_eq!(rt; spelled.as_slice(), b"\xB1".as_slice());
-    let mut late = List::new(rt.alloc());
-    assert!(rt; late.is_empty());
-    late.push((
-        1,
-        Insn {
-            opcode: opcode::RETURN,
-            wide: false,
-            operand: Operand::Nothing,
-        },
-    ))?;
-    assert_eq!(rt; late.len(), 1);
-    assert_eq!(rt; late.get(0).0, 1);
+    Ok(())
+}
+
+/// A `return` at the place 1.
+fn late_return(alloc: Global) -> Result<Code, AllocError> {
+    let mut late = List::new(alloc);
+    let insn = Insn {
+        opcode: opcode::RETURN,
+        wide: false,
+        operand: Operand::Nothing,
+    };
+    late.push((1, insn))?;
+    Ok(late)
+}
+
+#[test]
+fn a_return_is_written_at_its_place_alone(rt: HostRuntime) -> Result<(), Fail> {
+    let late = late_return(rt.alloc())?;
     for (pc, insn) in &late {
         assert_eq!(rt; (*pc, insn.opcode), (1, opcode::RETURN));
     }
@@ -327,77 +256,107 @@ fn a_return_is_read_and_written_at_its_place_alone(rt: HostRuntime) -> Result<()
 }
 
 #[test]
-fn the_code_of_a_real_method_is_read_as_javap_reads_it(rt: HostRuntime) -> Result<(), Fail> {
-    let code = decoded(rt, REAL)?;
-    let want = [
-        (0, opcode::LCONST_1, (0, 0, 0)),
-        (1, opcode::LSTORE_2, (0, 0, 0)),
-        (2, opcode::ICONST_0, (0, 0, 0)),
-        (3, opcode::ISTORE, (3, 4, 0)),
-        (5, opcode::ILOAD, (3, 4, 0)),
-        (7, opcode::ILOAD_0, (0, 0, 0)),
-        (8, opcode::IF_ICMPGE, (5, 140, 0)),
-        (11, opcode::ILOAD, (3, 4, 0)),
-        (13, opcode::BIPUSH, (1, 7, 0)),
-        (15, opcode::IAND, (0, 0, 0)),
-        (16, opcode::TABLESWITCH, (9, 75, 0)),
-        (48, opcode::LLOAD_2, (0, 0, 0)),
-        (49, opcode::ALOAD_1, (0, 0, 0)),
-        (50, opcode::ILOAD, (3, 4, 0)),
-        (52, opcode::IALOAD, (0, 0, 0)),
-        (53, opcode::I2L, (0, 0, 0)),
-        (54, opcode::LADD, (0, 0, 0)),
-        (55, opcode::LSTORE_2, (0, 0, 0)),
-        (56, opcode::GOTO, (5, 81, 0)),
-        (59, opcode::LLOAD_2, (0, 0, 0)),
-        (60, opcode::LDC2_W, (2, 7, 0)),
-        (63, opcode::LSUB, (0, 0, 0)),
-        (64, opcode::LSTORE_2, (0, 0, 0)),
-        (65, opcode::GOTO, (5, 81, 0)),
-        (68, opcode::LLOAD_2, (0, 0, 0)),
-        (69, opcode::ICONST_2, (0, 0, 0)),
-        (70, opcode::LSHL, (0, 0, 0)),
-        (71, opcode::LSTORE_2, (0, 0, 0)),
-        (72, opcode::GOTO, (5, 81, 0)),
-        (75, opcode::LLOAD_2, (0, 0, 0)),
-        (76, opcode::LDC2_W, (2, 9, 0)),
-        (79, opcode::LXOR, (0, 0, 0)),
-        (80, opcode::LSTORE_2, (0, 0, 0)),
-        (81, opcode::ILOAD_0, (0, 0, 0)),
-        (82, opcode::LOOKUPSWITCH, (10, 128, 3)),
-        (116, opcode::LLOAD_2, (0, 0, 0)),
-        (117, opcode::LCONST_1, (0, 0, 0)),
-        (118, opcode::LADD, (0, 0, 0)),
-        (119, opcode::LSTORE_2, (0, 0, 0)),
-        (120, opcode::GOTO, (5, 128, 0)),
-        (123, opcode::LLOAD_2, (0, 0, 0)),
-        (124, opcode::LRETURN, (0, 0, 0)),
-        (125, opcode::LLOAD_2, (0, 0, 0)),
-        (126, opcode::LNEG, (0, 0, 0)),
-        (127, opcode::LSTORE_2, (0, 0, 0)),
-        (128, opcode::IINC, (4, 0, 1000)),
-        (134, opcode::IINC, (4, 4, 1)),
-        (137, opcode::GOTO, (5, 5, 0)),
-        (140, opcode::LLOAD_2, (0, 0, 0)),
-        (141, opcode::LRETURN, (0, 0, 0)),
-    ];
-    assert_eq!(rt; code.len(), want.len());
-    for ((pc, insn), want) in code.as_slice().iter().zip(want) {
-        assert_eq!(rt; (*pc, insn.opcode, numbers(&insn.operand)), want);
-        assert_eq!(rt; insn.wide, *pc == 128, "at {pc}");
-        match &insn.operand {
-            Operand::Table { targets, .. } => {
-                assert_eq!(rt; targets.as_slice(), [48, 59, 75, 68].as_slice());
-            }
-            Operand::Lookup { pairs, .. } => {
-                let want = [(-5, 116), (70_000, 125), (1_000_000, 123)];
-                let want = want.map(|(key, target)| Pair { key, target });
-                assert_eq!(rt; pairs.as_slice(), want.as_slice());
-            }
-            _ => {}
+fn code_has_the_instructions_that_were_pushed(rt: HostRuntime) -> Result<(), Fail> {
+    assert!(rt; Code::new(rt.alloc()).is_empty());
+    let late = late_return(rt.alloc())?;
+    assert_eq!(rt; late.len(), 1);
+    assert_eq!(rt; late.get(0).0, 1);
+    Ok(())
+}
+
+/// Adds a line for the targets of a table, or for each pair of a lookup.
+fn push_switch(out: &mut String, operand: &Operand) -> Result<(), AllocError> {
+    if let Operand::Table { targets, .. } = operand {
+        writeln!(out, "targets {:?}", targets.as_slice())?;
+    }
+    if let Operand::Lookup { pairs, .. } = operand {
+        for pair in pairs.as_slice() {
+            writeln!(out, "{} to {}", pair.key, pair.target)?;
         }
     }
-    let spelled = encoded(rt, &code)?;
+    Ok(())
+}
+
+/// Adds a line for an instruction: its place, whether it is wide, its opcode and its operand.
+fn push_insn(out: &mut String, pc: u32, insn: &Insn) -> Result<(), AllocError> {
+    let wide = if insn.wide { "wide " } else { "" };
+    let numbers = numbers(&insn.operand);
+    writeln!(out, "{pc} {wide}{:02X} {numbers:?}", insn.opcode)?;
+    push_switch(out, &insn.operand)
+}
+
+/// Code, line by line.
+fn told_code(alloc: Global, code: &Code) -> Result<String, AllocError> {
+    let mut out = String::new(alloc);
+    for (pc, insn) in code.as_slice() {
+        push_insn(&mut out, *pc, insn)?;
+    }
+    Ok(out)
+}
+
+/// The code of that method, as `javap` reads it.
+const TOLD: &str = "\
+0 0A (0, 0, 0)
+1 41 (0, 0, 0)
+2 03 (0, 0, 0)
+3 36 (3, 4, 0)
+5 15 (3, 4, 0)
+7 1A (0, 0, 0)
+8 A2 (5, 140, 0)
+11 15 (3, 4, 0)
+13 10 (1, 7, 0)
+15 7E (0, 0, 0)
+16 AA (9, 75, 0)
+targets [48, 59, 75, 68]
+48 20 (0, 0, 0)
+49 2B (0, 0, 0)
+50 15 (3, 4, 0)
+52 2E (0, 0, 0)
+53 85 (0, 0, 0)
+54 61 (0, 0, 0)
+55 41 (0, 0, 0)
+56 A7 (5, 81, 0)
+59 20 (0, 0, 0)
+60 14 (2, 7, 0)
+63 65 (0, 0, 0)
+64 41 (0, 0, 0)
+65 A7 (5, 81, 0)
+68 20 (0, 0, 0)
+69 05 (0, 0, 0)
+70 79 (0, 0, 0)
+71 41 (0, 0, 0)
+72 A7 (5, 81, 0)
+75 20 (0, 0, 0)
+76 14 (2, 9, 0)
+79 83 (0, 0, 0)
+80 41 (0, 0, 0)
+81 1A (0, 0, 0)
+82 AB (10, 128, 3)
+-5 to 116
+70000 to 125
+1000000 to 123
+116 20 (0, 0, 0)
+117 0A (0, 0, 0)
+118 61 (0, 0, 0)
+119 41 (0, 0, 0)
+120 A7 (5, 128, 0)
+123 20 (0, 0, 0)
+124 AD (0, 0, 0)
+125 20 (0, 0, 0)
+126 75 (0, 0, 0)
+127 41 (0, 0, 0)
+128 wide 84 (4, 0, 1000)
+134 84 (4, 4, 1)
+137 A7 (5, 5, 0)
+140 20 (0, 0, 0)
+141 AD (0, 0, 0)
+";
+
+#[test]
+fn the_code_of_a_real_method_is_read_as_javap_reads_it(rt: HostRuntime) -> Result<(), Fail> {
+    let code = decoded(rt.alloc(), REAL)?;
+    assert_eq!(rt; told_code(rt.alloc(), &code)?.as_str(), TOLD);
+    let spelled = encoded(rt.alloc(), &code)?;
     assert_eq!(rt; spelled.as_slice(), REAL);
     Ok(())
 }
@@ -405,16 +364,12 @@ fn the_code_of_a_real_method_is_read_as_javap_reads_it(rt: HostRuntime) -> Resul
 #[test]
 fn the_places_of_code_are_those_of_its_instructions(rt: HostRuntime) -> Result<(), Fail> {
     let code = decode(rt.alloc(), b"\x10\x07\x10\x06\x68\xB1")?;
-    for (pc, want) in [
-        (0, true),
-        (1, false),
-        (2, true),
-        (3, false),
-        (4, true),
-        (5, true),
-        (6, false),
-    ] {
-        assert_eq!(rt; is_place(&code, pc), want, "at {pc}");
+    let mut places = String::new(rt.alloc());
+    for pc in 0..7 {
+        if is_place(&code, pc) {
+            write!(places, " {pc}")?;
+        }
     }
+    assert_eq!(rt; places.as_str(), " 0 2 4 5");
     Ok(())
 }

@@ -23,6 +23,8 @@ mod persistent;
 #[cfg(test)]
 mod plain;
 #[cfg(test)]
+mod rows;
+#[cfg(test)]
 mod shapes;
 #[cfg(test)]
 mod text;

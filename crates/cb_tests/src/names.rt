@@ -1,6 +1,7 @@
 // Names and descriptors as the JVMS has them (§4.2 and §4.3), and texts that are none. Types are written as in Java.
+use crate::rows::check;
 use cb_names::{
-    BaseType, ElementType, FieldType, Floating, class_type, field_type, floating_in,
+    BaseType, ElementType, FieldType, MethodType, class_type, field_type, floating_in,
     floating_of_parts, is_array_descriptor, is_class_name, is_field_descriptor, is_method_name,
     is_unqualified_name, method_facts, method_type, name_kinds, one_method_type, one_type,
     parameter_words,
@@ -43,85 +44,99 @@ fn written_base(base: BaseType) -> &'static str {
     }
 }
 
-/// A type as it is written in Java, with a class in internal form, or `none`.
-fn written(alloc: Global, found: Option<FieldType<'_>>) -> Result<String, AllocError> {
-    let Some(found) = found else {
-        return String::from_str(alloc, "none");
-    };
-    let mut text = String::new(alloc);
-    match found.element {
-        ElementType::Base(base) => text.push_str(written_base(base))?,
-        ElementType::Class(name) => {
-            for unit in name {
-                text.push(char::from_u32(u32::from(*unit)).unwrap_or('?'))?;
-            }
-        }
-    }
-    for _ in 0..found.dimensions {
-        text.push_str("[]")?;
-    }
-    Ok(text)
-}
-
-#[test]
-fn names_of_fields_methods_and_classes(rt: HostRuntime) -> Result<(), Fail> {
-    for (bytes, unqualified, method, class) in [
-        (b"main".as_slice(), true, true, true),
-        (b"$1", true, true, true),
-        (b"", false, false, false),
-        (b"<init>", true, true, true),
-        (b"<clinit>", true, true, true),
-        (b"<x>", true, false, true),
-        (b"a>", true, false, true),
-        (b"<init", true, false, true),
-        (b"java/lang/Thread", false, false, true),
-        (b"a.b", false, false, false),
-        (b"a;", false, false, false),
-        (b"[I", false, false, false),
-        (b"/a", false, false, false),
-        (b"a/", false, false, false),
-        (b"a//b", false, false, false),
-        (b"/", false, false, false),
-    ] {
-        let name = units(rt.alloc(), bytes)?;
-        let found = (
-            is_unqualified_name(&name),
-            is_method_name(&name),
-            is_class_name(&name),
-        );
-        assert_eq!(rt; found, (unqualified, method, class), "at {bytes:?}");
-        let kinds = name_kinds(&name);
-        let found = (kinds.unqualified, kinds.method, kinds.class);
-        assert_eq!(rt; found, (unqualified, method, class), "at {bytes:?}");
+/// Adds a text whose units are characters.
+fn push_units(out: &mut String, units: &[u16]) -> Result<(), AllocError> {
+    for unit in units {
+        out.push(char::from_u32(u32::from(*unit)).unwrap_or('?'))?;
     }
     Ok(())
 }
 
+/// Adds a type as it is written in Java, with a class in internal form, or `none`.
+fn push_type(out: &mut String, found: Option<FieldType<'_>>) -> Result<(), AllocError> {
+    let Some(found) = found else {
+        return out.push_str("none");
+    };
+    match found.element {
+        ElementType::Base(base) => out.push_str(written_base(base))?,
+        ElementType::Class(name) => push_units(out, name)?,
+    }
+    for _ in 0..found.dimensions {
+        out.push_str("[]")?;
+    }
+    Ok(())
+}
+
+/// Whether a text is an unqualified name, a method's and a class's.
+fn told_names(alloc: Global, text: &str) -> Result<String, Fail> {
+    let name = units(alloc, text.as_bytes())?;
+    let kinds = name_kinds(&name);
+    let unqualified = is_unqualified_name(&name);
+    let method = is_method_name(&name);
+    let class = is_class_name(&name);
+    if (kinds.unqualified, kinds.method, kinds.class) != (unqualified, method, class) {
+        return Err(Fail::new("the kinds differ"));
+    }
+    Ok(format!(in alloc; "{unqualified} {method} {class}")?)
+}
+
+#[test]
+fn names_of_fields_methods_and_classes(rt: HostRuntime) -> Result<(), Fail> {
+    let rows = "
+        main             | true true true
+        $1               | true true true
+                         | false false false
+        <init>           | true true true
+        <clinit>         | true true true
+        <x>              | true false true
+        a>               | true false true
+        <init            | true false true
+        java/lang/Thread | false false true
+        a.b              | false false false
+        a;               | false false false
+        [I               | false false false
+        /a               | false false false
+        a/               | false false false
+        a//b             | false false false
+        /                | false false false
+    ";
+    check(&rt, rt.alloc(), rows, told_names)
+}
+
+/// Whether a text is the descriptor of a field, and of an array.
+fn told_descriptors(alloc: Global, text: &str) -> Result<String, Fail> {
+    let text = units(alloc, text.as_bytes())?;
+    let field = is_field_descriptor(&text);
+    let array = is_array_descriptor(&text);
+    Ok(format!(in alloc; "{field} {array}")?)
+}
+
 #[test]
 fn descriptors_of_fields(rt: HostRuntime) -> Result<(), Fail> {
-    for (bytes, field, array) in [
-        (b"I".as_slice(), true, false),
-        (b"B", true, false),
-        (b"Z", true, false),
-        (b"Ljava/lang/Object;", true, false),
-        (b"[[[D", true, true),
-        (b"[Ljava/lang/Thread;", true, true),
-        (b"", false, false),
-        (b"V", false, false),
-        (b"[V", false, false),
-        (b"[", false, false),
-        (b"II", false, false),
-        (b"[I[", false, false),
-        (b"L;", false, false),
-        (b"La//b;", false, false),
-        (b"La", false, false),
-        (b"La;;", false, false),
-        (b"a", false, false),
-    ] {
-        let text = units(rt.alloc(), bytes)?;
-        let found = (is_field_descriptor(&text), is_array_descriptor(&text));
-        assert_eq!(rt; found, (field, array), "at {bytes:?}");
-    }
+    let rows = "
+        I                   | true false
+        B                   | true false
+        Z                   | true false
+        Ljava/lang/Object;  | true false
+        [[[D                | true true
+        [Ljava/lang/Thread; | true true
+                            | false false
+        V                   | false false
+        [V                  | false false
+        [                   | false false
+        II                  | false false
+        [I[                 | false false
+        L;                  | false false
+        La//b;              | false false
+        La                  | false false
+        La;;                | false false
+        a                   | false false
+    ";
+    check(&rt, rt.alloc(), rows, told_descriptors)
+}
+
+#[test]
+fn descriptors_of_arrays_have_at_most_255_dimensions(rt: HostRuntime) -> Result<(), Fail> {
     for (dimensions, want) in [(1, true), (255, true), (256, false)] {
         let text = repeated(rt.alloc(), b"", b'[', dimensions, b"J")?;
         let found = (is_field_descriptor(&text), is_array_descriptor(&text));
@@ -130,137 +145,141 @@ fn descriptors_of_fields(rt: HostRuntime) -> Result<(), Fail> {
     Ok(())
 }
 
+/// Adds a type, its words, whether it is a reference, and its component.
+fn push_facts(out: &mut String, found: FieldType<'_>) -> Result<(), AllocError> {
+    push_type(out, Some(found))?;
+    write!(out, " {} {} ", found.words(), found.is_reference())?;
+    push_type(out, found.component())
+}
+
+/// The type that a descriptor spells, with its facts.
+fn told_type(alloc: Global, text: &str) -> Result<String, Fail> {
+    let text = units(alloc, text.as_bytes())?;
+    let mut out = String::new(alloc);
+    match field_type(&text) {
+        Some(found) => push_facts(&mut out, found)?,
+        None => push_type(&mut out, None)?,
+    }
+    Ok(out)
+}
+
 #[test]
 fn types_of_fields(rt: HostRuntime) -> Result<(), Fail> {
     one_type();
-    for (bytes, want, words, reference, part) in [
-        (b"B".as_slice(), "byte", 1, false, "none"),
-        (b"C", "char", 1, false, "none"),
-        (b"D", "double", 2, false, "none"),
-        (b"F", "float", 1, false, "none"),
-        (b"I", "int", 1, false, "none"),
-        (b"J", "long", 2, false, "none"),
-        (b"S", "short", 1, false, "none"),
-        (b"Z", "boolean", 1, false, "none"),
-        (b"Ljava/lang/Object;", "java/lang/Object", 1, true, "none"),
-        (b"[J", "long[]", 1, true, "long"),
-        (b"[[[D", "double[][][]", 1, true, "double[][]"),
-        (b"[La/B;", "a/B[]", 1, true, "a/B"),
-        (b"V", "none", 0, false, "none"),
-        (b"La", "none", 0, false, "none"),
-    ] {
-        let text = units(rt.alloc(), bytes)?;
-        let found = field_type(&text);
-        assert_eq!(rt; written(rt.alloc(), found)?.as_str(), want, "at {bytes:?}");
-        if let Some(found) = found {
-            assert_eq!(rt;
-                (found.words(), found.is_reference()),
-                (words, reference),
-                "at {bytes:?}"
-            );
-            let found = written(rt.alloc(), found.component())?;
-            assert_eq!(rt; found.as_str(), part, "at {bytes:?}");
-        }
+    let rows = "
+        B                  | byte 1 false none
+        C                  | char 1 false none
+        D                  | double 2 false none
+        F                  | float 1 false none
+        I                  | int 1 false none
+        J                  | long 2 false none
+        S                  | short 1 false none
+        Z                  | boolean 1 false none
+        Ljava/lang/Object; | java/lang/Object 1 true none
+        [J                 | long[] 1 true long
+        [[[D               | double[][][] 1 true double[][]
+        [La/B;             | a/B[] 1 true a/B
+        V                  | none
+        La                 | none
+    ";
+    check(&rt, rt.alloc(), rows, told_type)
+}
+
+/// The type that the name of a class constant spells, and the class that it names.
+fn told_class(alloc: Global, text: &str) -> Result<String, Fail> {
+    let name = units(alloc, text.as_bytes())?;
+    let found = class_type(&name);
+    let mut out = String::new(alloc);
+    push_type(&mut out, found)?;
+    if let Some(class) = found.and_then(|found| found.class()) {
+        out.push_str(" of ")?;
+        push_units(&mut out, class)?;
     }
-    Ok(())
+    Ok(out)
 }
 
 #[test]
 fn types_of_class_constants(rt: HostRuntime) -> Result<(), Fail> {
-    for (bytes, want, class) in [
-        (
-            b"java/lang/Thread".as_slice(),
-            "java/lang/Thread",
-            b"java/lang/Thread".as_slice(),
-        ),
-        (b"I", "I", b"I"),
-        (b"[I", "int[]", b""),
-        (b"[[La/B;", "a/B[][]", b"a/B"),
-        (b"La/B;", "none", b""),
-        (b"", "none", b""),
-        (b"a//b", "none", b""),
-        (b"[V", "none", b""),
-        (b"[a", "none", b""),
-    ] {
-        let name = units(rt.alloc(), bytes)?;
-        let found = class_type(&name);
-        assert_eq!(rt; written(rt.alloc(), found)?.as_str(), want, "at {bytes:?}");
-        let named = match found {
-            Some(found) => found.class().unwrap_or(&[]),
-            None => &[],
-        };
-        assert_eq!(rt; named, units(rt.alloc(), class)?.as_slice(), "at {bytes:?}");
+    let rows = "
+        java/lang/Thread | java/lang/Thread of java/lang/Thread
+        I                | I of I
+        [I               | int[]
+        [[La/B;          | a/B[][] of a/B
+        La/B;            | none
+                         | none
+        a//b             | none
+        [V               | none
+        [a               | none
+    ";
+    check(&rt, rt.alloc(), rows, told_class)
+}
+
+/// Adds the types of a method's parameters and that of its result.
+fn push_method(out: &mut String, found: &MethodType<'_>) -> Result<(), AllocError> {
+    for parameter in &found.parameters {
+        push_type(out, Some(*parameter))?;
+        out.push(' ')?;
     }
-    Ok(())
+    out.push_str(": ")?;
+    push_type(out, found.result)
+}
+
+/// The words of a method's parameters, and the types that its descriptor spells.
+fn told_method(alloc: Global, text: &str) -> Result<String, Fail> {
+    let text = units(alloc, text.as_bytes())?;
+    let Some(found) = method_type(alloc, &text)? else {
+        return Ok(String::from_str(alloc, "none")?);
+    };
+    let mut out = format!(in alloc; "{} ", found.words())?;
+    push_method(&mut out, &found)?;
+    Ok(out)
 }
 
 #[test]
 fn types_of_methods(rt: HostRuntime) -> Result<(), Fail> {
     one_method_type();
-    for (bytes, words, want) in [
-        (
-            b"(IDLjava/lang/Thread;)Ljava/lang/Object;".as_slice(),
-            4,
-            "int double java/lang/Thread : java/lang/Object",
-        ),
-        (b"()V", 0, ": none"),
-        (
-            b"(J[J[[DZ)[[I",
-            5,
-            "long long[] double[][] boolean : int[][]",
-        ),
-        (b"([La;B)J", 2, "a[] byte : long"),
-    ] {
-        let text = units(rt.alloc(), bytes)?;
-        let Some(found) = method_type(rt.alloc(), &text)? else {
-            return Err(Fail::new("no type"));
-        };
-        assert_eq!(rt; found.words(), words, "at {bytes:?}");
-        let mut all = String::new(rt.alloc());
-        for parameter in &found.parameters {
-            all.push_str(written(rt.alloc(), Some(*parameter))?.as_str())?;
-            all.push(' ')?;
-        }
-        all.push_str(": ")?;
-        all.push_str(written(rt.alloc(), found.result)?.as_str())?;
-        assert_eq!(rt; all.as_str(), want, "at {bytes:?}");
-    }
-    for bytes in [
-        b"".as_slice(),
-        b"()",
-        b"(V)V",
-        b"(I)VI",
-        b"(I",
-        b"I)V",
-        b"(LI)V",
-    ] {
-        let text = units(rt.alloc(), bytes)?;
-        assert!(rt; method_type(rt.alloc(), &text)?.is_none(), "at {bytes:?}");
-    }
-    Ok(())
+    let rows = "
+        (IDLjava/lang/Thread;)Ljava/lang/Object; | 4 int double java/lang/Thread : java/lang/Object
+        ()V                                      | 0 : none
+        (J[J[[DZ)[[I                             | 5 long long[] double[][] boolean : int[][]
+        ([La;B)J                                 | 2 a[] byte : long
+                                                 | none
+        ()                                       | none
+        (V)V                                     | none
+        (I)VI                                    | none
+        (I                                       | none
+        I)V                                      | none
+        (LI)V                                    | none
+    ";
+    check(&rt, rt.alloc(), rows, told_method)
+}
+
+/// The words of the parameters of a method's descriptor.
+fn told_words(alloc: Global, text: &str) -> Result<String, Fail> {
+    let text = units(alloc, text.as_bytes())?;
+    Ok(format!(in alloc; "{:?}", parameter_words(&text))?)
 }
 
 #[test]
 fn descriptors_of_methods(rt: HostRuntime) -> Result<(), Fail> {
-    for (bytes, want) in [
-        (
-            b"(IDLjava/lang/Thread;)Ljava/lang/Object;".as_slice(),
-            Some(4),
-        ),
-        (b"()V", Some(0)),
-        (b"(J[J[[DZ)[[I", Some(5)),
-        (b"", None),
-        (b"()", None),
-        (b"(V)V", None),
-        (b"(I)VI", None),
-        (b"(I", None),
-        (b"I)V", None),
-        (b"(I)(I)V", None),
-        (b"(LI)V", None),
-    ] {
-        let text = units(rt.alloc(), bytes)?;
-        assert_eq!(rt; parameter_words(&text), want, "at {bytes:?}");
-    }
+    let rows = "
+        (IDLjava/lang/Thread;)Ljava/lang/Object; | Some(4)
+        ()V                                      | Some(0)
+        (J[J[[DZ)[[I                             | Some(5)
+                                                 | None
+        ()                                       | None
+        (V)V                                     | None
+        (I)VI                                    | None
+        (I                                       | None
+        I)V                                      | None
+        (I)(I)V                                  | None
+        (LI)V                                    | None
+    ";
+    check(&rt, rt.alloc(), rows, told_words)
+}
+
+#[test]
+fn parameters_have_at_most_255_words(rt: HostRuntime) -> Result<(), Fail> {
     for (front, count, want) in [
         (b"(".as_slice(), 255, Some(255)),
         (b"(", 256, None),
@@ -273,27 +292,30 @@ fn descriptors_of_methods(rt: HostRuntime) -> Result<(), Fail> {
     Ok(())
 }
 
+/// The first floating-point type of a descriptor. The facts of a method and the type of a field have the same.
+fn told_floating(alloc: Global, text: &str) -> Result<String, Fail> {
+    let text = units(alloc, text.as_bytes())?;
+    let found = floating_in(&text);
+    let of_method = method_facts(&text).map(|facts| facts.floating);
+    let of_field = field_type(&text).map(|field| field.floating());
+    if of_method.unwrap_or(found) != found || of_field.unwrap_or(found) != found {
+        return Err(Fail::new("the types differ"));
+    }
+    Ok(format!(in alloc; "{found:?}")?)
+}
+
 #[test]
 fn the_first_floating_point_type(rt: HostRuntime) -> Result<(), Fail> {
     floating_of_parts();
-    for (bytes, want) in [
-        (b"F".as_slice(), Some(Floating::Float)),
-        (b"[[[D", Some(Floating::Double)),
-        (b"J", None),
-        (b"LFD;", None),
-        (b"(IDLjava/lang/Thread;)F", Some(Floating::Double)),
-        (b"(LD;F)D", Some(Floating::Float)),
-        (b"([LF;)D", Some(Floating::Double)),
-        (b"(Ljava/lang/Float;)V", None),
-    ] {
-        let text = units(rt.alloc(), bytes)?;
-        assert_eq!(rt; floating_in(&text), want, "at {bytes:?}");
-        if let Some(facts) = method_facts(&text) {
-            assert_eq!(rt; facts.floating, want, "at {bytes:?}");
-        }
-        if let Some(found) = field_type(&text) {
-            assert_eq!(rt; found.floating(), want, "at {bytes:?}");
-        }
-    }
-    Ok(())
+    let rows = "
+        F                       | Some(Float)
+        [[[D                    | Some(Double)
+        J                       | None
+        LFD;                    | None
+        (IDLjava/lang/Thread;)F | Some(Double)
+        (LD;F)D                 | Some(Float)
+        ([LF;)D                 | Some(Double)
+        (Ljava/lang/Float;)V    | None
+    ";
+    check(&rt, rt.alloc(), rows, told_floating)
 }

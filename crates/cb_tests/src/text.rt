@@ -1,8 +1,10 @@
 // Texts and pools of class files, as the JVMS and `javap` read them.
+use crate::rows::check;
 use cb_text::{
-    Constant, Member, MemberKind, OutOfMemory, Pool, PoolFault, TextFault, Units, decode_modified,
-    encode_modified, read_pool,
+    Constant, Member, MemberKind, NameAndType, OutOfMemory, Pool, PoolFault, TextFault, Units,
+    decode_modified, encode_modified, read_pool,
 };
+use std::alloc::{AllocError, Global};
 use std::test::Fail;
 
 /// A constant of each tag, and the count 20. The class at 18 has its name behind it.
@@ -69,14 +71,26 @@ fn zero_takes_two_bytes_and_no_unit_is_spelled_otherwise(rt: HostRuntime) -> Res
     Ok(())
 }
 
-#[test]
-fn units_stand_in_the_order_of_their_pushes(rt: HostRuntime) -> Result<(), Fail> {
-    let mut units = Units::new(rt.alloc());
-    assert!(rt; units.is_empty());
+/// Two units, one behind the other.
+fn two_units(alloc: Global) -> Result<Units, OutOfMemory> {
+    let mut units = Units::new(alloc);
     units.push(0xD800)?;
     units.push(7)?;
+    Ok(units)
+}
+
+#[test]
+fn units_stand_in_the_order_of_their_pushes(rt: HostRuntime) -> Result<(), Fail> {
+    assert!(rt; Units::new(rt.alloc()).is_empty());
+    let units = two_units(rt.alloc())?;
     assert_eq!(rt; units.len(), 2);
     assert_eq!(rt; *units.get(0), 0xD800);
+    Ok(())
+}
+
+#[test]
+fn units_are_read_one_by_one(rt: HostRuntime) -> Result<(), Fail> {
+    let units = two_units(rt.alloc())?;
     let mut again = Units::with_capacity(rt.alloc(), units.len())?;
     for unit in &units {
         again.push(*unit)?;
@@ -85,41 +99,57 @@ fn units_stand_in_the_order_of_their_pushes(rt: HostRuntime) -> Result<(), Fail>
     Ok(())
 }
 
+/// The tag and the numbers of a constant of this pool.
+fn told_tag(alloc: Global, index: &str) -> Result<String, Fail> {
+    let (pool, _) = read_pool(alloc, EVERY_TAG)?;
+    let found = pool.get(index.parse()?).map(numbers);
+    Ok(format!(in alloc; "{found:?}")?)
+}
+
 #[test]
 fn a_pool_has_a_constant_of_each_tag(rt: HostRuntime) -> Result<(), Fail> {
+    let rows = "
+        0  | None
+        1  | Some((1, 1, 0))
+        2  | Some((7, 1, 0))
+        3  | Some((1, 3, 0))
+        4  | Some((12, 1, 3))
+        5  | Some((9, 2, 4))
+        6  | Some((10, 2, 4))
+        7  | Some((11, 2, 4))
+        8  | Some((8, 1, 0))
+        9  | Some((3, 4294967294, 0))
+        10 | Some((4, 1065353216, 0))
+        11 | Some((5, 5, 0))
+        12 | Some((0, 0, 0))
+        13 | Some((6, 4607182418800017408, 0))
+        14 | Some((0, 0, 0))
+        15 | Some((15, 9, 7))
+        16 | Some((16, 3, 0))
+        17 | Some((18, 65535, 4))
+        18 | Some((7, 19, 0))
+        19 | Some((1, 0, 0))
+        20 | None
+    ";
+    check(&rt, rt.alloc(), rows, told_tag)
+}
+
+#[test]
+fn a_pool_is_written_as_it_was(rt: HostRuntime) -> Result<(), Fail> {
     let (pool, end) = read_pool(rt.alloc(), EVERY_TAG)?;
-    assert_eq!(rt; end, EVERY_TAG.len());
-    assert_eq!(rt; pool.len(), 20);
-    for (index, want) in [
-        (0, None),
-        (1, Some((1, 1, 0))),
-        (2, Some((7, 1, 0))),
-        (3, Some((1, 3, 0))),
-        (4, Some((12, 1, 3))),
-        (5, Some((9, 2, 4))),
-        (6, Some((10, 2, 4))),
-        (7, Some((11, 2, 4))),
-        (8, Some((8, 1, 0))),
-        (9, Some((3, 0xFFFF_FFFE, 0))),
-        (10, Some((4, 0x3F80_0000, 0))),
-        (11, Some((5, 5, 0))),
-        (12, Some((0, 0, 0))),
-        (13, Some((6, 0x3FF0_0000_0000_0000, 0))),
-        (14, Some((0, 0, 0))),
-        (15, Some((15, 9, 7))),
-        (16, Some((16, 3, 0))),
-        (17, Some((18, 0xFFFF, 4))),
-        (18, Some((7, 19, 0))),
-        (19, Some((1, 0, 0))),
-        (20, None),
-    ] {
-        assert_eq!(rt; pool.get(index).map(numbers), want, "at {index}");
-    }
-    let mut bytes = pool.encode(rt.alloc())?;
+    assert_eq!(rt; (end, pool.len()), (EVERY_TAG.len(), 20));
+    let bytes = pool.encode(rt.alloc())?;
     assert_eq!(rt; bytes.as_slice(), EVERY_TAG);
+    Ok(())
+}
+
+#[test]
+fn a_pool_is_written_behind_bytes(rt: HostRuntime) -> Result<(), Fail> {
+    let (pool, _) = read_pool(rt.alloc(), EVERY_TAG)?;
+    let mut bytes = pool.encode(rt.alloc())?;
     pool.encode_into(&mut bytes)?;
     assert_eq!(rt; bytes.len(), 2 * EVERY_TAG.len());
-    assert!(rt; bytes.as_slice().ends_with(EVERY_TAG));
+    assert!(rt; bytes.as_slice().starts_with(EVERY_TAG) && bytes.as_slice().ends_with(EVERY_TAG));
     Ok(())
 }
 
@@ -159,84 +189,109 @@ fn a_pool_with_one_fault_is_refused(rt: HostRuntime) -> Result<(), Fail> {
 }
 
 #[test]
-fn the_pool_of_a_real_class_is_read_as_javap_reads_it(rt: HostRuntime) -> Result<(), Fail> {
+fn the_pool_of_a_real_class_is_read_and_written(rt: HostRuntime) -> Result<(), Fail> {
     let (pool, end) = read_pool(rt.alloc(), REAL)?;
-    assert_eq!(rt; end, REAL.len());
-    assert_eq!(rt; pool.len(), 43);
-    for (index, want) in [
-        (1, (10, 2, 3)),
-        (7, (18, 0, 8)),
-        (16, (5, 1_099_511_627_776, 0)),
-        (17, (0, 0, 0)),
-        (20, (8, 21, 0)),
-        (26, (15, 6, 27)),
-        (33, (16, 6, 0)),
-        (36, (12, 24, 6)),
-        (42, (1, 6, 0)),
-    ] {
-        assert_eq!(rt; pool.get(index).map(numbers), Some(want), "at {index}");
-    }
+    assert_eq!(rt; (end, pool.len()), (REAL.len(), 43));
     let bytes = pool.encode(rt.alloc())?;
     assert_eq!(rt; bytes.as_slice(), REAL);
     Ok(())
 }
 
-/// Whether the units are those of an ASCII text.
-fn is_text(units: &[u16], text: &[u8]) -> bool {
-    units.len() == text.len()
-        && units
-            .iter()
-            .zip(text)
-            .all(|(unit, byte)| *unit == u16::from(*byte))
+/// The tag and the numbers of a constant of that pool.
+fn told_numbers(alloc: Global, index: &str) -> Result<String, Fail> {
+    let (pool, _) = read_pool(alloc, REAL)?;
+    let found = pool.get(index.parse()?).map(numbers);
+    Ok(format!(in alloc; "{found:?}")?)
+}
+
+#[test]
+fn the_pool_of_a_real_class_is_read_as_javap_reads_it(rt: HostRuntime) -> Result<(), Fail> {
+    let rows = "
+        1  | Some((10, 2, 3))
+        7  | Some((18, 0, 8))
+        16 | Some((5, 1099511627776, 0))
+        17 | Some((0, 0, 0))
+        20 | Some((8, 21, 0))
+        26 | Some((15, 6, 27))
+        33 | Some((16, 6, 0))
+        36 | Some((12, 24, 6))
+        42 | Some((1, 6, 0))
+    ";
+    check(&rt, rt.alloc(), rows, told_numbers)
+}
+
+/// Adds the units of a text as characters, behind a word, where there is a text.
+fn push_text(out: &mut String, word: &str, text: Option<&[u16]>) -> Result<(), AllocError> {
+    let Some(units) = text else {
+        return Ok(());
+    };
+    out.push_str(word)?;
+    for unit in units {
+        out.push(char::from_u32(u32::from(*unit)).unwrap_or('?'))?;
+    }
+    Ok(())
+}
+
+/// Adds a name and a descriptor behind a word, where there are such.
+fn push_pair(
+    out: &mut String,
+    word: &str,
+    found: Option<NameAndType<'_>>,
+) -> Result<(), AllocError> {
+    push_text(out, word, found.map(|found| found.name))?;
+    push_text(out, " ", found.map(|found| found.descriptor))
+}
+
+/// Adds the kind of a member, its class, its name and its descriptor.
+fn push_member(out: &mut String, found: Member<'_>) -> Result<(), AllocError> {
+    write!(out, "{:?}", found.kind)?;
+    push_text(out, " ", Some(found.class))?;
+    push_text(out, " ", Some(found.name))?;
+    push_text(out, " ", Some(found.descriptor))
+}
+
+/// What the names are that a constant of that pool leads to.
+fn told_constant(alloc: Global, index: &str) -> Result<String, Fail> {
+    let (pool, _) = read_pool(alloc, REAL)?;
+    let index = index.parse()?;
+    let mut out = String::new(alloc);
+    push_text(&mut out, "text ", pool.text(index))?;
+    push_text(&mut out, "class ", pool.class(index))?;
+    push_pair(&mut out, "pair ", pool.name_and_type(index))?;
+    push_pair(&mut out, "dynamic ", pool.dynamic(index))?;
+    if let Some(found) = pool.member(index) {
+        push_member(&mut out, found)?;
+    }
+    Ok(out)
 }
 
 #[test]
 fn the_names_of_a_real_class_are_those_that_javap_prints(rt: HostRuntime) -> Result<(), Fail> {
+    let rows = "
+        0  |
+        1  | Method java/lang/Object <init> ()V
+        2  | class java/lang/Object
+        3  | pair <init> ()V
+        5  | text <init>
+        7  | dynamic run ()Ljava/lang/Runnable;
+        8  | pair run ()Ljava/lang/Runnable;
+        11 | class Real
+        16 |
+        17 |
+        28 | class java/lang/invoke/LambdaMetafactory
+        35 | Method Real lambda$task$0 ()V
+        43 |
+    ";
+    check(&rt, rt.alloc(), rows, told_constant)
+}
+
+#[test]
+fn the_values_of_a_real_class_are_those_that_javap_prints(rt: HostRuntime) -> Result<(), Fail> {
     let (pool, _) = read_pool(rt.alloc(), REAL)?;
-    for (index, want) in [
-        (2, b"java/lang/Object".as_slice()),
-        (11, b"Real"),
-        (28, b"java/lang/invoke/LambdaMetafactory"),
-    ] {
-        assert!(rt;
-            pool.class(index).is_some_and(|name| is_text(name, want)),
-            "at {index}"
-        );
-    }
-    assert!(rt; pool.text(5).is_some_and(|name| is_text(name, b"<init>")));
     assert_eq!(rt; pool.string(20), Some([0x61, 0, 0xE9, 0x20AC].as_slice()));
-    for (index, name, descriptor) in [
-        (3, b"<init>".as_slice(), b"()V".as_slice()),
-        (8, b"run", b"()Ljava/lang/Runnable;"),
-    ] {
-        let found = pool.name_and_type(index);
-        assert!(rt;
-            found.is_some_and(|found| is_text(found.name, name)
-                && is_text(found.descriptor, descriptor))
-        );
-    }
-    let called = pool.dynamic(7);
-    assert!(rt; called.is_some_and(|found| is_text(found.name, b"run")));
-    let Some(
-        Member {
-            kind,
-            class,
-            name,
-            descriptor,
-        },
-    ) = pool.member(35)
-    else {
-        return Err(Fail::new("no member at 35"));
-    };
-    assert_eq!(rt; kind, MemberKind::Method);
-    assert!(rt;
-        is_text(class, b"Real") && is_text(name, b"lambda$task$0") && is_text(descriptor, b"()V")
-    );
     assert_eq!(rt; pool.long(16), Some(1 << 40));
-    for index in [0, 1, 6, 17, 43] {
-        assert_eq!(rt; pool.class(index), None, "at {index}");
-        assert_eq!(rt; pool.integer(index), None, "at {index}");
-    }
+    let integers = [0, 1, 6, 17, 43].map(|index| pool.integer(index));
+    assert_eq!(rt; integers, [None; 5]);
     Ok(())
 }
 
@@ -267,6 +322,15 @@ fn add(pool: &mut Pool, constant: Constant) -> Result<Option<u16>, OutOfMemory> 
         return Ok(None);
     }
     Ok(Some(pool.push(constant)?))
+}
+
+/// Whether the units are those of an ASCII text.
+fn is_text(units: &[u16], text: &[u8]) -> bool {
+    units.len() == text.len()
+        && units
+            .iter()
+            .zip(text)
+            .all(|(unit, byte)| *unit == u16::from(*byte))
 }
 
 #[test]
