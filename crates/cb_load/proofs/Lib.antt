@@ -17,3 +17,8 @@ pub mod TurnLists
 pub mod TurnStands
 pub mod TurnSteps
 pub mod UsedLaws
+pub mod NeededThere
+pub mod ClassesThere
+pub mod LoadSupported
+pub mod LoadLimits
+pub mod Laws

@@ -43,16 +43,16 @@ names_in_rows (row ∷ rows) [] are = absurd are
 names_in_rows (row ∷ rows) (class ∷ classes) are = λ i. or_none (are.0.name i) ∷ names_in_rows rows classes are.1 i
 
 -- a class that a turn loads has the name of the turn's entry, and none before it has
-abbrev IsNew : List (Turn ClassFile) → Entry → Option ClassFile → Type 0
+abbrev pub IsNew : List (Turn ClassFile) → Entry → Option ClassFile → Type 0
 IsNew before entry loads = IfSome loads (λ class. (name_of class ≡ entry.name) × (is_loaded before entry.name ≡ false))
 
-is_new : (files : Option Files) (root : List ℕ) (before : List (Turn ClassFile)) (entry : Entry) (loads : Option ClassFile) → Loads files root before entry loads → IsNew before entry loads
+pub is_new : (files : Option Files) (root : List ℕ) (before : List (Turn ClassFile)) (entry : Entry) (loads : Option ClassFile) → Loads files root before entry loads → IsNew before entry loads
 is_new files root before entry loads (IsThere there) = tt
 is_new files root before entry loads (StaysOpaque new may unneeded) = tt
 is_new files root before entry loads (IsRead bytes class new may room of) = (ap or_none of.named, new)
 
 -- so the classes have the names that the turns load
-named_so : (before : ℕ → List (Turn ClassFile)) (turns : List (Turn ClassFile)) → ((place : ℕ) (turn : Turn ClassFile) → slice_get turns place ≡ Some turn → IsNew (before place) turn.entry turn.loads)
+pub named_so : (before : ℕ → List (Turn ClassFile)) (turns : List (Turn ClassFile)) → ((place : ℕ) (turn : Turn ClassFile) → slice_get turns place ≡ Some turn → IsNew (before place) turn.entry turn.loads)
     → map name_of (loaded turns) ≡ loaded_names turns
 named_so before [] each = refl
 named_so before (turn ∷ turns) each = here turn.entry turn.loads (each 0 turn refl) (named_so (λ place. before (suc place)) turns (λ place. each (suc place))) where
@@ -62,10 +62,10 @@ named_so before (turn ∷ turns) each = here turn.entry turn.loads (each 0 turn 
   here entry (Some class) new rest = λ i. new.0 i ∷ rest i
 
 -- the library's names and those of turns, with one turn more
-abbrev there : List (Turn ClassFile) → List (List ℕ)
+abbrev pub there : List (Turn ClassFile) → List (List ℕ)
 there turns = class_names ++ loaded_names turns
 
-among_there : (turns : List (Turn ClassFile)) (name : List ℕ) → list_any (same_name name) (there turns) ≡ is_loaded turns name
+pub among_there : (turns : List (Turn ClassFile)) (name : List ℕ) → list_any (same_name name) (there turns) ≡ is_loaded turns name
 among_there turns name =
     list_any-append (same_name name) class_names (loaded_names turns) ∙ ap (λ core. core || list_any (same_name name) (loaded_names turns)) (core_of name core_classes)
 

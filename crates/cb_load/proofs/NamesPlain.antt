@@ -47,7 +47,7 @@ plain_part : (part behind : List ℕ) → IsUnqualifiedName part → is_array (p
 plain_part [] behind part = absurd (omega (arith, part.0))
 plain_part (unit ∷ part) behind named = ne_eqb unit bracket named.1.0.2
 
-plain_name : (name : List ℕ) → IsClassName name → is_array name ≡ false
+pub plain_name : (name : List ℕ) → IsClassName name → is_array name ≡ false
 plain_name name ([], some, each, is) = absurd (omega (arith, some))
 plain_name name (part ∷ [], some, each, is) =
     ap is_array (is ∙ sym (append-nil part)) ∙ plain_part part [] each.0

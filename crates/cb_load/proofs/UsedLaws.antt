@@ -62,7 +62,7 @@ is_hidden entries entry = go (hidden entries entry) refl
     go false told = list_any-append (λ before. covers before entry) entries (entry ∷ []) ∙ last (hidden entries entry) (covers entry entry) (itself entry)
 
 -- what was entered is covered
-all_hidden : (entries names : List Entry) → AreCovered (entered_all entries names) names
+pub all_hidden : (entries names : List Entry) → AreCovered (entered_all entries names) names
 all_hidden entries [] = tt
 all_hidden entries (entry ∷ names) = (stays (entered entries entry) names entry (is_hidden entries entry), all_hidden (entered entries entry) names)
 

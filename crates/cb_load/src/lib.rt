@@ -18,6 +18,9 @@ mod text_names;
 mod text_uses;
 mod uses;
 
-pub use law::{class_names_once, one_loading, small_closures};
+pub use law::{
+    class_names_once, loaded_limits, loaded_supported, loaded_well_formed, needed_classes,
+    one_loading, small_closures,
+};
 pub use linking::link;
 pub use path::path_of;

@@ -106,7 +106,7 @@ both_references : (program : Linked) (element basic : Basic) → Components prog
 both_references program element basic (Components.Alike own none) is = absurd (false≢true (sym none ∙ is))
 both_references program element basic (Components.References kind other goes) is = record { kind = kind; is = refl; low = kind_low program kind other goes }
 
-any_is : (found : Option Basic) → are_any found ≡ true → Suiting (λ (basic : Basic). Unit {0}) found
+pub any_is : (found : Option Basic) → are_any found ≡ true → Suiting (λ (basic : Basic). Unit {0}) found
 any_is None is = absurd (false≢true is)
 any_is (Some basic) is = tt
 

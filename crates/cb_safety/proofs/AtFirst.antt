@@ -1,5 +1,5 @@
 -- Roots before anything has run: nothing stands, and each static field is blank.
-use Rattle.std.proofs.Common.{◌≡◌, ◌∙◌, ap, arith, refl, sym, subst, ℕ, zero, suc, pos, ◌+◌, ◌<◌, List, [], ◌∷◌, length, map, replicate, Option, Some, None, slice_get}
+use Rattle.std.proofs.Common.{◌≡◌, ◌∙◌, ap, arith, refl, subst, ℕ, zero, suc, pos, ◌+◌, ◌<◌, [], length, map, replicate, Option, Some, None, slice_get}
 use Rattle.std.specs.List.{range_with_len}
 use Rattle.std.specs.Int.{w8, w16}
 use Rattle.std.proofs.lemmas.Int.{int_wrap_fits}
@@ -18,8 +18,9 @@ use Rattle.cb_plain.specs.declared.value.Value.{Value}
 use Rattle.cb_verify.specs.Within.{kind_of_class, kind_of_string}
 use Rattle.cb_safety.specs.Frames.{AreStanding}
 use Rattle.cb_safety.specs.Held.{HasBasic}
-use Rattle.cb_safety.specs.Kinds.{Kinds, Refers}
+use Rattle.cb_safety.specs.Kinds.{IsKnown, Kinds, Refers}
 use Rattle.cb_safety.specs.States.{AreFrames, AreRoots, HasStatic, IsTable}
+use Rattle.cb_safety.proofs.Known.{all_mapped}
 use Rattle.cb_safety.proofs.Assigned.{never}
 use Rattle.cb_safety.proofs.Searching.{numbered}
 
@@ -61,10 +62,19 @@ static_blank program kinds slot basic is = record {
   fits = blank_basic program kinds basic;
 }
 
+slot_known : (kinds : Kinds) (found : Option Basic) → IsKnown kinds (blank_static found)
+slot_known kinds None = IsKnown.Null
+slot_known kinds (Some basics.Long) = IsKnown.ALong (pos 0)
+slot_known kinds (Some (basics.Reference kind)) = IsKnown.Null
+slot_known kinds (Some other) = IsKnown.AnInt (pos 0)
+
 pub first_roots : (program : Linked) (kinds : Kinds) → AreRoots program kinds (empty_roots program)
 first_roots program kinds = record {
   frames = AreFrames.Running [] AreStanding.NotYet;
-  statics = record { each = static_blank program kinds };
+  statics = record {
+    each = static_blank program kinds;
+    known = all_mapped (IsKnown kinds) (at_slot program) (range_with_len 0 (length (statics program.classes))) (λ slot. slot_known kinds (static_basic program slot));
+  };
   classes = length-map-range_with_len _ 0 (length program.classes);
   tables = record {
     constants = null_table program kinds kind_of_string (length program.constants);

@@ -27,11 +27,12 @@ use Rattle.cb_plain.specs.declared.value.Value.TheVariants as values
 use Rattle.cb_verify.specs.Within.{kind_of_string}
 use Rattle.cb_safety.specs.Frames.{AreStanding}
 use Rattle.cb_safety.specs.Held.{HasBasic}
-use Rattle.cb_safety.specs.Kinds.{IsOfKind, Kinds, Refers, kinds_of}
+use Rattle.cb_safety.specs.Kinds.{IsKnown, IsOfKind, Kinds, Refers, kinds_of}
 use Rattle.cb_safety.specs.Ready.{BeginsTyped}
 use Rattle.cb_safety.specs.States.{AreFrames, IsTypedState}
 use Rattle.cb_safety.specs.Strings.{HasConstants, IsInitial, IsText}
 use Rattle.cb_safety.specs.Throwing.{AreThrown}
+use Rattle.cb_safety.proofs.Known.{basic_known}
 use Rattle.cb_safety.proofs.Contents.{int_kept}
 use Rattle.cb_safety.proofs.Going.{standing_frames}
 use Rattle.cb_safety.proofs.StaticValues.{int_basic, of_type, roots_set}
@@ -114,6 +115,7 @@ module _ (machine : Machine) (constants : HasConstants machine.program) where
       let own : HasString machine.program placed = constant_made text plan good in
       good_rooted machine.program placed.plan (plain_roots.with_static placed.plan.left.roots slot (values.Ref placed.serial)) own.good
       (roots_set machine.program (kinds_of (objects_in placed.plan)) placed.plan.left.roots slot (values.Ref placed.serial) own.good.typed.roots
+      (IsKnown.AnObject placed.serial own.is.own own.is.there)
       (λ basic declared. initial_text machine.program (kinds_of (objects_in placed.plan)) basic text placed.serial
       (subst (IsInitial basic) told (constants.initial slot basic declared)) own.is))
 
@@ -123,8 +125,11 @@ module _ (machine : Machine) (constants : HasConstants machine.program) where
   whole_good slot value plan (Some basic) declared good told =
       good_rooted machine.program plan (plain_roots.with_static plan.left.roots slot (kept_value basic value)) good
       (roots_set machine.program (kinds_of (objects_in plan)) plan.left.roots slot (kept_value basic value) good.typed.roots
-      (of_type machine.program (kinds_of (objects_in plan)) slot basic (kept_value basic value) declared
-      (initial_whole machine.program (kinds_of (objects_in plan)) basic value (subst (IsInitial basic) told (constants.initial slot basic declared)))))
+      (basic_known machine.program (kinds_of (objects_in plan)) basic (kept_value basic value) has)
+      (of_type machine.program (kinds_of (objects_in plan)) slot basic (kept_value basic value) declared has))
+    where
+      has : HasBasic machine.program (kinds_of (objects_in plan)) basic (kept_value basic value)
+      has = initial_whole machine.program (kinds_of (objects_in plan)) basic value (subst (IsInitial basic) told (constants.initial slot basic declared))
 
   slot_good : (slot : ℕ) (plan : Plan) → IsGood machine.program plan → IsGood machine.program (set_initial machine plan slot)
   slot_good slot plan good = by (static_initial machine.program slot) refl

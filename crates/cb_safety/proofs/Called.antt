@@ -103,7 +103,7 @@ pub all_changed : {Item Part : Type 0} (P : Part → Type 0) (change : Item → 
 all_changed P change [] all = tt
 all_changed P change (item ∷ items) all = (all.0, all_changed P change items all.1)
 
-all_so : {Item : Type 0} (P : Item → Type 0) (items : List Item) → ((item : Item) → P item) → AllByRecursion P items
+pub all_so : {Item : Type 0} (P : Item → Type 0) (items : List Item) → ((item : Item) → P item) → AllByRecursion P items
 all_so P [] each = tt
 all_so P (item ∷ items) each = (each item, all_so P items each)
 
@@ -188,7 +188,7 @@ abbrev entered_or : Bool → Plan → Plan → Plan
 entered_or test one other = if test then one else other
 
 module _ (machine : Machine) (state : State) (frame : MethodFrame) (below : List Frame) (insn : Insn) (action : Action) (call : Call machine state frame below insn action) where
-  waits_by : (left : List Value) (result : Option Basic) (rest : List VerificationType) → falls insn ≡ true → call.after.stack ≡ result_types result ++ rest
+  pub waits_by : (left : List Value) (result : Option Basic) (rest : List VerificationType) → falls insn ≡ true → call.after.stack ≡ result_types result ++ rest
       → HaveTypes call.at.method (kinds_of state.objects) call.after.locals frame.locals → IsStack call.at.method (kinds_of state.objects) rest left
       → Waits machine.program (kinds_of state.objects) result (with_stack frame left)
   waits_by left result rest falling answered locals stack = record {

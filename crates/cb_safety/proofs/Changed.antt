@@ -9,10 +9,11 @@ use Rattle.cb_link.specs.Slots.{field_basic}
 use Rattle.cb_machine.specs.Arrays.{element_of}
 use Rattle.cb_plain.specs.State.{Content, Object, State}
 use Rattle.cb_plain.specs.Updates.{kept, object_in, with_contents_at, with_contents_in}
-use Rattle.cb_safety.specs.Heap.{Holds, IsHeap, IsObject}
+use Rattle.cb_safety.specs.Heap.{Holds, IsHeap, IsKnownWord, IsObject}
 use Rattle.cb_safety.specs.Held.{HasContent}
 use Rattle.cb_safety.specs.Kinds.{Kinds, kinds_of}
 use Rattle.cb_safety.specs.States.{AreRoots, IsTypedState}
+use Rattle.cb_safety.proofs.Known.{all_set, content_known}
 use Rattle.cb_safety.proofs.Assigned.{never}
 
 -- ---- lists with one item changed
@@ -65,6 +66,7 @@ object_set program kinds object place content basic may fits is = record {
       holds_set program kinds object.contents place at content basic own fits (λ here. may.elements own component)
       (is.elements own at component (subst (λ (count : ℕ). at < count) (set_length object.contents place content) low));
   few = λ own component. omega (arith, set_length object.contents place content, is.few own component);
+  words = all_set (IsKnownWord kinds) object.contents place content is.words (content_known program kinds basic content fits);
 }
 
 -- ---- the heap

@@ -1,5 +1,5 @@
 -- Class objects that the machine places.
-use Rattle.std.proofs.Common.{◌≡◌, ◌∙◌, ap, arith, refl, sym, subst, ℕ, zero, suc, pos, ◌+◌, ◌<◌, List, [], ◌∷◌, ◌++◌, length, map, Option, Some, None, slice_get, slice_set}
+use Rattle.std.proofs.Common.{◌≡◌, ◌∙◌, ap, arith, refl, sym, subst, ℕ, zero, suc, pos, ◌<◌, List, [], ◌∷◌, ◌++◌, length, Option, Some, None, slice_get, slice_set}
 use Rattle.std.proofs.lemmas.List.{length-set}
 use Rattle.std.proofs.lemmas.Option.{none-some}
 use Rattle.cb_kinds.specs.declared.basic.Basic.{Basic}
@@ -62,6 +62,7 @@ class_is program has kinds kind low = record {
       };
   elements = λ basic place own low. absurd (none-some basic (sym has.objects.no_elements ∙ own));
   few = λ basic own. absurd (none-some basic (sym has.objects.no_elements ∙ own));
+  words = (tt, tt);
 }
 
 of_kind : (program : Linked) (kinds : Kinds) (kind place : ℕ) → Refers program kinds kind (suc place) → IsOfKind program kinds kind (suc place)

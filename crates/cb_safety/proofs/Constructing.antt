@@ -93,21 +93,21 @@ special_enters now index number place class own_class held arguments left number
     rw (names, took, first, there, declares, found, init, found_own, member_is, class_is, declared, up, same, concrete, found, has) refl
 
 -- a class is the first of those from it upwards
-record First (class : ℕ) (found : List ℕ) : Type 0 where
-  more : List ℕ
-  is : found ≡ class ∷ more
+pub record First (class : ℕ) (found : List ℕ) : Type 0 where
+  pub more : List ℕ
+  pub is : found ≡ class ∷ more
 
 first_among : (classes : List Ranked) (class : ℕ) → 0 < length classes → First class (upwards classes class)
 first_among [] class low = absurd (omega (arith, low))
 first_among (one ∷ others) class low =
     record { more = flat_map (in_turns (upwards_by (one ∷ others)) (length others)) (superclass (one ∷ others) class); is = refl }
 
-first_upwards : (classes : List ClassFile) (class : ℕ) → class < length classes → First class (upwards (hierarchy classes) class)
+pub first_upwards : (classes : List ClassFile) (class : ℕ) → class < length classes → First class (upwards (hierarchy classes) class)
 first_upwards classes class low = first_among (hierarchy classes) class (omega (arith, low, length-map classes (ranked classes)))
 
 -- ---- what the verifier's rule says
 
-finished_reference : (method : Within) (kind : ℕ) (object type : VerificationType) → finished method kind object ≡ Some type → is_of sorts.Reference object ≡ true
+pub finished_reference : (method : Within) (kind : ℕ) (object type : VerificationType) → finished method kind object ≡ Some type → is_of sorts.Reference object ≡ true
 finished_reference method kind This type is = refl
 finished_reference method kind (New place) type is = refl
 finished_reference method kind object type is = never is
@@ -138,7 +138,7 @@ constructed_on method kind frame after member (object ∷ rest) none off so =
       stack = sym (ap (λ (own : verified.Frame). own.stack) same);
     })
 
-constructed_by : (method : Within) (index kind : ℕ) (frame after : verified.Frame) (member : Member) → holder method index ≡ Some kind → construct method index member frame ≡ Some after
+pub constructed_by : (method : Within) (index kind : ℕ) (frame after : verified.Frame) (member : Member) → holder method index ≡ Some kind → construct method index member frame ≡ Some after
     → Constructed method kind frame after member
 constructed_by method index kind frame after member holds so =
     let (gives, rule) = when (is_none member.gives)

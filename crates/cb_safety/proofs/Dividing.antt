@@ -1,5 +1,5 @@
 -- What a division by zero throws: an exception with a message, a string that is placed first.
-use Rattle.std.proofs.Common.{◌≡◌, ◌∙◌, ap, arith, refl, sym, subst, ℕ, zero, suc, ◌+◌, ◌<◌, true, List, [], ◌∷◌, ◌++◌, length, map, Option, Some, slice_get}
+use Rattle.std.proofs.Common.{◌≡◌, ◌∙◌, ap, arith, refl, sym, subst, ℕ, zero, suc, ◌<◌, true, List, [], ◌∷◌, ◌++◌, Option, Some}
 use Rattle.std.proofs.lemmas.Option.{none-some}
 use Rattle.cb_kinds.specs.Basics.{is_reference}
 use Rattle.cb_kinds.specs.declared.basic.Basic.{Basic}
@@ -12,15 +12,16 @@ use Rattle.cb_machine.specs.Plans.{Plan, leaving, made, object_of, with_one}
 use Rattle.cb_machine.specs.Sites as sites
 use Rattle.cb_machine.specs.Strings.{Placed, constant_string}
 use Rattle.cb_machine.specs.Throwing.{exception_contents, throwing_with}
-use Rattle.cb_plain.specs.State.{Content, Object, Reference, State}
+use Rattle.cb_plain.specs.State.{Object, Reference, State}
 use Rattle.cb_verify.specs.Within.{kind_of_string, kind_of_throwable}
 use Rattle.cb_safety.specs.Constants.{HasMessage, TakesMessage}
 use Rattle.cb_safety.specs.Heap.{Holds, IsObject}
 use Rattle.cb_safety.specs.Held.{HasContent}
-use Rattle.cb_safety.specs.Kinds.{IsOfKind, Kinds, Refers, kind_in, kinds_of}
+use Rattle.cb_safety.specs.Kinds.{IsKnown, IsOfKind, Kinds, Refers, kind_in, kinds_of}
 use Rattle.cb_safety.specs.States.{AreFrames, IsTypedState}
 use Rattle.cb_safety.specs.Strings.{HasConstants}
 use Rattle.cb_safety.specs.Throwing.{AreThrown, IsThrown}
+use Rattle.cb_safety.proofs.Known.{referred_known}
 use Rattle.cb_safety.proofs.Begun.{constant_made}
 use Rattle.cb_safety.proofs.Extended.{refers_more}
 use Rattle.cb_safety.proofs.Grown.{good_one, one_put}
@@ -50,6 +51,7 @@ module _ (program : Linked) (kinds : Kinds) (kind message : ℕ) (thrown : IsThr
         (λ first. takes class basic own (ap (field_basic program class) (sym first) ∙ declared));
     elements = λ basic place own low. absurd (none-some basic (sym thrown.no_elements ∙ own));
     few = λ basic own. absurd (none-some basic (sym thrown.no_elements ∙ own));
+    words = (referred_known program kinds kind_of_string message refers, (IsKnown.Null, (IsKnown.Null, tt)));
   }
 
 -- it becomes pending

@@ -115,14 +115,14 @@ pub record Fits (method : Within) (frames : Declared) (own : Placed) (before : F
   pub next : (not (falls own.insn) || goes_on_to method frames after own.next) ≡ true
   pub handlers : list_all (is_handled method frames before) (filter (covers own.place) method.body.handlers) ≡ true
 
-has_before : (method : Within) (frames : Declared) (own : Placed) → fits method frames own ≡ true → (before : Frame) × (own.before ≡ Some before)
+pub has_before : (method : Within) (frames : Declared) (own : Placed) → fits method frames own ≡ true → (before : Frame) × (own.before ≡ Some before)
 has_before method frames own so = go own.before so where
   go : (before : Option Frame) → fits_with method frames own.place own.insn own.next before (after method (own.place, own.insn) before) ≡ true
       → (frame : Frame) × (before ≡ Some frame)
   go None so = absurd (cc so)
   go (Some before) so = (before, refl)
 
-fits_parts : (method : Within) (frames : Declared) (own : Placed) (before : Frame) → fits method frames own ≡ true → own.before ≡ Some before → Fits method frames own before
+pub fits_parts : (method : Within) (frames : Declared) (own : Placed) (before : Frame) → fits method frames own ≡ true → own.before ≡ Some before → Fits method frames own before
 fits_parts method frames own before so had =
     go (left method own.place own.insn before) refl
     (sym (ap (λ (before : Option Frame). fits_with method frames own.place own.insn own.next before (after method (own.place, own.insn) before)) had) ∙ so)

@@ -58,7 +58,7 @@ use Rattle.cb_safety.proofs.Subclasses.{all_looked, ends, own_looked}
 
 -- ---- the rows from Throwable on
 
-abbrev core_names : List (List ℕ)
+abbrev pub core_names : List (List ℕ)
 core_names = map (λ (row : CoreClass). row.name) core_classes
 
 abbrev no_fields : List rows.Field → Bool
@@ -188,7 +188,7 @@ pub record IsRow {Row Item : Type 0} (Is : Row → Item → Type 0) (items : Lis
   pub there : slice_get items place ≡ Some item
   pub is : Is row item
 
-zipped_at : {Row Item : Type 0} (Is : Row → Item → Type 0) (table : List Row) (items : List Item) (place : ℕ) (row : Row) → AllZip Is table items → slice_get table place ≡ Some row → IsRow Is items place row
+pub zipped_at : {Row Item : Type 0} (Is : Row → Item → Type 0) (table : List Row) (items : List Item) (place : ℕ) (row : Row) → AllZip Is table items → slice_get table place ≡ Some row → IsRow Is items place row
 zipped_at Is [] items place row are there = never there
 zipped_at Is (first ∷ table) [] place row are there = absurd are
 zipped_at Is (first ∷ table) (item ∷ items) zero row are there =
@@ -202,7 +202,7 @@ pub record HasRow {Row Item : Type 0} (Is : Row → Item → Type 0) (table : Li
   pub there : slice_get table place ≡ Some row
   pub is : Is row item
 
-row_zipped : {Row Item : Type 0} (Is : Row → Item → Type 0) (table : List Row) (items : List Item) (place : ℕ) (item : Item) → AllZip Is table items → slice_get items place ≡ Some item → HasRow Is table place item
+pub row_zipped : {Row Item : Type 0} (Is : Row → Item → Type 0) (table : List Row) (items : List Item) (place : ℕ) (item : Item) → AllZip Is table items → slice_get items place ≡ Some item → HasRow Is table place item
 row_zipped Is table [] place item are there = never there
 row_zipped Is [] (first ∷ items) place item are there = absurd are
 row_zipped Is (row ∷ table) (first ∷ items) zero item are there =
@@ -363,7 +363,7 @@ module _ (library more : List ClassFile) (are : AreLibrary library) where
   class_numbered : (name : List ℕ) (number : ℕ) → number_of core_names name ≡ Some number → class_number classes name ≡ Some number
   class_numbered name number is = ap (λ (texts : List (List ℕ)). number_of texts name) named_front ∙ numbered_front (same_text name) core_names (map name_of more) number is
 
-  file_at : (place : ℕ) (row : CoreClass) → slice_get core_classes place ≡ Some row → IsRow IsRecordOf classes place row
+  pub file_at : (place : ℕ) (row : CoreClass) → slice_get core_classes place ≡ Some row → IsRow IsRecordOf classes place row
   file_at place row there =
       let own = zipped_at IsRecordOf core_classes library place row are there in
       record { item = own.item; there = front_at library more place own.item own.there; is = own.is }
@@ -371,7 +371,7 @@ module _ (library more : List ClassFile) (are : AreLibrary library) where
   rank_at : (place : ℕ) (row : CoreClass) (file : IsRow IsRecordOf classes place row) → slice_get ranks place ≡ Some (ranked classes file.item)
   rank_at place row file = slice_get-map (ranked classes) classes place ∙ ap (option_map (ranked classes)) file.there
 
-  extends_to : (place : ℕ) (row : CoreClass) (super : List ℕ) (number : ℕ) → slice_get core_classes place ≡ Some row → row.superclass ≡ Some super → number_of core_names super ≡ Some number
+  pub extends_to : (place : ℕ) (row : CoreClass) (super : List ℕ) (number : ℕ) → slice_get core_classes place ≡ Some row → row.superclass ≡ Some super → number_of core_names super ≡ Some number
       → superclass ranks place ≡ number ∷ []
   extends_to place row super number there is numbered =
       let file : IsRow IsRecordOf classes place row = file_at place row there in
@@ -386,7 +386,7 @@ module _ (library more : List ClassFile) (are : AreLibrary library) where
       let ranked_there : slice_get ranks 0 ≡ Some (ranked classes file.item) = rank_at 0 object_class file in
       rw ranked_there (ap (λ (index : ℕ). listed (class_number_at classes file.item.pool index)) file.is.superclass)
 
-  own_none : (place : ℕ) (row : CoreClass) → slice_get core_classes place ≡ Some row → row.fields ≡ [] → own_fields fields place ≡ []
+  pub own_none : (place : ℕ) (row : CoreClass) → slice_get core_classes place ≡ Some row → row.fields ≡ [] → own_fields fields place ≡ []
   own_none place row there none =
       let file : IsRow IsRecordOf classes place row = file_at place row there in
       let empty : file.item.fields ≡ [] =
@@ -394,10 +394,10 @@ module _ (library more : List ClassFile) (are : AreLibrary library) where
       none_left (own_fields fields place) (subst (λ (own : List Field). length (own_fields fields place) ≤ length own) empty (own_few classes place file.item file.there))
 
   -- objects of these classes have the fields of Throwable
-  abbrev laid : ℕ → ℕ → List ℕ
+  abbrev pub laid : ℕ → ℕ → List ℕ
   laid turns class = in_turns (layout_by ranks fields) turns class
 
-  laid_object : (turns : ℕ) → laid turns 0 ≡ []
+  pub laid_object : (turns : ℕ) → laid turns 0 ≡ []
   laid_object zero = refl
   laid_object (suc turns) =
       ap₂ (λ (supers own : List ℕ). flat_map (laid turns) supers ++ own) none_above_object (own_none 0 object_class refl refl)
@@ -593,7 +593,7 @@ module _ (program : Linked) (library more : List ClassFile) (front : program.cla
   pub fixed_site : (site : ℕ) → kind_of_site program site ≡ or_zero (slice_get (map (kind_number program.kinds) fixed_kinds ++ map (λ (site : Site). site.kind) program.sites) site)
   fixed_site site = ap (λ (fixed : List ℕ). or_zero (slice_get (fixed ++ map (λ (site : Site). site.kind) program.sites) site)) whole.fixed
 
-  thrown_at : (site number : ℕ) (name : List ℕ) → kind_of_site program site ≡ kind_number program.kinds name → number_of core_names name ≡ Some number
+  pub thrown_at : (site number : ℕ) (name : List ℕ) → kind_of_site program site ≡ kind_number program.kinds name → number_of core_names name ≡ Some number
       → kind_of_throwable ≤ number → number < 50 → IsThrown program (kind_of_site program site)
   thrown_at site number name is numbered from small =
       subst (IsThrown program) (sym (is ∙ kind_number_of program.kinds name number (kind_numbered name number numbered))) (thrown_row number (row_from number from small) small)

@@ -9,7 +9,7 @@ use Rattle.cb_verify.specs.declared.verification_type.VerificationType.{Verifica
 use Rattle.cb_verify.specs.Within.{Within}
 use Rattle.cb_safety.specs.Frames.{AreBelow, AreCovered, AreStanding, IsCovered, Stands, Waits, result_at}
 use Rattle.cb_safety.specs.Held.{HasBasic, HasContent, HasType, HaveTypes, IsStack}
-use Rattle.cb_safety.specs.Kinds.{IsKnown, IsOfKind, Kinds, Refers, kind_in, known}
+use Rattle.cb_safety.specs.Kinds.{AreKnown, IsKnown, IsOfKind, Kinds, Refers, kind_in, known}
 use Rattle.std.specs.List.{slice_get}
 
 still_there : (kinds more : Kinds) (place own : ℕ) → known (slice_get kinds place) ≡ Some own → known (slice_get (kinds ++ more) place) ≡ Some own
@@ -33,6 +33,10 @@ is_known_more kinds more value (IsKnown.AnInt number) = IsKnown.AnInt number
 is_known_more kinds more value (IsKnown.ALong number) = IsKnown.ALong number
 is_known_more kinds more value IsKnown.Null = IsKnown.Null
 is_known_more kinds more value (IsKnown.AnObject serial own there) = IsKnown.AnObject serial own (kind_in_more kinds more serial own there)
+
+pub are_known_more : (kinds more : Kinds) (held : List Value) → AreKnown kinds held → AreKnown (kinds ++ more) held
+are_known_more kinds more [] known = tt
+are_known_more kinds more (value ∷ held) known = (is_known_more kinds more value known.0, are_known_more kinds more held known.1)
 
 pub has_type_more : (method : Within) (kinds more : Kinds) (type : VerificationType) (value : Value) → HasType method kinds type value → HasType method (kinds ++ more) type value
 has_type_more method kinds more type value (HasType.Unknown own is) = HasType.Unknown own (is_known_more kinds more own is)
@@ -87,7 +91,8 @@ stands_more program kinds more frame s = record {
 }
 
 pub is_covered_more : (program : Linked) (kinds more : Kinds) (frame : MethodFrame) → IsCovered program kinds frame → IsCovered program (kinds ++ more) frame
-is_covered_more program kinds more frame is = record { at = is.at; locals = have_types_more is.at.method kinds more is.at.types.locals frame.locals is.locals }
+is_covered_more program kinds more frame is =
+    record { at = is.at; locals = have_types_more is.at.method kinds more is.at.types.locals frame.locals is.locals; stack = are_known_more kinds more frame.stack is.stack }
 
 mutual
   pub are_below_more : (program : Linked) (kinds more : Kinds) (result : Option Basic) (frames : List Frame) → AreBelow program kinds result frames → AreBelow program (kinds ++ more) result frames

@@ -92,16 +92,16 @@ module _ (program : Linked) (whole : IsWhole program) (all : AllByRecursion IsWe
     own : IsDeclared program.classes number field
     own = declared program.classes number field there
 
-    basic : Basic
+    pub basic : Basic
     basic = (linked_field program.kinds own.own).basic
 
-    basic_is : basic_of_field program number ≡ Some basic
+    pub basic_is : basic_of_field program number ≡ Some basic
     unfolding basic own
     basic_is =
         ap (λ (fields : List LinkedField). option_map (λ (field : LinkedField). field.basic) (slice_get fields number)) whole.fields
         ∙ ap (option_map (λ (field : LinkedField). field.basic)) (slice_get-map (linked_field program.kinds) (fields_of program.classes) number ∙ ap (option_map (linked_field program.kinds)) own.there)
 
-    has_field : (name : List ℕ) (at : IsResolved program.classes name field) (kind other : ℕ) → number_of program.kinds name ≡ Some kind → holds_kind program other kind ≡ true
+    pub has_field : (name : List ℕ) (at : IsResolved program.classes name field) (kind other : ℕ) → number_of program.kinds name ≡ Some kind → holds_kind program other kind ≡ true
         → HasField program other (slot_of program.classes number) basic
     has_field name at kind other numbered holds = by (held_class program.classes front whole.good extend all bare number field there instance name at.class at.held at.below
         on (kind_clean program whole all kind name kind_there plain) (kind_clean program whole all other on on_there) held_so)
@@ -169,7 +169,7 @@ module _ (program : Linked) (whole : IsWhole program) (all : AllByRecursion IsWe
 
 -- ---- with the library in front
 
-bare_object : (library more : List ClassFile) → AreLibrary library → (file : ClassFile) → slice_get (library ++ more) 0 ≡ Some file → file.fields ≡ []
+pub bare_object : (library more : List ClassFile) → AreLibrary library → (file : ClassFile) → slice_get (library ++ more) 0 ≡ Some file → file.fields ≡ []
 bare_object [] more are file is = absurd are
 bare_object (one ∷ library) more are file is =
     ap (λ (file : ClassFile). file.fields) (sym (same_Some one file is)) ∙ none_zipped (SaysField one.pool) one.fields are.0.fields

@@ -66,7 +66,7 @@ within_number program number method so = numbered_as program number method (slic
 
 -- ---- the field that an instruction names
 
-abbrev field_member : Option Basic → Member
+abbrev pub field_member : Option Basic → Member
 field_member basic = record { takes = listed basic; gives = basic }
 
 pub member_is : (program : Linked) (method : Within) (number pc index : ℕ) → method.program ≡ program → method.number ≡ number → (names : NamesField program method number pc index)
@@ -97,10 +97,10 @@ this_is : (method : Within) (kinds : Kinds) (kind : ℕ) (value : Value) → met
 this_is method kinds kind value same (HasType.ItsThis serial is) =
     record { serial = serial; is = refl; refers = subst (λ (kind : ℕ). Refers method.program kinds kind serial) same (Refers.To serial is) }
 
-object_is : (method : Within) (kinds : Kinds) (kind : ℕ) (value : Value) → HasType method kinds (types.Object kind) value → Reference method kinds kind value
+pub object_is : (method : Within) (kinds : Kinds) (kind : ℕ) (value : Value) → HasType method kinds (types.Object kind) value → Reference method kinds kind value
 object_is method kinds kind value (HasType.AReference own serial refers) = record { serial = serial; is = refl; refers = refers }
 
-reference_of : (method : Within) (kinds : Kinds) (kind : ℕ) (type : VerificationType) (value : Value) → IsHolder method kind type → HasType method kinds type value
+pub reference_of : (method : Within) (kinds : Kinds) (kind : ℕ) (type : VerificationType) (value : Value) → IsHolder method kind type → HasType method kinds type value
     → Reference method kinds kind value
 reference_of method kinds kind type value (IsHolder.TheThis same) has = this_is method kinds kind value same has
 reference_of method kinds kind type value IsHolder.AnObject has = object_is method kinds kind value has
@@ -178,7 +178,7 @@ late method chain kinds index basic frame stack after is so =
       leaves = leaves;
     }))
 
-putting : (method : Within) → KindsChain method.program → (kinds : Kinds) (index : ℕ) (basic : Basic) (frame : verified.Frame) (stack : List Value) (after : verified.Frame)
+pub putting : (method : Within) → KindsChain method.program → (kinds : Kinds) (index : ℕ) (basic : Basic) (frame : verified.Frame) (stack : List Value) (after : verified.Frame)
     → IsStack method kinds frame.stack stack → put_field method index (field_member (Some basic)) frame ≡ Some after → Putting method kinds index basic frame stack after
 putting method chain kinds index basic frame stack after is so = go (put_early method index (field_member (Some basic)) frame) refl so where
   go : (first : Option verified.Frame) → put_early method index (field_member (Some basic)) frame ≡ first → option_or first (option_and_then (λ (kind : ℕ). exchanged method frame [] (on_object (type_of basic ∷ []) kind)) (holder method index)) ≡ Some after

@@ -43,10 +43,10 @@ FitsNamed other = Unit {0}
 
 -- ---- those of a pool
 
-cast_fits : (w : Width) (number : ℕ) → number < 2 ^ bits w → FitsSigned w (cast_signed w number)
+pub cast_fits : (w : Width) (number : ℕ) → number < 2 ^ bits w → FitsSigned w (cast_signed w number)
 cast_fits w number low = subst (FitsSigned w) (int_wrap-pos w number low) (SFits-int_wrap w (pos number))
 
-fits_at : (pool : List Constant) (index : ℕ) (constant : Constant) → AllByRecursion Fits pool → constant_at pool index ≡ Some constant → Fits constant
+pub fits_at : (pool : List Constant) (index : ℕ) (constant : Constant) → AllByRecursion Fits pool → constant_at pool index ≡ Some constant → Fits constant
 fits_at pool zero constant all is = never is
 fits_at pool (suc before) constant all is = all_at Fits pool before constant all is
 

@@ -7,14 +7,15 @@ use Rattle.std.proofs.lemmas.List.Folds.{list_all-append}
 use Rattle.cb_kinds.specs.declared.basic.Basic.{Basic}
 use Rattle.cb_link.specs.Program.{Linked}
 use Rattle.cb_machine.specs.Library as library
-use Rattle.cb_plain.specs.State.{Content, Object, Tables, small_chars, small_numbers}
+use Rattle.cb_plain.specs.State.{Content, Number, Object, Reference, Tables, small_chars, small_numbers}
 use Rattle.cb_plain.specs.Updates.{kept, object_in}
 use Rattle.cb_plain.specs.declared.value.Value.{Value}
+use Rattle.cb_plain.specs.declared.value.Value.TheVariants as values
 use Rattle.cb_verify.specs.Within.{kind_of_class, kind_of_string}
-use Rattle.cb_safety.specs.Heap.{Holds, IsHeap, IsObject}
+use Rattle.cb_safety.specs.Heap.{Holds, IsHeap, IsKnownWord, IsObject}
 use Rattle.cb_safety.specs.Kinds.{Kinds, kind_in, kinds_of, known}
 use Rattle.cb_safety.specs.States.{AreStatics, AreTables, IsTable}
-use Rattle.cb_safety.proofs.Extended.{has_basic_more, has_content_more, refers_more}
+use Rattle.cb_safety.proofs.Extended.{are_known_more, has_basic_more, has_content_more, is_known_more, refers_more}
 
 -- ---- the kinds of more objects
 
@@ -41,12 +42,18 @@ holds_more : (program : Linked) (kinds more : Kinds) (contents : List Content) (
 holds_more program kinds more contents place basic holds =
     record { content = holds.content; there = holds.there; fits = has_content_more program kinds more basic holds.content holds.fits }
 
+words_more : (kinds more : Kinds) (contents : List Content) → AllByRecursion (IsKnownWord kinds) contents → AllByRecursion (IsKnownWord (kinds ++ more)) contents
+words_more kinds more [] known = tt
+words_more kinds more (Number number ∷ contents) known = (tt, words_more kinds more contents known.1)
+words_more kinds more (Reference serial ∷ contents) known = (is_known_more kinds more (values.Ref serial) known.0, words_more kinds more contents known.1)
+
 pub is_object_more : (program : Linked) (kinds more : Kinds) (object : Object) → IsObject program kinds object → IsObject program (kinds ++ more) object
 is_object_more program kinds more object is = record {
   kind = is.kind;
   fields = λ class slot basic own declared. holds_more program kinds more object.contents slot basic (is.fields class slot basic own declared);
   elements = λ basic place own low. holds_more program kinds more object.contents place basic (is.elements basic place own low);
   few = is.few;
+  words = words_more kinds more object.contents is.words;
 }
 
 -- what is so of each object that was there, and of each that is placed, is so of each that is there now
@@ -85,6 +92,7 @@ are_statics_more program kinds more held statics = record {
   each = λ slot basic declared.
       let own = statics.each slot basic declared in
       record { value = own.value; there = own.there; fits = has_basic_more program kinds more basic own.value own.fits };
+  known = are_known_more kinds more held statics.known;
 }
 
 is_table_more : (program : Linked) (kinds more : Kinds) (kind size : ℕ) (entries : List ℕ) → IsTable program kinds kind size entries → IsTable program (kinds ++ more) kind size entries

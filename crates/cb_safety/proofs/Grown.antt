@@ -1,6 +1,5 @@
 -- Plans that place more objects behind those of a typed state that runs, and go on at the next instruction.
-use Rattle.std.proofs.Common.{◌≡◌, ◌∙◌, ap, arith, refl, sym, subst, ℕ, zero, suc, ◌+◌, true, List, [], ◌∷◌, ◌++◌, append_assoc, append-nil, length, map, Option, Some, option_map, slice_get}
-use Rattle.std.specs.List.{fold}
+use Rattle.std.proofs.Common.{◌≡◌, ◌∙◌, ap, arith, sym, subst, ℕ, zero, suc, ◌+◌, true, List, [], ◌∷◌, ◌++◌, append_assoc, append-nil, length, map, Option, Some, option_map, slice_get}
 use Rattle.std.proofs.lemmas.List.{length-append}
 use Rattle.std.proofs.lemmas.List.Sums.{fold_push}
 use Rattle.cb_insn.specs.declared.insn.Insn.{Insn}
@@ -28,7 +27,7 @@ use Rattle.cb_safety.specs.States.{AreFrames, IsTypedState}
 use Rattle.cb_safety.proofs.Enlarged.{grown_state, grown_typed, put}
 use Rattle.cb_safety.proofs.Extended.{are_below_more, have_types_more}
 use Rattle.cb_safety.proofs.Going.{Planned, Stage, arrived, now_at, with_stack_is}
-use Rattle.cb_safety.proofs.Growing.{kinds_grown, kinds_placed}
+use Rattle.cb_safety.proofs.Growing.{kinds_grown}
 use Rattle.cb_safety.proofs.StringsMade.{IsGood, are_roots_more, objects_in}
 
 -- ---- one object more

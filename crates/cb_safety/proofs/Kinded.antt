@@ -71,7 +71,7 @@ module _ (program : Linked) (whole : IsWhole program) (all : AllByRecursion IsWe
   abbrev Among : List ℕ → Type 0
   Among name = list_any (same_text name) program.kinds ≡ true
 
-  classes_among : AllByRecursion Among (flat_map class_kinds program.classes)
+  pub classes_among : AllByRecursion Among (flat_map class_kinds program.classes)
   classes_among =
       let front : List (List ℕ) = map name_of program.classes in
       let named : AllByRecursion Among (front ++ flat_map class_kinds program.classes ++ flat_map kinds_of_name fixed_kinds) =

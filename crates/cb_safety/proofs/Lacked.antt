@@ -35,7 +35,7 @@ none_first [] is = tt
 none_first (None ∷ items) is = (refl, none_first items is)
 none_first (Some item ∷ items) is = never (sym is)
 
-entry_at : {Item : Type 0} (from : ℕ) (items : List Item) (place : ℕ) (item : Item) → slice_get items place ≡ Some item → slice_get (enumerate_from from items) place ≡ Some (from + place, item)
+pub entry_at : {Item : Type 0} (from : ℕ) (items : List Item) (place : ℕ) (item : Item) → slice_get items place ≡ Some item → slice_get (enumerate_from from items) place ≡ Some (from + place, item)
 entry_at from [] place item is = never is
 entry_at from (first ∷ items) zero item is =
     ap₂ (λ (place : ℕ) (item : _). Some (place, item)) (let same : from ≡ from + 0 = omega arith in same) (same_Some first item is)
@@ -80,14 +80,14 @@ pub record IsFieldConstant (pool : List Constant) (index : ℕ) : Type 0 where
   pub descriptor : List ℕ
   pub names : name_and_type_at pool named ≡ Some (name, descriptor)
 
-class_kind : (pool : List Constant) (index : ℕ) → AllByRecursion (HasIndices pool) pool → Names pool index IsClass → IsClassConstant pool index
+pub class_kind : (pool : List Constant) (index : ℕ) → AllByRecursion (HasIndices pool) pool → Names pool index IsClass → IsClassConstant pool index
 class_kind pool index all named = go (constant_at pool index) refl named where
   go : (found : Option Constant) → constant_at pool index ≡ found → IsSomeAnd found IsClass → IsClassConstant pool index
   go None there is = absurd is
   go (Some (constants.Class at)) there is = class_constant pool index at all there
   go (Some other) there is = absurd is
 
-member_kind : (pool : List Constant) (index : ℕ) → AllByRecursion (HasIndices pool) pool → Names pool index IsMember
+pub member_kind : (pool : List Constant) (index : ℕ) → AllByRecursion (HasIndices pool) pool → Names pool index IsMember
     → (name : List ℕ) × ((descriptor : List ℕ) × (name_and_type_at pool index ≡ Some (name, descriptor)))
 member_kind pool index all named = go (constant_at pool index) refl named where
   go : (found : Option Constant) → constant_at pool index ≡ found → IsSomeAnd found IsMember → (name : List ℕ) × ((descriptor : List ℕ) × (name_and_type_at pool index ≡ Some (name, descriptor)))

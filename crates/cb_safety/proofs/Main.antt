@@ -1,5 +1,5 @@
 -- A program begins: its main method is entered once its class is ready.
-use Rattle.std.proofs.Common.{◌≡◌, ◌∙◌, ap, arith, refl, sym, subst, ℤ, ℕ, zero, suc, ◌+◌, Bool, true, false, List, [], ◌∷◌, ◌++◌, map, Option, Some, None, option_and_then, option_map, if◌then◌else◌}
+use Rattle.std.proofs.Common.{◌≡◌, ◌∙◌, ap, arith, refl, sym, subst, ℤ, ℕ, suc, ◌+◌, Bool, true, false, List, [], ◌∷◌, ◌++◌, map, Option, Some, None, option_and_then, option_map, if◌then◌else◌}
 use Rattle.cb_classfile.specs.declared.body.Body.{Body}
 use Rattle.cb_kinds.specs.declared.basic.Basic.{Basic}
 use Rattle.cb_kinds.specs.declared.basic.Basic.TheVariants as basics
@@ -24,10 +24,10 @@ use Rattle.cb_verify.specs.declared.verification_type.VerificationType.TheVarian
 use Rattle.cb_verify.specs.Expansion.{start_types}
 use Rattle.cb_verify.specs.Typed.{IsTyped}
 use Rattle.cb_verify.specs.Types.{type_of}
-use Rattle.cb_verify.specs.Within.{Within, parameters, within}
+use Rattle.cb_verify.specs.Within.{parameters}
 use Rattle.cb_safety.specs.Advancing.{Advances, HoldsOn, IsSpelled}
 use Rattle.cb_safety.specs.Beginning.{HasCode}
-use Rattle.cb_safety.specs.Frames.{AreBelow, AreStanding, result_at}
+use Rattle.cb_safety.specs.Frames.{AreBelow, AreStanding}
 use Rattle.cb_safety.specs.Held.{HasType, HaveTypes}
 use Rattle.cb_safety.specs.Kinds.{Kinds, Refers, kinds_of}
 use Rattle.cb_safety.specs.Main.{HasMain}

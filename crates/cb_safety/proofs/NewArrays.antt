@@ -17,9 +17,10 @@ use Rattle.cb_machine.specs.Creating.{blank_element}
 use Rattle.cb_machine.specs.Performing.{most_elements}
 use Rattle.cb_machine.specs.Plans.{object_of}
 use Rattle.cb_plain.specs.State.{Content, Number, Object, Reference, blank}
-use Rattle.cb_safety.specs.Heap.{IsObject}
+use Rattle.cb_safety.specs.Heap.{IsKnownWord, IsObject}
 use Rattle.cb_safety.specs.Held.{HasContent}
-use Rattle.cb_safety.specs.Kinds.{Kinds, IsOfKind, Refers, holds_kind, kind_in, kinds_of, known}
+use Rattle.cb_safety.specs.Kinds.{IsKnown, Kinds, IsOfKind, Refers, holds_kind, kind_in, kinds_of, known}
+use Rattle.cb_safety.proofs.Known.{all_alike, all_ranged, blank_known}
 use Rattle.cb_safety.proofs.Growing.{kinds_grown, kinds_placed}
 use Rattle.cb_safety.proofs.Lists.{all_both}
 use Rattle.cb_safety.proofs.Searching.{numbered}
@@ -74,6 +75,10 @@ kinds_parts objects front rest =
 abbrev blank_in : Option Basic → Content
 blank_in None = Number (pos 0)
 blank_in (Some basic) = blank (is_reference basic)
+
+blank_in_known : (kinds : Kinds) (found : Option Basic) → IsKnownWord kinds (blank_in found)
+blank_in_known kinds None = tt
+blank_in_known kinds (Some basic) = blank_known kinds (is_reference basic)
 
 -- what is blank may be in a word of each type
 pub blank_fits : (program : Linked) (kinds : Kinds) (basic : Basic) → HasContent program kinds basic (blank (is_reference basic))
@@ -141,6 +146,7 @@ module _ (program : Linked) (site kind : ℕ → ℕ) where
         fits = subst (HasContent program kinds basic) (sym (ap blank_in own)) (blank_fits program kinds basic);
       };
       few = λ basic own. omega (arith, short, length-replicate size (blank_element program (kind dimension)));
+      words = all_alike (IsKnownWord kinds) size (blank_element program (kind dimension)) (blank_in_known kinds (element_of program (kind dimension)));
     }
 
     -- an array of references to serials that follow one another, at each of which is an object of the next kind
@@ -162,6 +168,8 @@ module _ (program : Linked) (site kind : ℕ → ℕ) where
                 (HasContent.AReference (kind (dimension + 1)) (first + turn * size + place) (Refers.To (first + turn * size + place) is));
           };
       few = λ basic own. omega (arith, few, length-map-range_with_len Reference (first + turn * size) size);
+      words = all_ranged (IsKnownWord kinds) Reference (first + turn * size) size
+          (λ place short. IsKnown.AnObject (first + turn * size + place) (kind (dimension + 1)) (there place short));
     }
 
     within_rows : (count size turn place : ℕ) → turn < count → place < size → turn * size + place < count * size

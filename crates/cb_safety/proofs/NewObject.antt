@@ -1,6 +1,6 @@
 -- new.
 use Rattle.std.proofs.Common.{◌≡◌, ◌∙◌, ap, refl, sym, subst, ℕ, ◌+◌, ◌&&◌, Bool, true, false, not, List, [], ◌∷◌, ◌++◌, map, length, Option, Some, None, option_and_then, option_map, slice_get}
-use Rattle.std.specs.List.{list_any}
+use Rattle.std.specs.List.{AllByRecursion, list_any}
 use Rattle.std.proofs.lemmas.Bool.{and_parts, eqb-true, false≢true}
 use Rattle.std.proofs.lemmas.Option.{none-some, slice_get-map, slice_get_within}
 use Rattle.cb_hierarchy.specs.Classes.{listed}
@@ -43,7 +43,7 @@ use Rattle.cb_verify.specs.Leaving.{makes_object as may_make, new_kind, new_of}
 use Rattle.cb_verify.specs.Typed.{IsTyped}
 use Rattle.cb_verify.specs.Within.{kind_named}
 use Rattle.cb_safety.specs.Advancing.{Advances, HoldsOn, IsSpelled}
-use Rattle.cb_safety.specs.Heap.{IsObject}
+use Rattle.cb_safety.specs.Heap.{IsKnownWord, IsObject}
 use Rattle.cb_safety.specs.Held.{HasType, HaveTypes, IsStack}
 use Rattle.cb_safety.specs.Kinds.{Kinds, kinds_of}
 use Rattle.cb_safety.specs.Making.{HasSite, HasSites}
@@ -51,6 +51,7 @@ use Rattle.cb_safety.specs.Ready.{BeginsTyped, NamesClass, NamesClasses}
 use Rattle.cb_safety.specs.States.{IsTypedState}
 use Rattle.cb_safety.specs.Strings.{HasConstants}
 use Rattle.cb_safety.specs.Throwing.{AreThrown}
+use Rattle.cb_safety.proofs.Known.{all_mapped, blank_known}
 use Rattle.cb_safety.proofs.Assigned.{never, when}
 use Rattle.cb_safety.proofs.Begun.{begins_typed}
 use Rattle.cb_safety.proofs.Declared.{IsOwn, is_own, kind_named_is}
@@ -104,6 +105,10 @@ module _ (program : Linked) (kind : ℕ) (name : List ℕ) (there : slice_get pr
       ∙ ap (λ (found : Option ℕ). option_map blank (option_map (λ (number : ℕ). is_some_reference (basic_of_field program number)) found)) own.there
       ∙ ap (λ (found : Option Basic). Some (blank (is_some_reference found))) own.is
 
+  shape_known : (kinds : Kinds) (shape : Shape) → AllByRecursion (IsKnownWord kinds) (blanks shape)
+  shape_known kinds (shapes.Fields marks) = all_mapped (IsKnownWord kinds) blank marks (blank_known kinds)
+  shape_known kinds (shapes.Elements mark) = tt
+
   pub blank_object : (kinds : Kinds) (site : ℕ) → IsObject program kinds (object_of site kind (blank_fields program kind))
   blank_object kinds site = record {
     kind = slice_get_within program.kinds kind name there;
@@ -111,6 +116,7 @@ module _ (program : Linked) (kind : ℕ) (name : List ℕ) (there : slice_get pr
         record { content = blank (is_reference basic); there = field_there class slot basic is declared; fits = blank_fits program kinds basic };
     elements = λ basic place own low. absurd (none-some basic (sym no_element ∙ own));
     few = λ basic own. absurd (none-some basic (sym no_element ∙ own));
+    words = shape_known kinds (shape program kind);
   }
 
 -- ---- the kind that the instruction names

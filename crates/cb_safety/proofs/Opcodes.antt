@@ -24,7 +24,7 @@ use Rattle.cb_safety.proofs.Spelled.{from_zero}
 abbrev asks_none : Operand → ℕ → Bool
 asks_none operand opcode = is_none (option_and_then kind_index (done_by opcode operand))
 
-abbrev first_reference : ℕ
+abbrev pub first_reference : ℕ
 first_reference = 178
 
 none_asked : (operand : Operand) → list_all (asks_none operand) (range_with_len 0 first_reference) ≡ true
@@ -36,7 +36,7 @@ skip : (opcode bound : ℕ) (one other last : Option Action) → first_reference
 skip opcode bound one other last high low is =
     ap (λ (test : Bool). if test then one else other) (le-ltb opcode bound (omega (arith, high, leb-true bound first_reference low))) ∙ is
 
-behind : (opcode : ℕ) (operand : Operand) → first_reference ≤ opcode
+pub behind : (opcode : ℕ) (operand : Operand) → first_reference ≤ opcode
     → done_by opcode operand ≡ (if nat_lt opcode opcodes.IFNULL then reference opcode operand else option_map actions.Branch (condition_of opcode))
 behind opcode operand high =
     skip opcode opcodes.ILOAD _ _ _ high refl
@@ -50,7 +50,7 @@ behind opcode operand high =
     (skip opcode opcodes.TABLESWITCH _ _ _ high refl
     (skip opcode opcodes.GETSTATIC _ _ _ high refl refl)))))))))
 
-none_some : {Item P : Type 0} (found : Option Item) (item : Item) → is_none found ≡ true → found ≡ Some item → P
+pub none_some : {Item P : Type 0} (found : Option Item) (item : Item) → is_none found ≡ true → found ≡ Some item → P
 none_some None item none some = never some
 none_some (Some own) item none some = absurd (false≢true none)
 

@@ -18,7 +18,7 @@ use Rattle.cb_safety.proofs.Searching.{position_here, position_later}
 
 -- ---- texts that stand once
 
-apart : (first : List ℕ) (texts : List (List ℕ)) (place : ℕ) (other : List ℕ) → EachOnce (first ∷ texts) → slice_get texts place ≡ Some other → same_text other first ≡ false
+pub apart : (first : List ℕ) (texts : List (List ℕ)) (place : ℕ) (other : List ℕ) → EachOnce (first ∷ texts) → slice_get texts place ≡ Some other → same_text other first ≡ false
 apart first texts place other once is = go (same_text other first) refl where
   go : (test : Bool) → same_text other first ≡ test → test ≡ false
   go true same =
@@ -29,7 +29,7 @@ behind_first : (found : Option ℕ) (number : ℕ) → option_map (λ turn. 1 + 
 behind_first None number is = never is
 behind_first (Some turn) number is = ap {B = Option ℕ} Some (omega (arith, same_Some (1 + turn) (suc number) is))
 
-rest_once : (first : List ℕ) (texts : List (List ℕ)) → EachOnce (first ∷ texts) → EachOnce texts
+pub rest_once : (first : List ℕ) (texts : List (List ℕ)) → EachOnce (first ∷ texts) → EachOnce texts
 rest_once first texts once = record {
   own = λ number text is.
       behind_first (number_of texts text) number
@@ -55,7 +55,7 @@ kept_front keeps (text ∷ texts) more all =
     ap (λ (test : Bool). cond test (text ∷ filter keeps (texts ++ more)) (filter keeps (texts ++ more))) all.0
     ∙ ap (λ (own : List (List ℕ)). text ∷ own) (kept_front keeps texts more all.1)
 
-firsts_front : (texts more : List (List ℕ)) → EachOnce texts → (rest : List (List ℕ)) × (firsts (texts ++ more) ≡ texts ++ rest)
+pub firsts_front : (texts more : List (List ℕ)) → EachOnce texts → (rest : List (List ℕ)) × (firsts (texts ++ more) ≡ texts ++ rest)
 firsts_front [] more once = (firsts more, refl)
 firsts_front (first ∷ texts) more once =
     let (rest, is) = firsts_front texts more (rest_once first texts once) in (
@@ -72,7 +72,7 @@ still_at (first ∷ texts) more (suc place) text is = still_at texts more place 
 
 -- ---- classes
 
-name_at : (classes : List ClassFile) (number : ℕ) (class : ClassFile) → slice_get classes number ≡ Some class → slice_get (map name_of classes) number ≡ Some (name_of class)
+pub name_at : (classes : List ClassFile) (number : ℕ) (class : ClassFile) → slice_get classes number ≡ Some class → slice_get (map name_of classes) number ≡ Some (name_of class)
 name_at classes number class is = slice_get-map name_of classes number ∙ ap (option_map name_of) is
 
 pub own_kinds : (program : Linked) → IsWhole program → NamedOnce program.classes → AreOwnKinds program

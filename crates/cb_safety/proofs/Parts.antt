@@ -47,7 +47,7 @@ name_again : (rest : List ℕ) → name_in (name_in rest ++ semicolon ∷ []) �
 name_again rest = name_ends (name_in rest) ∙ name_twice rest
 
 -- no name in a type is an array's
-no_array_in : (rest : List ℕ) → is_array (name_in rest) ≡ false
+pub no_array_in : (rest : List ℕ) → is_array (name_in rest) ≡ false
 no_array_in [] = refl
 no_array_in (unit ∷ more) = ap is_array (take_while-cons in_name unit more) ∙ go (ends_name unit) refl where
   go : (test : Bool) → ends_name unit ≡ test → is_array (cond (not test) (unit ∷ name_in more) []) ≡ false
@@ -94,7 +94,7 @@ not_own rest name none = go (same_text (bracket ∷ rest) name) refl where
   go true same = absurd (false≢true (sym none ∙ ap is_array (sym ((bytes_decides (bracket ∷ rest) name).0 same))))
   go false same = same
 
-no_class_named : (classes : List ClassFile) (rest : List ℕ) → AllByRecursion HasOwnName classes → class_number classes (bracket ∷ rest) ≡ None
+pub no_class_named : (classes : List ClassFile) (rest : List ℕ) → AllByRecursion HasOwnName classes → class_number classes (bracket ∷ rest) ≡ None
 no_class_named [] rest named = refl
 no_class_named (class ∷ classes) rest named =
     position_later (same_text (bracket ∷ rest)) (name_of class) (map name_of classes) (not_own rest (name_of class) named.0)

@@ -41,7 +41,7 @@ use Rattle.cb_safety.proofs.Upwards.{by_superclass, upwards_above, upwards_own}
 
 -- ---- resolution
 
-first_some_at : (f : ℕ → Option ℕ) (items : List ℕ) (result : ℕ) → first_some (map f items) ≡ Some result → (number : ℕ) × ((stands number items ≡ true) × (f number ≡ Some result))
+pub first_some_at : (f : ℕ → Option ℕ) (items : List ℕ) (result : ℕ) → first_some (map f items) ≡ Some result → (number : ℕ) × ((stands number items ≡ true) × (f number ≡ Some result))
 first_some_at f [] result is = never is
 first_some_at f (first ∷ items) result is = go (f first) refl is (first_some_at f items result) where
   go : (found : Option ℕ) → f first ≡ found → first_some (found ∷ map f items) ≡ Some result

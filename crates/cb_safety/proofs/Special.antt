@@ -116,7 +116,7 @@ module _ (now : Now) (index number callee place class own_class : ℕ) (held arg
 
 -- ---- what the verifier's rule says
 
-special_by : (method : Within) (index : ℕ) (member : Member) (frame after : verified.Frame) → call_special method index member frame ≡ Some after
+pub special_by : (method : Within) (index : ℕ) (member : Member) (frame after : verified.Frame) → call_special method index member frame ≡ Some after
     → Exchanged method frame after (given_types member) (on_object (taken_types member) method.class)
 special_by method index member frame after so =
     option_and_then_some (λ (kind : ℕ). if kind_goes_to method.program method.class kind then above kind else None) (holder method index) after so
@@ -139,7 +139,7 @@ refers_as : (program : Linked) (kinds : Kinds) (kind serial : ℕ) → Refers pr
 refers_as program kinds kind serial Refers.ToNull = NullOr.Null refl
 refers_as program kinds kind serial (Refers.To own is) = NullOr.To own refl is
 
-object_as : (method : Within) (kinds : Kinds) (type : VerificationType) (kind : ℕ) (value : Value) → type ≡ Object kind → HasType method kinds type value
+pub object_as : (method : Within) (kinds : Kinds) (type : VerificationType) (kind : ℕ) (value : Value) → type ≡ Object kind → HasType method kinds type value
     → NullOr method.program kinds kind value
 object_as method kinds type kind value same (HasType.AReference own serial refers) =
     let is : own ≡ kind = cc in refers_as method.program kinds kind serial (subst (λ (kind : ℕ). Refers method.program kinds kind serial) is refers)

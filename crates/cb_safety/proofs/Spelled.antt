@@ -33,7 +33,7 @@ use Rattle.cb_safety.proofs.Searching.{all_pass, found_all, position_found}
 
 -- ---- an instruction of code that is spelled is spelled
 
-abbrev IsInsn : Insn → Type 0
+abbrev pub IsInsn : Insn → Type 0
 IsInsn insn = (place : ℕ) × (bytes : List ℕ) × SpellsInsn place insn bytes
 
 all_spelled : (pc : ℕ) (code : List (ℕ × Insn)) (bytes : List ℕ) → SpellsFrom pc code bytes → AllByRecursion (λ placed. IsInsn placed.1) code

@@ -1,36 +1,34 @@
 -- The state with which a run begins is typed.
-use Rattle.std.proofs.Common.{◌≡◌, ◌∙◌, inl, inr, ap, arith, refl, sym, subst, ℕ, zero, suc, ◌+◌, ◌*◌, ◌<◌, ◌≤◌, List, [], ◌∷◌, ◌++◌, append_assoc, length, map, Option, Some, None}
+use Rattle.std.proofs.Common.{◌≡◌, ◌∙◌, inl, inr, ap, arith, refl, sym, subst, ℕ, zero, suc, ◌+◌, ◌*◌, ◌<◌, ◌≤◌, List, [], ◌∷◌, ◌++◌, append_assoc, length, map, Option, Some}
 use Rattle.std.specs.List.{AllByRecursion, fold, range_with_len}
 use Rattle.std.proofs.lemmas.Bool.{cases_lt}
 use Rattle.std.proofs.lemmas.List.{length-append, length-map, map-append}
 use Rattle.std.proofs.lemmas.List.FromFn.{length-map-range_with_len}
-use Rattle.std.proofs.lemmas.List.Sums.{fold_push}
 use Rattle.std.proofs.lemmas.Option.{none-some, same_Some}
 use Rattle.cb_kinds.specs.declared.basic.Basic.{Basic}
 use Rattle.cb_kinds.specs.declared.basic.Basic.TheVariants as basics
 use Rattle.cb_link.specs.Program.{Linked}
-use Rattle.cb_link.specs.Slots.{static_basic}
 use Rattle.cb_machine.specs.Initialising.{own_statics}
 use Rattle.cb_machine.specs.Library as library
 use Rattle.cb_machine.specs.Machine.{Machine, kind_of_site}
 use Rattle.cb_machine.specs.Performing.{most_elements}
-use Rattle.cb_machine.specs.Plans.{One, Plan, leaving, made, object_of, with_left, with_one}
+use Rattle.cb_machine.specs.Plans.{Plan, leaving, made, object_of, with_left, with_one}
 use Rattle.cb_machine.specs.Sites as sites
 use Rattle.cb_machine.specs.Starting.{empty_state, start}
 use Rattle.cb_machine.specs.Strings.{unit_contents, with_string}
 use Rattle.cb_plain.specs.Roots as plain_roots
-use Rattle.cb_plain.specs.State.{Content, Object, Reference, Roots, State}
+use Rattle.cb_plain.specs.State.{Content, Object, Reference, State}
 use Rattle.cb_plain.specs.Updates.{object_in, with_argument, with_static}
 use Rattle.cb_plain.specs.declared.value.Value.TheVariants as values
 use Rattle.cb_verify.specs.Within.{kind_of_string}
-use Rattle.cb_safety.specs.Heap.{IsHeap, IsObject}
+use Rattle.cb_safety.specs.Heap.{IsKnownWord, IsHeap, IsObject}
 use Rattle.cb_safety.specs.Held.{HasBasic, HasContent}
-use Rattle.cb_safety.specs.Kinds.{IsOfKind, Kinds, Refers, kind_in, kinds_of}
+use Rattle.cb_safety.specs.Kinds.{IsKnown, Kinds, Refers, kind_in, kinds_of}
 use Rattle.cb_safety.specs.Starting.{AreEmpty, HasStart, HoldsObjects}
 use Rattle.cb_safety.specs.States.{AreRoots, IsTypedState}
 use Rattle.cb_safety.specs.Strings.{IsText}
+use Rattle.cb_safety.proofs.Known.{all_ranged}
 use Rattle.cb_safety.proofs.AtFirst.{first_roots}
-use Rattle.cb_safety.proofs.Enlarged.{put}
 use Rattle.cb_safety.proofs.Extended.{kind_in_more}
 use Rattle.cb_safety.proofs.Grown.{one_put}
 use Rattle.cb_safety.proofs.Growing.{heap_grown, is_object_more, kind_behind, kinds_grown, kinds_placed}
@@ -173,6 +171,7 @@ module _ (machine : Machine) (input : List ℕ) (contents : List Content) (has :
     fields = λ class slot basic own declared. absurd (empty.no_fields class slot basic own declared);
     elements = λ basic place own low. absurd (none-some basic (sym empty.no_elements ∙ own));
     few = λ basic own. absurd (none-some basic (sym empty.no_elements ∙ own));
+    words = tt;
   }
 
   held_basic : (kinds : Kinds) (own serial : ℕ) (basic : Basic) → kind_in kinds serial ≡ Some own → HoldsObjects machine.program own basic → HasBasic machine.program kinds basic (values.Ref serial)
@@ -270,7 +269,9 @@ module _ (machine : Machine) (input : List ℕ) (contents : List Content) (has :
         roots_set machine.program kinds (plain_roots.with_static plan.left.roots has.first (values.Ref plan.next)) has.second (values.Ref (plan.next + 1))
         (roots_set machine.program kinds plan.left.roots has.first (values.Ref plan.next)
         (subst (λ (state : State). AreRoots machine.program kinds state.roots) (sym strung.left) (first_roots machine.program kinds))
+        (IsKnown.AnObject plan.next out_kind first_there)
         (λ basic is. held_basic kinds out_kind plan.next basic first_there (has.holds_out basic is)))
+        (IsKnown.AnObject (plan.next + 1) in_kind second_there)
         (λ basic is. held_basic kinds in_kind (plan.next + 1) basic second_there (has.holds_in basic is))
 
     pub ended_typed : IsTypedState machine.program (made (ended (streamed plan) plan.next (own_statics machine.program library.system)))
@@ -309,6 +310,8 @@ array_fits program has count few kinds there = record {
             (Refers.To (2 * place + 3) (record { own = kind_of_site program sites.argument_strings; there = there place low; goes = has.strings.string })));
       };
   few = λ basic own. omega (arith, few, length-map-range_with_len string_behind 0 count);
+  words = all_ranged (IsKnownWord kinds) string_behind 0 count
+      (λ place low. IsKnown.AnObject (2 * (0 + place) + 3) (kind_of_site program sites.argument_strings) (there (0 + place) (omega (arith, low))));
 }
 
 pub start_is_typed : (machine : Machine) (arguments : List (List ℕ)) (input : List ℕ) → HasStart machine.program → AllByRecursion IsText arguments

@@ -40,6 +40,7 @@ use Rattle.cb_safety.specs.Ready.{BeginsTyped, NamesStatic, NamesStatics, is_of_
 use Rattle.cb_safety.specs.States.{HasStatic, IsTypedState}
 use Rattle.cb_safety.specs.Strings.{HasConstants}
 use Rattle.cb_safety.specs.Throwing.{AreThrown}
+use Rattle.cb_safety.proofs.Known.{basic_known}
 use Rattle.cb_safety.proofs.Assigned.{KindsChain}
 use Rattle.cb_safety.proofs.Begun.{begins_typed}
 use Rattle.cb_safety.proofs.Declared.{is_own}
@@ -119,6 +120,7 @@ module _ (machine : Machine) (state : State) (frame : MethodFrame) (below : List
       (kept_basic stage.method (kinds_of state.objects) names.basic value has) in
       lays_more machine state frame below insn (actions.PutStatic index) stage (plain_roots.with_static state.roots names.slot (kept_value names.basic value))
       (roots_set machine.program (kinds_of state.objects) state.roots names.slot (kept_value names.basic value) stage.typed.roots
+      (basic_known machine.program (kinds_of state.objects) names.basic (kept_value names.basic value) kept)
       (of_type machine.program (kinds_of state.objects) names.slot names.basic (kept_value names.basic value) names.declared kept)) stage.runs
       [] (length state.objects + 1) [] (sym (append-nil state.objects)) tt refl rest left fits
       (is_stack_more stage.method (kinds_of state.objects) [] rest left is)

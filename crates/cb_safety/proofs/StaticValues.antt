@@ -16,8 +16,9 @@ use Rattle.cb_shapes.specs.declared.sort.Sort.TheVariants as sorts
 use Rattle.cb_verify.specs.Types.{type_of}
 use Rattle.cb_verify.specs.Within.{Within}
 use Rattle.cb_safety.specs.Held.{HasBasic, HasContent, HasType}
-use Rattle.cb_safety.specs.Kinds.{Kinds}
+use Rattle.cb_safety.specs.Kinds.{IsKnown, Kinds}
 use Rattle.cb_safety.specs.States.{AreRoots, AreStatics, HasStatic}
+use Rattle.cb_safety.proofs.Known.{all_set}
 use Rattle.cb_safety.proofs.Assigned.{never}
 use Rattle.cb_safety.proofs.Contents.{kept_typed}
 
@@ -68,9 +69,10 @@ set_other (first ∷ items) zero (suc other) item apart = refl
 set_other (first ∷ items) (suc slot) zero item apart = refl
 set_other (first ∷ items) (suc slot) (suc other) item apart = set_other items slot other item (λ same. apart (ap suc same))
 
-pub statics_set : (program : Linked) (kinds : Kinds) (held : List Value) (slot : ℕ) (value : Value) → AreStatics program kinds held
+pub statics_set : (program : Linked) (kinds : Kinds) (held : List Value) (slot : ℕ) (value : Value) → AreStatics program kinds held → IsKnown kinds value
     → ((basic : Basic) → static_basic program slot ≡ Some basic → HasBasic program kinds basic value) → AreStatics program kinds (slice_set held slot value)
-statics_set program kinds held slot value are fits = record { each = λ other own is. by other own is (slot == other) refl }
+statics_set program kinds held slot value are known fits =
+    record { each = λ other own is. by other own is (slot == other) refl; known = all_set (IsKnown kinds) held slot value are.known known }
   where
     by : (other : ℕ) (own : Basic) → static_basic program other ≡ Some own → (test : Bool) → (slot == other) ≡ test → HasStatic program kinds (slice_set held slot value) other own
     by other own is false apart =
@@ -86,11 +88,11 @@ statics_set program kinds held slot value are fits = record { each = λ other ow
           fits = fits own declared;
         }
 
-pub roots_set : (program : Linked) (kinds : Kinds) (roots : Roots) (slot : ℕ) (value : Value) → AreRoots program kinds roots
+pub roots_set : (program : Linked) (kinds : Kinds) (roots : Roots) (slot : ℕ) (value : Value) → AreRoots program kinds roots → IsKnown kinds value
     → ((basic : Basic) → static_basic program slot ≡ Some basic → HasBasic program kinds basic value) → AreRoots program kinds (plain_roots.with_static roots slot value)
-roots_set program kinds roots slot value are fits = record {
+roots_set program kinds roots slot value are known fits = record {
   frames = are.frames;
-  statics = statics_set program kinds roots.statics slot value are.statics fits;
+  statics = statics_set program kinds roots.statics slot value are.statics known fits;
   classes = are.classes;
   tables = are.tables;
   argument = are.argument;

@@ -19,11 +19,12 @@ use Rattle.cb_plain.specs.State.{Content, Frame, Number, Object, Reference, Root
 use Rattle.cb_plain.specs.Updates.{with_roots}
 use Rattle.cb_plain.specs.declared.table.Table.TheVariants as tables
 use Rattle.cb_verify.specs.Within.{kind_of_string}
-use Rattle.cb_safety.specs.Heap.{IsObject}
+use Rattle.cb_safety.specs.Heap.{IsKnownWord, IsObject}
 use Rattle.cb_safety.specs.Held.{HasContent}
-use Rattle.cb_safety.specs.Kinds.{IsOfKind, Kinds, Refers, kind_in, kinds_of}
+use Rattle.cb_safety.specs.Kinds.{IsKnown, IsOfKind, Kinds, Refers, kind_in, kinds_of}
 use Rattle.cb_safety.specs.States.{AreFrames, AreRoots, IsTable, IsTypedState}
 use Rattle.cb_safety.specs.Strings.{AreStrings, HoldsCharacters, IsText}
+use Rattle.cb_safety.proofs.Known.{all_mapped}
 use Rattle.cb_safety.proofs.Assigned.{never}
 use Rattle.cb_safety.proofs.Enlarged.{grown_state, grown_typed, put}
 use Rattle.cb_safety.proofs.Extended.{are_covered_more, are_standing_more, is_of_kind_more, refers_more}
@@ -151,6 +152,7 @@ module _ (program : Linked) (site characters : ℕ) (strings : AreStrings progra
           fits = subst (λ (basic : Basic). HasContent program kinds basic found.0) (same_Some basics.Char basic (sym strings.elements ∙ own)) found.2;
         };
     few = λ basic own. let short = is.few in omega (arith, short, length-map units (λ (unit : ℕ). Number (pos unit)));
+    words = all_mapped (IsKnownWord kinds) (λ (unit : ℕ). Number (pos unit)) units (λ unit. tt);
   }
 
   reference_at : (kinds : Kinds) (serial slot : ℕ) (basic : Basic) → kind_in kinds serial ≡ Some (kind_of_site program characters)
@@ -170,6 +172,7 @@ module _ (program : Linked) (site characters : ℕ) (strings : AreStrings progra
         record { content = Reference serial; there = found.0; fits = found.1 };
     elements = λ basic place own low. absurd (none-some basic (sym strings.no_elements ∙ own));
     few = λ basic own. absurd (none-some basic (sym strings.no_elements ∙ own));
+    words = (IsKnown.AnObject serial (kind_of_site program characters) there, tt);
   }
 
 -- a plan that has placed a string

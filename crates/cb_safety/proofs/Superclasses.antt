@@ -58,10 +58,10 @@ plain_parts (part ∷ other ∷ parts) all =
 plain_class : (name : List ℕ) → IsClassName name → AllByRecursion Plain name
 plain_class name (parts, some, each, is) = subst (λ (own : List ℕ). AllByRecursion Plain own) (sym is) (plain_parts parts each)
 
-type_is : (name : List ℕ) → IsClassName name → type_of_name name ≡ letter_class ∷ name ++ semicolon ∷ []
+pub type_is : (name : List ℕ) → IsClassName name → type_of_name name ≡ letter_class ∷ name ++ semicolon ∷ []
 type_is name is = ap (λ (test : Bool). if test then name else letter_class ∷ name ++ semicolon ∷ []) (plain_name name is)
 
-types_below : (among : List ℕ → List ℕ → Bool) (one other : List ℕ) → IsClassName one → IsClassName other → among one other ≡ true
+pub types_below : (among : List ℕ → List ℕ → Bool) (one other : List ℕ) → IsClassName one → IsClassName other → among one other ≡ true
     → is_subtype among (type_of_name one) (type_of_name other) ≡ true
 types_below among one other is also so =
     ap (λ (type : List ℕ). is_subtype among type (type_of_name other)) (type_is one is)
@@ -79,7 +79,7 @@ number_there texts name number is =
     let found : find (same_text name) texts ≡ Some text = sym (position_found (same_text name) texts) ∙ ap (option_and_then (slice_get texts)) is ∙ there in
     there ∙ ap {B = Option (List ℕ)} Some (sym ((bytes_decides name text).0 (found_passes (same_text name) texts text found)))
 
-own_class_name : (class : ClassFile) → IsWellFormed class → IsClassName (name_of class)
+pub own_class_name : (class : ClassFile) → IsWellFormed class → IsClassName (name_of class)
 own_class_name class (bytes, spelled) = go (class_at class.pool class.this_class) spelled.behind.rules.alone.classes.named where
   go : (found : Option (List ℕ)) → IsSomeAnd found IsClassName → IsClassName (or_none found)
   go None is = absurd is

@@ -37,7 +37,7 @@ unit_long unit = go (nat_le 1 unit && nat_lt unit 0x80) (nat_lt unit 0x800) wher
   go false true = omega arith
   go false false = omega arith
 
-units_long : (units : List ℕ) → length units ≤ length (text_bytes units)
+pub units_long : (units : List ℕ) → length units ≤ length (text_bytes units)
 units_long [] = omega arith
 units_long (unit ∷ units) = omega (arith, unit_long unit, units_long units, length-append (unit_bytes unit) (text_bytes units))
 

@@ -16,9 +16,10 @@ use Rattle.cb_verify.specs.Within.{kind_of_throwable}
 use Rattle.cb_safety.specs.Frames.{AreCovered, AreStanding}
 use Rattle.cb_safety.specs.Heap.{IsObject}
 use Rattle.cb_safety.specs.Held.{HasContent}
-use Rattle.cb_safety.specs.Kinds.{IsOfKind, Kinds, Refers, holds_kind, is_held_as, kinds_of}
+use Rattle.cb_safety.specs.Kinds.{IsKnown, IsOfKind, Kinds, Refers, holds_kind, is_held_as, kinds_of}
 use Rattle.cb_safety.specs.States.{AreFrames, AreRoots, IsTypedState}
 use Rattle.cb_safety.specs.Throwing.{IsThrown}
+use Rattle.cb_safety.proofs.Known.{stack_known}
 use Rattle.cb_safety.proofs.Extended.{are_covered_more, refers_more}
 use Rattle.cb_safety.proofs.Growing.{are_statics_more, are_tables_more, heap_grown, kind_behind, kinds_grown, kinds_placed}
 
@@ -26,7 +27,8 @@ use Rattle.cb_safety.proofs.Growing.{are_statics_more, are_tables_more, heap_gro
 
 pub standing_covered : (program : Linked) (kinds : Kinds) (frames : List Frame) → AreStanding program kinds frames → AreCovered program kinds frames
 standing_covered program kinds frames AreStanding.NotYet = AreCovered.Nothing
-standing_covered program kinds frames (AreStanding.AMethod frame below stands rest) = AreCovered.AMethod frame below (record { at = stands.at; locals = stands.locals }) rest
+standing_covered program kinds frames (AreStanding.AMethod frame below stands rest) = AreCovered.AMethod frame below
+    (record { at = stands.at; locals = stands.locals; stack = stack_known stands.at.method kinds stands.at.types.stack frame.stack stands.stack }) rest
 standing_covered program kinds frames (AreStanding.AnInitialisation class place below is rest) = AreCovered.AnInitialisation class place below is rest
 
 pub frames_covered : (program : Linked) (kinds : Kinds) (pending : ℕ) (frames : List Frame) → AreFrames program kinds pending frames → AreCovered program kinds frames
@@ -58,6 +60,7 @@ thrown_object program kinds site kind thrown = record {
       record { content = Reference 0; there = null_at slot low; fits = null_fits program kinds basic is };
   elements = λ basic place own low. absurd (none-some basic (sym thrown.no_elements ∙ own));
   few = λ basic own. absurd (none-some basic (sym thrown.no_elements ∙ own));
+  words = (IsKnown.Null, (IsKnown.Null, (IsKnown.Null, tt)));
 }
 
 -- ---- the state

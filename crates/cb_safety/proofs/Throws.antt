@@ -8,7 +8,7 @@ use Rattle.cb_link.specs.Program.{Linked}
 use Rattle.cb_machine.specs.Arrays.{with_object}
 use Rattle.cb_machine.specs.Machine.{Machine}
 use Rattle.cb_machine.specs.Plans.{Plan, leaving}
-use Rattle.cb_machine.specs.Standing.{Now, taken as taken_values}
+use Rattle.cb_machine.specs.Standing.{Now}
 use Rattle.cb_machine.specs.Testing.{throws_object}
 use Rattle.cb_plain.specs.State.{Frame, MethodFrame, Object, OfMethod, State}
 use Rattle.cb_plain.specs.Updates.{with_pending}

@@ -1,5 +1,5 @@
 -- An exception is pending: a handler of the topmost frame takes it, or the frame ends (JVMS §2.10, §5.5).
-use Rattle.std.proofs.Common.{◌≡◌, ◌∙◌, ap, arith, refl, sym, subst, ℤ, ℕ, suc, ◌==◌, Bool, true, false, List, [], ◌∷◌, length, Option, Some, None, if◌then◌else◌}
+use Rattle.std.proofs.Common.{◌≡◌, ◌∙◌, ap, arith, refl, sym, subst, ℤ, ℕ, suc, ◌==◌, Bool, true, false, List, [], ◌∷◌, Option, Some, None, if◌then◌else◌}
 use Rattle.std.specs.List.{Contains, find}
 use Rattle.std.proofs.lemmas.Bool.{ne_eqb}
 use Rattle.std.proofs.lemmas.List.{length-set}
@@ -31,6 +31,7 @@ use Rattle.cb_safety.specs.Held.{HasType, IsStack}
 use Rattle.cb_safety.specs.Kinds.{IsOfKind, Kinds, Refers, holds_kind, kind_in, kinds_of}
 use Rattle.cb_safety.specs.States.{AreFrames, IsTypedState}
 use Rattle.cb_safety.specs.Throwing.{AreThrown}
+use Rattle.cb_safety.proofs.Known.{stack_known}
 use Rattle.cb_safety.proofs.Asking.{is_at}
 use Rattle.cb_safety.proofs.Entries.{within_method}
 use Rattle.cb_safety.proofs.Going.{arrived, spelled_rise}
@@ -46,7 +47,7 @@ use Rattle.std.proofs.lemmas.Option.{same_Some}
 below_covered : (program : Linked) (kinds : Kinds) (result : Option Basic) (frames : List Frame) → AreBelow program kinds result frames → AreCovered program kinds frames
 below_covered program kinds result frames AreBelow.Nothing = AreCovered.Nothing
 below_covered program kinds result frames (AreBelow.ACall gives frame below waits rest) =
-    AreCovered.AMethod frame below (record { at = waits.at; locals = waits.before }) rest
+    AreCovered.AMethod frame below (record { at = waits.at; locals = waits.before; stack = stack_known waits.at.method kinds waits.rest frame.stack waits.stack }) rest
 below_covered program kinds result frames (AreBelow.AnInitialiser class place below low standing) = AreCovered.AnInitialisation class place below low standing
 
 -- what is pending, and what is covered

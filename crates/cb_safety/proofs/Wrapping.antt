@@ -16,7 +16,7 @@ use Rattle.cb_safety.specs.Causes.{KeepsCause}
 use Rattle.cb_safety.specs.Frames.{AreCovered}
 use Rattle.cb_safety.specs.Heap.{Holds, IsObject}
 use Rattle.cb_safety.specs.Held.{HasContent}
-use Rattle.cb_safety.specs.Kinds.{IsOfKind, Kinds, Refers, kinds_of}
+use Rattle.cb_safety.specs.Kinds.{IsKnown, IsOfKind, Kinds, Refers, kinds_of}
 use Rattle.cb_safety.specs.States.{AreFrames, AreRoots, IsTypedState}
 use Rattle.cb_safety.specs.Throwing.{IsThrown}
 use Rattle.cb_safety.proofs.Extended.{are_covered_more, is_of_kind_more, refers_more}
@@ -48,6 +48,7 @@ wrapped_object program kinds cause thrown keeps is = record {
       (λ second. keeps class basic own (subst (λ (slot : ℕ). field_basic program class slot ≡ Some basic) second declared));
   elements = λ basic place own low. absurd (none-some basic (sym thrown.no_elements ∙ own));
   few = λ basic own. absurd (none-some basic (sym thrown.no_elements ∙ own));
+  words = (IsKnown.Null, (IsKnown.AnObject cause is.own is.there, (IsKnown.Null, tt)));
 }
 
 -- ---- the state

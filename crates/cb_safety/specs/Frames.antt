@@ -13,7 +13,7 @@ use Rattle.cb_verify.specs.Typed.{falls}
 use Rattle.cb_verify.specs.Types.{type_of}
 use Rattle.cb_verify.specs.Within.{Within, within}
 use Rattle.cb_safety.specs.Held.{HaveTypes, IsStack}
-use Rattle.cb_safety.specs.Kinds.{Kinds}
+use Rattle.cb_safety.specs.Kinds.{AreKnown, Kinds}
 
 -- the verifier's frame before the instruction at the place of a method's frame, and the method
 pub record Before (program : Linked) (frame : MethodFrame) : Type 0 where
@@ -23,10 +23,11 @@ pub record Before (program : Linked) (frame : MethodFrame) : Type 0 where
   pub before : frame_in (typing_of program) frame.method frame.pc ≡ Some types
   pub slots : frame.slots ≡ method.body.max_locals + method.body.max_stack
 
--- a handler may go on with the local variables: the stack is lost
+-- a handler may go on with the local variables: the stack is lost, and of it nothing counts but that what it names is there
 pub record IsCovered (program : Linked) (kinds : Kinds) (frame : MethodFrame) : Type 0 where
   pub at : Before program frame
   pub locals : HaveTypes at.method kinds at.types.locals frame.locals
+  pub stack : AreKnown kinds frame.stack
 
 -- the instruction may be executed
 pub record Stands (program : Linked) (kinds : Kinds) (frame : MethodFrame) : Type 0 where

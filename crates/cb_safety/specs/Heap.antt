@@ -1,22 +1,28 @@
 -- Objects that are as their kinds say.
 use Rattle.std.specs.Prelude.{◌≡◌, ◌<◌, ◌≤◌, ℕ, List, Option, Some, IsTrue, is_some, length, slice_get}
-use Rattle.std.specs.List.{list_all}
+use Rattle.std.specs.List.{AllByRecursion, list_all}
 use Rattle.cb_kinds.specs.declared.basic.Basic.{Basic}
 use Rattle.cb_link.specs.Calls.{class_of_kind}
 use Rattle.cb_link.specs.Program.{Linked}
 use Rattle.cb_link.specs.Slots.{field_basic}
 use Rattle.cb_machine.specs.Arrays.{element_of}
 use Rattle.cb_machine.specs.Performing.{most_elements}
-use Rattle.cb_plain.specs.State.{Content, Object}
+use Rattle.cb_plain.specs.State.{Content, Number, Object, Reference}
 use Rattle.cb_plain.specs.Updates.{object_in}
+use Rattle.cb_plain.specs.declared.value.Value.TheVariants as values
 use Rattle.cb_safety.specs.Held.{HasContent}
-use Rattle.cb_safety.specs.Kinds.{Kinds, kinds_of}
+use Rattle.cb_safety.specs.Kinds.{IsKnown, Kinds, kinds_of}
 
 -- a word is there, with what it may hold
 pub record Holds (program : Linked) (kinds : Kinds) (contents : List Content) (place : ℕ) (basic : Basic) : Type 0 where
   pub content : Content
   pub there : slice_get contents place ≡ Some content
   pub fits : HasContent program kinds basic content
+
+-- a word is known where it holds a number, null, or the serial of an object
+abbrev pub IsKnownWord : Kinds → Content → Type 0
+IsKnownWord kinds (Number number) = Unit {0}
+IsKnownWord kinds (Reference serial) = IsKnown kinds (values.Ref serial)
 
 -- each field of an object of a class, and each element of an array, of which an int says how many there are (JVMS §6.5, newarray)
 pub record IsObject (program : Linked) (kinds : Kinds) (object : Object) : Type 0 where
@@ -26,6 +32,7 @@ pub record IsObject (program : Linked) (kinds : Kinds) (object : Object) : Type 
   pub elements : (basic : Basic) → (place : ℕ) → element_of program object.kind ≡ Some basic → place < length object.contents →
       Holds program kinds object.contents place basic
   pub few : (basic : Basic) → element_of program object.kind ≡ Some basic → length object.contents ≤ most_elements
+  pub words : AllByRecursion (IsKnownWord kinds) object.contents
 
 -- all objects are there, and each is as it should be
 pub record IsHeap (program : Linked) (objects : List (Option Object)) : Type 0 where

@@ -1,5 +1,6 @@
 -- The kinds of the objects of a state: all that typing asks of a heap.
 use Rattle.std.specs.Prelude.{◌≡◌, ℕ, ℤ, zero, suc, Bool, true, false, List, [], ◌∷◌, length, Option, Some, None, map, option_map, slice_get, nat_lt, ◌==◌, ◌||◌, ◌&&◌, if◌then◌else◌}
+use Rattle.std.specs.List.{AllByRecursion}
 use Rattle.cb_classfile.specs.declared.class.ClassFile.{ClassFile}
 use Rattle.cb_kinds.specs.Kinds.{name_in}
 use Rattle.cb_link.specs.Program.{Linked}
@@ -58,3 +59,6 @@ pub data IsKnown (kinds : Kinds) : Value → Type 0 where
   ALong : (number : ℤ) → IsKnown kinds (values.Long number)
   Null : IsKnown kinds (values.Ref 0)
   AnObject : (serial own : ℕ) → kind_in kinds serial ≡ Some own → IsKnown kinds (values.Ref serial)
+
+abbrev pub AreKnown : Kinds → List Value → Type 0
+AreKnown kinds held = AllByRecursion (IsKnown kinds) held

@@ -19,3 +19,13 @@ pub mod Causes
 pub mod Constants
 pub mod Main
 pub mod Starting
+pub mod Linked
+pub mod Loaded
+pub mod Sound
+pub mod Natives
+pub mod Signatures
+pub mod Performing
+pub mod Room
+pub mod Words
+pub mod There
+pub mod Given

@@ -12,7 +12,7 @@ use Rattle.cb_verify.specs.Within.{kind_of_class, kind_of_string, kind_of_throwa
 use Rattle.cb_safety.specs.Frames.{AreCovered, AreStanding}
 use Rattle.cb_safety.specs.Heap.{IsHeap}
 use Rattle.cb_safety.specs.Held.{HasBasic}
-use Rattle.cb_safety.specs.Kinds.{IsOfKind, Kinds, Refers, kinds_of}
+use Rattle.cb_safety.specs.Kinds.{AreKnown, IsOfKind, Kinds, Refers, kinds_of}
 
 -- a table has so many entries, each null or an object of a kind
 pub record IsTable (program : Linked) (kinds : Kinds) (kind size : ℕ) (entries : List ℕ) : Type 0 where
@@ -35,6 +35,7 @@ pub record HasStatic (program : Linked) (kinds : Kinds) (held : List Value) (slo
 
 pub record AreStatics (program : Linked) (kinds : Kinds) (held : List Value) : Type 0 where
   pub each : (slot : ℕ) → (basic : Basic) → static_basic program slot ≡ Some basic → HasStatic program kinds held slot basic
+  pub known : AreKnown kinds held
 
 -- while an exception is pending it is one that can be thrown, and else the topmost frame stands at what is next
 pub data AreFrames (program : Linked) (kinds : Kinds) : ℕ → List Frame → Type 0 where

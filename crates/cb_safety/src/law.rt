@@ -1,28 +1,50 @@
 // What holds of every typed program.
-ghost use Rattle.std.specs.List.{AllByRecursion};
-ghost use Rattle.std.specs.Prelude.{◌≡◌, ◌<◌, ◌∷◌, ◌++◌, ℕ, List, None, Some, length, slice_get, suc, true, Option, [], ◌≤◌};
+ghost use Rattle.std.specs.List.{AllByRecursion, find, flat_map};
+ghost use Rattle.std.specs.Prelude.{◌≡◌, ◌<◌, ◌∷◌, ◌++◌, ℕ, List, None, Some, length, slice_get, suc, true, Option, [], ◌≤◌, ◌+◌};
 ghost use Rattle.cb_classfile.specs.Class.{IsWellFormed};
 ghost use Rattle.cb_classfile.specs.declared.class.ClassFile.{ClassFile};
+ghost use Rattle.cb_classfile.specs.declared.handler.Handler.{Handler};
 ghost use Rattle.cb_classfile.specs.Library.{AreLibrary};
+ghost use Rattle.cb_io.specs.Folder.{Files};
+ghost use Rattle.cb_hierarchy.specs.Classes.{listed};
 ghost use Rattle.cb_insn.specs.declared.insn.Insn.{Insn};
 ghost use Rattle.cb_insn.specs.Grammar.{SpellsCode};
+ghost use Rattle.cb_library.specs.declared.native.NativeForm.TheVariants.{Array, Outside, OwnFields, Table, Text};
+ghost use Rattle.cb_library.specs.declared.native.Native.TheVariants as natives;
+ghost use Rattle.cb_library.specs.NativeForms.{form_of};
+ghost use Rattle.cb_kinds.specs.declared.basic.Basic.{Basic};
 ghost use Rattle.cb_link.specs.Having.{IsWhole};
 ghost use Rattle.cb_link.specs.Lacking.{first_lacking};
-ghost use Rattle.cb_link.specs.Named.{code_at, insn_in};
+ghost use Rattle.cb_link.specs.Named.{code_at, handlers_at, insn_in, named};
 ghost use Rattle.cb_link.specs.Program.{Linked};
+ghost use Rattle.cb_load.specs.Linking.{IsLinked as IsLinkedBy};
+ghost use Rattle.cb_link.specs.Slots.{field_basic, static_basic};
+ghost use Rattle.cb_link.specs.declared.named.Named.TheVariants as meanings;
 ghost use Rattle.cb_machine.specs.Computing.{throws_by_zero};
+ghost use Rattle.cb_machine.specs.Entering.{entered_upon};
 ghost use Rattle.cb_machine.specs.Initialising.{begun_upon};
 ghost use Rattle.cb_machine.specs.Machine.{Machine, kind_of_site};
 ghost use Rattle.cb_machine.specs.Performing.{most_elements};
 ghost use Rattle.cb_machine.specs.Plans.{made};
+ghost use Rattle.cb_machine.specs.Runs.{at, outcome};
 ghost use Rattle.cb_machine.specs.Starting.{start};
+ghost use Rattle.cb_machine.specs.Steps.{step, plan};
 ghost use Rattle.cb_machine.specs.Throwing.{throws};
+ghost use Rattle.cb_machine.specs.declared.outcome.Outcome.TheVariants.{Running};
+ghost use Rattle.cb_machine.specs.Unwinding.{takes};
 ghost use Rattle.cb_plain.specs.declared.class_state.ClassState.TheVariants.{Untouched};
-ghost use Rattle.cb_plain.specs.State.{Frame as StateFrame, Initialising, MethodFrame, OfMethod, State};
+ghost use Rattle.cb_plain.specs.declared.value.Value.{Value};
+ghost use Rattle.cb_plain.specs.Depth.{has_room, slots_of};
+ghost use Rattle.cb_plain.specs.Reach.{frame_references, table_references, unless_null};
+ghost use Rattle.cb_plain.specs.State.{Content, Frame as StateFrame, Initialising, MethodFrame, Object, OfMethod, State};
 ghost use Rattle.cb_shapes.specs.declared.action.Action.{Action};
-ghost use Rattle.cb_shapes.specs.declared.action.Action.TheVariants.{Constant, New, InvokeSpecial, InvokeStatic, Return, Throw};
+ghost use Rattle.cb_shapes.specs.declared.action.Action.TheVariants.{Constant, GetField, GetStatic, Length, LoadNumber, LoadReference, PutField, PutStatic, Shuffle, StoreNumber, StoreReference, New, InvokeInterface, InvokeSpecial, InvokeStatic, InvokeVirtual, Return, Throw};
+ghost use Rattle.cb_shapes.specs.declared.elements.Elements.{Elements};
+ghost use Rattle.cb_shapes.specs.declared.shuffle.Shuffle.{Shuffle as ShuffleForm};
 ghost use Rattle.cb_shapes.specs.declared.sort.Sort.{Sort};
+ghost use Rattle.cb_shapes.specs.declared.sort.Sort.TheVariants.{Reference};
 ghost use Rattle.cb_shapes.specs.Shapes.{action_of};
+ghost use Rattle.cb_shapes.specs.Sorts.{sort_of_elements};
 ghost use Rattle.cb_verify.specs.Framed.{frame_in, typing_of};
 ghost use Rattle.cb_verify.specs.Frames.{Frame};
 ghost use Rattle.cb_verify.specs.Typed.{IsTyped};
@@ -34,15 +56,27 @@ ghost use Rattle.cb_safety.specs.Causes.{KeepsCause};
 ghost use Rattle.cb_safety.specs.Constants.{HasClassObjects, HasMessage};
 ghost use Rattle.cb_safety.specs.ClassNames.{AreOwnKinds, HaveSuperclasses, NamedOnce};
 ghost use Rattle.cb_safety.specs.Flows.{CodeRises, Flows, Rises};
+ghost use Rattle.cb_safety.specs.Frames.{IsCovered, Stands, Waits, result_at};
+ghost use Rattle.cb_safety.specs.Held.{HasContent};
 ghost use Rattle.cb_safety.specs.Initialisers.{HasInitialisers};
+ghost use Rattle.cb_safety.specs.Kinds.{Kinds, kinds_of};
 ghost use Rattle.cb_safety.specs.Making.{HasSites, is_of_arrays};
+ghost use Rattle.cb_safety.specs.Given.{RunGives};
+ghost use Rattle.cb_safety.specs.Linked.{IsLinked};
 ghost use Rattle.cb_safety.specs.Main.{HasMain};
+ghost use Rattle.cb_safety.specs.Natives.{CallsNative};
 ghost use Rattle.cb_safety.specs.Naming.{HoldsElements, NamesFields, NamesKinds};
-ghost use Rattle.cb_safety.specs.Ready.{NamesClasses, NamesStatics, is_of_statics};
+ghost use Rattle.cb_safety.specs.Performing.{AreBuilt, HasEnums, HasNatives, IsInput};
+ghost use Rattle.cb_safety.specs.Ready.{BeginsTyped, NamesClasses, NamesStatics, is_of_statics};
+ghost use Rattle.cb_safety.specs.Signatures.{is_of_answers, is_of_numbers};
+ghost use Rattle.cb_safety.specs.Sound.{IsSound};
+ghost use Rattle.cb_safety.specs.Room.{HasRoom, MayCatch, ShufflesWithin, lays_one, with_limit};
 ghost use Rattle.cb_safety.specs.Starting.{HasStart};
 ghost use Rattle.cb_safety.specs.States.{IsTypedState};
 ghost use Rattle.cb_safety.specs.Strings.{HasConstants, IsText};
+ghost use Rattle.cb_safety.specs.There.{AreThere, NamesWhatIsThere, reference_in_word};
 ghost use Rattle.cb_safety.specs.Throwing.{AreThrown, IsThrown};
+ghost use Rattle.cb_safety.specs.Words.{AsksObject, MeasuresArray, ReadsElement, ReadsField, ReadsStatic, WritesElement, WritesField, WritesStatic, asks_object};
 
 /// In a typed program the frame before an instruction flows to wherever the instruction goes (JVMS §4.10.1).
 pub fn flows()
@@ -322,4 +356,450 @@ pub fn throw_advances()
 pub fn start_is_typed()
     ensures { (machine : Machine) (arguments : List (List ℕ)) (input : List ℕ) → HasStart machine.program → AllByRecursion IsText arguments
         → length arguments ≤ most_elements → IsTypedState machine.program (start machine arguments input) }
+{}
+
+/// A program that is linked is whole, its classes are well formed, and no instruction lacks a member (JVMS §5.3, §5.4).
+pub fn linked_programs()
+    ensures whole { (program : Linked) → IsLinked program → IsWhole program }
+    ensures well_formed { (program : Linked) → IsLinked program → AllByRecursion IsWellFormed program.classes }
+    ensures lacking { (program : Linked) → IsLinked program → first_lacking program.classes ≡ None }
+{}
+
+/// Each `new` of a program that is linked and typed names a class that is there (JVMS §5.4.3.1, §6.5 new).
+pub fn instructions_name_classes()
+    ensures { (program : Linked) → IsLinked program → IsTyped program → NamesClasses program }
+{}
+
+/// The main method of a program that is linked has code, is static, takes an array of strings and gives nothing (JLS §12.1.4).
+pub fn linked_has_main()
+    ensures { (program : Linked) → IsLinked program → HasMain program }
+{}
+
+/// The initialisers of the classes of a program that is linked and typed have code, take nothing and give nothing (JVMS §2.9).
+pub fn linked_has_initialisers()
+    ensures { (program : Linked) → IsLinked program → IsTyped program → HasInitialisers program }
+{}
+
+/// A program that is linked has what there is at the start: the array of arguments with its strings, and the streams of System.
+pub fn linked_has_start()
+    ensures { (program : Linked) → IsLinked program → HasStart program }
+{}
+
+/// In a program that is linked what a division by zero throws has a message, and constants are strings, values of the types of static
+/// fields (JVMS §4.7.2), and class objects, and ints can say the numbers of kinds.
+pub fn linked_has_constants()
+    ensures message { (program : Linked) → IsLinked program → HasMessage program }
+    ensures constants { (program : Linked) → IsLinked program → HasConstants program }
+    ensures class_objects { (program : Linked) → IsLinked program → HasClassObjects program }
+{}
+
+/// All that a typed state asks of a program to have a next one, but for the methods that are called, holds of each that is linked and
+/// typed.
+pub fn linked_is_sound()
+    ensures { (program : Linked) → IsLinked program → IsTyped program → IsSound program }
+{}
+
+/// What loading and linking ensure, where the library's classes are well formed, is all that is asked of a linked program.
+pub fn linking_links()
+    ensures { (files : Option Files) (root main : List ℕ) (library : List ClassFile) (program : Linked) → AreLibrary library
+        → AllByRecursion IsWellFormed library → IsLinkedBy files root library main program → IsLinked program }
+{}
+
+/// A typed state of a linked program that runs at an invokestatic has a next state, which is typed too, if natives have (JVMS §6.5
+/// invokestatic; §5.5).
+pub fn linked_static_calls_advance()
+    ensures { (machine : Machine) (state : State) (frame : MethodFrame) (below : List StateFrame) (insn : Insn) (index : ℕ)
+        → IsLinked machine.program → IsTyped machine.program → IsTypedState machine.program state
+        → state.exit ≡ None → state.roots.pending ≡ 0 → state.roots.frames ≡ OfMethod frame ∷ below
+        → insn_in (code_at machine.program frame.method) frame.pc ≡ Some insn → action_of insn ≡ Some (InvokeStatic index)
+        → (CallsNative machine state frame below → Advances machine state) → Advances machine state }
+{}
+
+/// A typed state of a linked program that runs at an invokespecial has a next state, which is typed too, if natives have (JVMS §6.5
+/// invokespecial; §4.10.1.9).
+pub fn linked_special_calls_advance()
+    ensures { (machine : Machine) (state : State) (frame : MethodFrame) (below : List StateFrame) (insn : Insn) (index : ℕ)
+        → IsLinked machine.program → IsTyped machine.program → IsTypedState machine.program state
+        → state.exit ≡ None → state.roots.pending ≡ 0 → state.roots.frames ≡ OfMethod frame ∷ below
+        → insn_in (code_at machine.program frame.method) frame.pc ≡ Some insn → action_of insn ≡ Some (InvokeSpecial index)
+        → (CallsNative machine state frame below → Advances machine state) → Advances machine state }
+{}
+
+/// A typed state of a linked program that runs at an invokevirtual has a next state, which is typed too, if natives have (JVMS §6.5
+/// invokevirtual; §5.4.5).
+pub fn virtual_calls_advance()
+    ensures { (machine : Machine) (state : State) (frame : MethodFrame) (below : List StateFrame) (insn : Insn) (index : ℕ)
+        → IsLinked machine.program → IsTyped machine.program → IsTypedState machine.program state
+        → state.exit ≡ None → state.roots.pending ≡ 0 → state.roots.frames ≡ OfMethod frame ∷ below
+        → insn_in (code_at machine.program frame.method) frame.pc ≡ Some insn → action_of insn ≡ Some (InvokeVirtual index)
+        → (CallsNative machine state frame below → Advances machine state) → Advances machine state }
+{}
+
+/// A typed state of a linked program that runs at an invokeinterface has a next state, which is typed too, if natives have (JVMS §6.5
+/// invokeinterface).
+pub fn interface_calls_advance()
+    ensures { (machine : Machine) (state : State) (frame : MethodFrame) (below : List StateFrame) (insn : Insn) (index count : ℕ)
+        → IsLinked machine.program → IsTyped machine.program → IsTypedState machine.program state
+        → state.exit ≡ None → state.roots.pending ≡ 0 → state.roots.frames ≡ OfMethod frame ∷ below
+        → insn_in (code_at machine.program frame.method) frame.pc ≡ Some insn → action_of insn ≡ Some (InvokeInterface index count)
+        → (CallsNative machine state frame below → Advances machine state) → Advances machine state }
+{}
+
+/// A typed state that calls a native which prints, reads or ends the run has a next state, which is typed too (Java SE 8 API,
+/// java.io.PrintStream, java.io.InputStream, java.lang.System).
+pub fn outside_natives_advance()
+    ensures { (machine : Machine) (state : State) (frame : MethodFrame) (below : List StateFrame)
+        → HasNatives machine.program
+        → IsTyped machine.program → IsSpelled machine.program → HoldsOn machine.program
+        → IsTypedState machine.program state
+        → state.roots.pending ≡ 0 → state.roots.frames ≡ OfMethod frame ∷ below
+        → (calls : CallsNative machine state frame below)
+        → AreBuilt machine.program state calls.arguments → IsInput state → form_of calls.native
+        ≡ Outside → Advances machine state }
+{}
+
+/// A typed state that calls a native on numbers alone has a next state, which is typed too, where what a division by zero leaves is typed
+/// (Java SE 8 API, java.lang.Math).
+pub fn number_natives_advance()
+    ensures { (machine : Machine) (state : State) (frame : MethodFrame) (below : List StateFrame)
+        → HasNatives machine.program
+        → IsTyped machine.program → IsSpelled machine.program → HoldsOn machine.program
+        → IsTypedState machine.program state
+        → state.roots.pending ≡ 0 → state.roots.frames ≡ OfMethod frame ∷ below
+        → (calls : CallsNative machine state frame below)
+        → AreBuilt machine.program state calls.arguments → IsTypedState machine.program (made
+        (throws_by_zero machine state))
+        → is_of_numbers calls.native ≡ true → Advances machine state }
+{}
+
+/// A typed state that calls another native which gives a number, an object that was there, or nothing, has a next state, which is typed too
+/// (Java SE 8 API, java.lang).
+pub fn answer_natives_advance()
+    ensures { (machine : Machine) (state : State) (frame : MethodFrame) (below : List StateFrame)
+        → HasNatives machine.program
+        → IsTyped machine.program → IsSpelled machine.program → HoldsOn machine.program
+        → IsTypedState machine.program state
+        → state.roots.pending ≡ 0 → state.roots.frames ≡ OfMethod frame ∷ below
+        → (calls : CallsNative machine state frame below)
+        → AreBuilt machine.program state calls.arguments → IsTypedState machine.program (made
+        (throws_by_zero machine state))
+        → is_of_answers calls.native ≡ true → Advances machine state }
+{}
+
+/// A typed state that calls a native which gives a new String has a next state, which is typed too (Java SE 8 API, java.lang).
+pub fn text_natives_advance()
+    ensures { (machine : Machine) (state : State) (frame : MethodFrame) (below : List StateFrame)
+        → HasNatives machine.program
+        → IsTyped machine.program → IsSpelled machine.program → HoldsOn machine.program
+        → IsTypedState machine.program state
+        → state.roots.pending ≡ 0 → state.roots.frames ≡ OfMethod frame ∷ below
+        → (calls : CallsNative machine state frame below)
+        → AreBuilt machine.program state calls.arguments → form_of calls.native ≡ Text
+        → Advances machine state }
+{}
+
+/// A typed state that calls a native which gives an object from a table, a box or a class object, has a next state, which is typed too
+/// (Java SE 8 API, java.lang; JLS §5.1.7).
+pub fn box_natives_advance()
+    ensures { (machine : Machine) (state : State) (frame : MethodFrame) (below : List StateFrame)
+        → HasNatives machine.program
+        → IsTyped machine.program → IsSpelled machine.program → HoldsOn machine.program
+        → IsTypedState machine.program state
+        → state.roots.pending ≡ 0 → state.roots.frames ≡ OfMethod frame ∷ below
+        → (calls : CallsNative machine state frame below)
+        → AreBuilt machine.program state calls.arguments → form_of calls.native ≡ Table
+        → Advances machine state }
+{}
+
+/// A typed state that calls a native which sets the fields of its own object, a constructor of the library or a method of StringBuilder, has
+/// a next state, which is typed too (Java SE 8 API, java.lang).
+pub fn own_field_natives_advance()
+    ensures { (machine : Machine) (state : State) (frame : MethodFrame) (below : List StateFrame)
+        → HasNatives machine.program
+        → IsTyped machine.program → IsSpelled machine.program → HoldsOn machine.program
+        → IsTypedState machine.program state
+        → state.roots.pending ≡ 0 → state.roots.frames ≡ OfMethod frame ∷ below
+        → (calls : CallsNative machine state frame below)
+        → AreBuilt machine.program state calls.arguments → form_of calls.native ≡ OwnFields
+        → Advances machine state }
+{}
+
+/// A typed state that calls a native on arrays, or one that copies an object, has a next state, which is typed too (Java SE 8 API,
+/// Object.clone, String.toCharArray, System.arraycopy, Throwable.addSuppressed and getSuppressed).
+pub fn array_natives_advance()
+    ensures { (machine : Machine) (state : State) (frame : MethodFrame) (below : List StateFrame)
+        → HasNatives machine.program
+        → IsTyped machine.program → IsSpelled machine.program → HoldsOn machine.program
+        → IsTypedState machine.program state
+        → state.roots.pending ≡ 0 → state.roots.frames ≡ OfMethod frame ∷ below
+        → (calls : CallsNative machine state frame below)
+        → AreBuilt machine.program state calls.arguments → form_of calls.native ≡ Array
+        → Advances machine state }
+{}
+
+/// A typed state of a program that is linked and typed, whose run goes on, has a next state, which is typed too, if natives have.
+pub fn linked_programs_advance()
+    ensures { (machine : Machine) (state : State) → IsLinked machine.program → IsTyped machine.program
+        → IsTypedState machine.program state → outcome state ≡ Running
+        → ((frame : MethodFrame) (below : List StateFrame) → CallsNative machine state frame below → Advances machine state)
+        → Advances machine state }
+{}
+
+/// The frame of a method that stands at an instruction has as many local variables as its code says, and slots for these and for the
+/// values on its stack (JVMS §2.6.1, §2.6.2).
+pub fn standing_frames_fit()
+    ensures { (program : Linked) (kinds : Kinds) (frame : MethodFrame) → Stands program kinds frame → HasRoom program frame 0 }
+{}
+
+/// One that waits for a call has slots for the call's result too.
+pub fn waiting_frames_fit()
+    ensures { (program : Linked) (kinds : Kinds) (result : Option Basic) (frame : MethodFrame) → Waits program kinds result frame
+        → HasRoom program frame (length (listed result)) }
+{}
+
+/// So has the topmost frame of a typed state that runs.
+pub fn frames_fit()
+    ensures { (program : Linked) (state : State) (frame : MethodFrame) (below : List StateFrame) → IsTypedState program state
+        → state.roots.pending ≡ 0 → state.roots.frames ≡ OfMethod frame ∷ below → HasRoom program frame 0 }
+{}
+
+/// And so has the frame below it, with a slot for its method's result, where that is a method's.
+pub fn callers_fit()
+    ensures { (program : Linked) (state : State) (frame caller : MethodFrame) (below : List StateFrame) → IsTypedState program state
+        → state.roots.frames ≡ OfMethod frame ∷ OfMethod caller ∷ below
+        → HasRoom program caller (length (listed (result_at program frame.method))) }
+{}
+
+/// The topmost frame of a typed state that runs at an instruction which lays a value upon its stack has a slot for it (JVMS §2.6.2).
+pub fn pushes_fit()
+    ensures { (machine : Machine) (state : State) (frame : MethodFrame) (below : List StateFrame) (insn : Insn) (action : Action)
+        → IsTyped machine.program → IsSpelled machine.program → HoldsOn machine.program → NamesStatics machine.program
+        → IsTypedState machine.program state → state.roots.pending ≡ 0 → state.roots.frames ≡ OfMethod frame ∷ below
+        → insn_in (code_at machine.program frame.method) frame.pc ≡ Some insn → action_of insn ≡ Some action → lays_one action ≡ true
+        → HasRoom machine.program frame 1 }
+{}
+
+/// At an instruction that shuffles the stack it has slots for what comes of that (JVMS §6.5 dup).
+pub fn shuffles_fit()
+    ensures { (machine : Machine) (state : State) (frame : MethodFrame) (below : List StateFrame) (insn : Insn) (shuffle : ShuffleForm)
+        → IsTyped machine.program → IsSpelled machine.program → HoldsOn machine.program → IsTypedState machine.program state
+        → state.roots.pending ≡ 0 → state.roots.frames ≡ OfMethod frame ∷ below
+        → insn_in (code_at machine.program frame.method) frame.pc ≡ Some insn → action_of insn ≡ Some (Shuffle shuffle)
+        → ShufflesWithin frame shuffle }
+{}
+
+/// And at a return with a value the frame that waits for it has a slot for it (JVMS §6.5 ireturn).
+pub fn returns_fit()
+    ensures { (machine : Machine) (state : State) (frame caller : MethodFrame) (below : List StateFrame) (insn : Insn) (sort : Sort)
+        → IsTyped machine.program → IsSpelled machine.program → HoldsOn machine.program → IsTypedState machine.program state
+        → state.roots.pending ≡ 0 → state.roots.frames ≡ OfMethod frame ∷ OfMethod caller ∷ below
+        → insn_in (code_at machine.program frame.method) frame.pc ≡ Some insn → action_of insn ≡ Some (Return (Some sort))
+        → HasRoom machine.program caller 1 }
+{}
+
+/// The frame of a method in which an exception is looked for has as many local variables as its code says, and a slot for the exception
+/// beside them where a handler covers its place (JVMS §2.10).
+pub fn covered_frames_fit()
+    ensures { (program : Linked) (kinds : Kinds) (frame : MethodFrame) → IsTyped program → IsSpelled program → IsCovered program kinds frame
+        → MayCatch program frame }
+{}
+
+/// So has the topmost frame of a typed state, whether an exception is pending or not.
+pub fn catchers_fit()
+    ensures { (program : Linked) (state : State) (frame : MethodFrame) (below : List StateFrame) → IsTyped program → IsSpelled program
+        → IsTypedState program state → state.roots.frames ≡ OfMethod frame ∷ below → MayCatch program frame }
+{}
+
+/// Where a handler of that frame takes an exception, there is a slot for it beside the local variables (JVMS §2.10).
+pub fn caught_fits()
+    ensures { (program : Linked) (state : State) (frame : MethodFrame) (below : List StateFrame) (class : Option ℕ) (kind : ℕ) (handler : Handler)
+        → IsTyped program → IsSpelled program → IsTypedState program state → state.roots.frames ≡ OfMethod frame ∷ below
+        → find (takes program class frame.pc kind) (handlers_at program frame.method) ≡ Some handler → length frame.locals + 1 ≤ frame.slots }
+{}
+
+/// Where the step of a state that advances enters a method, its arguments fit into its local variables (JVMS §2.6.1).
+pub fn entered_fits()
+    ensures { (machine : Machine) (state : State) (frames : List StateFrame) (number : ℕ) (callee : Within) (arguments : List Value)
+        → Advances machine state → state.roots.pending ≡ 0 → within machine.program number ≡ Some callee
+        → plan machine state ≡ Some (entered_upon machine state frames number arguments callee.body)
+        → has_room machine.frames frames (callee.body.max_locals + callee.body.max_stack) ≡ true
+        → length (flat_map slots_of arguments) ≤ callee.body.max_locals }
+{}
+
+/// So do they where there is no room for the method's frame, if the step is that one whatever the limit of frames is.
+pub fn arguments_fit()
+    ensures { (machine : Machine) (state : State) (frames : List StateFrame) (number : ℕ) (callee : Within) (arguments : List Value)
+        → state.roots.pending ≡ 0 → within machine.program number ≡ Some callee → ((limit : ℕ) → Advances (with_limit machine limit) state)
+        → ((limit : ℕ) → plan (with_limit machine limit) state
+        ≡ Some (entered_upon (with_limit machine limit) state frames number arguments callee.body))
+        → length (flat_map slots_of arguments) ≤ callee.body.max_locals }
+{}
+
+/// In a typed state that runs at a getfield a reference is on the stack, which is null or of an object that has the field (JVMS §6.5
+/// getfield).
+pub fn fields_read()
+    ensures { (machine : Machine) (state : State) (frame : MethodFrame) (below : List StateFrame) (insn : Insn) (index class slot : ℕ) (basic : Basic)
+        → IsTyped machine.program → IsSpelled machine.program → HoldsOn machine.program → NamesFields machine.program
+        → IsTypedState machine.program state → state.roots.pending ≡ 0 → state.roots.frames ≡ OfMethod frame ∷ below
+        → insn_in (code_at machine.program frame.method) frame.pc ≡ Some insn → action_of insn ≡ Some (GetField index)
+        → named machine.program frame.method frame.pc ≡ meanings.Field class slot → field_basic machine.program class slot ≡ Some basic
+        → ReadsField machine.program state frame slot basic }
+{}
+
+/// In one that runs at a putfield so is it below a value of the field's type (JVMS §6.5 putfield).
+pub fn fields_written()
+    ensures { (machine : Machine) (state : State) (frame : MethodFrame) (below : List StateFrame) (insn : Insn) (index class slot : ℕ) (basic : Basic)
+        → IsTyped machine.program → IsSpelled machine.program → HoldsOn machine.program → NamesFields machine.program
+        → IsTypedState machine.program state → state.roots.pending ≡ 0 → state.roots.frames ≡ OfMethod frame ∷ below
+        → insn_in (code_at machine.program frame.method) frame.pc ≡ Some insn → action_of insn ≡ Some (PutField index)
+        → named machine.program frame.method frame.pc ≡ meanings.Field class slot → field_basic machine.program class slot ≡ Some basic
+        → WritesField machine.program state frame slot basic }
+{}
+
+/// In a typed state that runs at an iaload, laload, baload, caload or saload an index is on the stack upon an array of such numbers, or null
+/// (JVMS §6.5 iaload).
+pub fn elements_read()
+    ensures { (machine : Machine) (state : State) (frame : MethodFrame) (below : List StateFrame) (insn : Insn) (elements : Elements)
+        → IsTyped machine.program → IsSpelled machine.program → HoldsOn machine.program → HoldsElements machine.program
+        → IsTypedState machine.program state → state.roots.pending ≡ 0 → state.roots.frames ≡ OfMethod frame ∷ below
+        → insn_in (code_at machine.program frame.method) frame.pc ≡ Some insn → action_of insn ≡ Some (LoadNumber elements)
+        → ReadsElement machine.program state frame (sort_of_elements elements) }
+{}
+
+/// So is one upon an array of references, or null, at an aaload (JVMS §6.5 aaload).
+pub fn references_are_read()
+    ensures { (machine : Machine) (state : State) (frame : MethodFrame) (below : List StateFrame) (insn : Insn)
+        → IsTyped machine.program → IsSpelled machine.program → HoldsOn machine.program → HoldsElements machine.program
+        → IsTypedState machine.program state → state.roots.pending ≡ 0 → state.roots.frames ≡ OfMethod frame ∷ below
+        → insn_in (code_at machine.program frame.method) frame.pc ≡ Some insn → action_of insn ≡ Some LoadReference
+        → ReadsElement machine.program state frame Reference }
+{}
+
+/// At an iastore, lastore, bastore, castore or sastore a number stands upon these, of the elements' sort (JVMS §6.5 iastore).
+pub fn elements_written()
+    ensures { (machine : Machine) (state : State) (frame : MethodFrame) (below : List StateFrame) (insn : Insn) (elements : Elements)
+        → IsTyped machine.program → IsSpelled machine.program → HoldsOn machine.program → HoldsElements machine.program
+        → IsTypedState machine.program state → state.roots.pending ≡ 0 → state.roots.frames ≡ OfMethod frame ∷ below
+        → insn_in (code_at machine.program frame.method) frame.pc ≡ Some insn → action_of insn ≡ Some (StoreNumber elements)
+        → WritesElement machine.program state frame (sort_of_elements elements) }
+{}
+
+/// And at an aastore a reference, which is null or of an object that is there (JVMS §6.5 aastore).
+pub fn references_are_written()
+    ensures { (machine : Machine) (state : State) (frame : MethodFrame) (below : List StateFrame) (insn : Insn)
+        → IsTyped machine.program → IsSpelled machine.program → HoldsOn machine.program → HoldsElements machine.program
+        → IsTypedState machine.program state → state.roots.pending ≡ 0 → state.roots.frames ≡ OfMethod frame ∷ below
+        → insn_in (code_at machine.program frame.method) frame.pc ≡ Some insn → action_of insn ≡ Some StoreReference
+        → WritesElement machine.program state frame Reference }
+{}
+
+/// At an arraylength an array of any elements is on the stack, or null (JVMS §6.5 arraylength).
+pub fn arrays_measured()
+    ensures { (machine : Machine) (state : State) (frame : MethodFrame) (below : List StateFrame) (insn : Insn)
+        → IsTyped machine.program → IsSpelled machine.program → HoldsOn machine.program → HoldsElements machine.program
+        → IsTypedState machine.program state → state.roots.pending ≡ 0 → state.roots.frames ≡ OfMethod frame ∷ below
+        → insn_in (code_at machine.program frame.method) frame.pc ≡ Some insn → action_of insn ≡ Some Length
+        → MeasuresArray machine.program state frame }
+{}
+
+/// In a typed state that runs at a checkcast, instanceof or athrow a reference is on the stack, which is null or names an object that is
+/// there, of a kind of the program (JVMS §6.5 checkcast, instanceof, athrow).
+pub fn references_are_asked()
+    ensures { (machine : Machine) (state : State) (frame : MethodFrame) (below : List StateFrame) (insn : Insn) (action : Action)
+        → IsTyped machine.program → IsSpelled machine.program → HoldsOn machine.program → IsTypedState machine.program state
+        → state.roots.pending ≡ 0 → state.roots.frames ≡ OfMethod frame ∷ below
+        → insn_in (code_at machine.program frame.method) frame.pc ≡ Some insn → action_of insn ≡ Some action → asks_object action ≡ true
+        → AsksObject machine.program state frame }
+{}
+
+/// In a typed state that runs at a getstatic the class is there, and the static field that is named has a value of its type (JVMS §6.5
+/// getstatic).
+pub fn statics_read()
+    ensures { (machine : Machine) (state : State) (frame : MethodFrame) (below : List StateFrame) (insn : Insn) (index class slot : ℕ) (basic : Basic)
+        → NamesStatics machine.program → IsTypedState machine.program state → state.roots.pending ≡ 0 → state.roots.frames ≡ OfMethod frame ∷ below
+        → insn_in (code_at machine.program frame.method) frame.pc ≡ Some insn → action_of insn ≡ Some (GetStatic index)
+        → named machine.program frame.method frame.pc ≡ meanings.Static class slot → static_basic machine.program slot ≡ Some basic
+        → ReadsStatic machine.program state class slot basic }
+{}
+
+/// So are they at a putstatic, with a value of the field's type on the stack (JVMS §6.5 putstatic).
+pub fn statics_written()
+    ensures { (machine : Machine) (state : State) (frame : MethodFrame) (below : List StateFrame) (insn : Insn) (index class slot : ℕ) (basic : Basic)
+        → IsTyped machine.program → IsSpelled machine.program → HoldsOn machine.program → NamesStatics machine.program
+        → IsTypedState machine.program state → state.roots.pending ≡ 0 → state.roots.frames ≡ OfMethod frame ∷ below
+        → insn_in (code_at machine.program frame.method) frame.pc ≡ Some insn → action_of insn ≡ Some (PutStatic index)
+        → named machine.program frame.method frame.pc ≡ meanings.Static class slot → static_basic machine.program slot ≡ Some basic
+        → WritesStatic machine.program state frame class slot basic }
+{}
+
+/// Each reference in a frame of a typed state that runs is null or names an object that is there.
+pub fn frames_name_objects()
+    ensures { (program : Linked) (state : State) → IsTypedState program state → state.roots.pending ≡ 0
+        → AreThere state.objects (flat_map frame_references state.roots.frames) }
+{}
+
+/// So is each in its tables, whether it runs or not, and so are a pending exception and the array of arguments that waits.
+pub fn tables_name_objects()
+    ensures { (program : Linked) (state : State) → IsTypedState program state
+        → AreThere state.objects (table_references state.roots.tables ++ unless_null state.roots.pending ++ unless_null state.roots.argument) }
+{}
+
+/// A reference in a word that is of its field's or element's type is null or names an object that is there.
+pub fn words_name_objects()
+    ensures { (program : Linked) (objects : List (Option Object)) (basic : Basic) (content : Content)
+        → HasContent program (kinds_of objects) basic content → AreThere objects (reference_in_word content) }
+{}
+
+/// So is each reference in the roots of a typed state, whether it runs or not, and in its objects.
+pub fn typed_states_are_closed()
+    ensures { (program : Linked) (state : State) → IsTypedState program state → NamesWhatIsThere state }
+{}
+
+/// A typed state that calls `Enum.valueOf` has a next state, which is typed too, where what begins the initialisation of a class is typed
+/// (Java SE 8 API, Enum.valueOf).
+pub fn enum_natives_advance()
+    ensures { (machine : Machine) (state : State) (frame : MethodFrame) (below : List StateFrame)
+        → HasNatives machine.program
+        → IsTyped machine.program → IsSpelled machine.program → HoldsOn machine.program
+        → IsTypedState machine.program state
+        → state.roots.pending ≡ 0 → state.roots.frames ≡ OfMethod frame ∷ below
+        → (calls : CallsNative machine state frame below)
+        → AreBuilt machine.program state calls.arguments → BeginsTyped machine state → calls.native
+        ≡ natives.EnumValueOf
+        → Advances machine state }
+{}
+
+/// A typed state of a linked program that calls a native of the library has a next state, which is typed too, where the strings and
+/// builders that the native is given are built, and what is left of the input is bytes.
+pub fn natives_advance()
+    ensures { (machine : Machine) (state : State) (frame : MethodFrame) (below : List StateFrame)
+        → IsLinked machine.program
+        → IsTyped machine.program → HasEnums machine.program → IsTypedState machine.program state
+        → state.roots.pending ≡ 0 → state.roots.frames ≡ OfMethod frame ∷ below
+        → (calls : CallsNative machine state frame below)
+        → AreBuilt machine.program state calls.arguments → IsInput state → Advances machine state }
+{}
+
+/// What natives ask of a program holds of each that is linked and typed, where the constants of enums are such: their parameters and
+/// results, what they throw and make, the fields that they look at, and the names of kinds.
+pub fn linked_has_natives()
+    ensures { (program : Linked) → IsLinked program → IsTyped program → HasEnums program
+        → HasNatives program }
+{}
+
+/// Each state of a run of a program that is linked and typed is typed, and where the run goes on it has a next one: it never gets stuck,
+/// if what natives are given in the run is built, and is bytes. A state whose run has ended has none.
+pub fn runs_advance()
+    ensures typed { (machine : Machine) → IsLinked machine.program → IsTyped machine.program
+        → HasEnums machine.program
+        → (arguments : List (List ℕ)) (input : List ℕ) → AllByRecursion IsText arguments
+        → length arguments ≤ most_elements → RunGives machine arguments input → (steps : ℕ)
+        → IsTypedState machine.program (at machine arguments input steps) }
+    ensures goes_on { (machine : Machine) → IsLinked machine.program → IsTyped machine.program
+        → HasEnums machine.program
+        → (arguments : List (List ℕ)) (input : List ℕ) → AllByRecursion IsText arguments
+        → length arguments ≤ most_elements → RunGives machine arguments input → (steps : ℕ)
+        → outcome (at machine arguments input steps) ≡ Running
+        → (next : State) × (step machine (at machine arguments input steps) ≡ Some next) }
+    ensures ended { (machine : Machine) (state : State) → ¬ (outcome state ≡ Running) → step machine state ≡ None }
 {}
