@@ -25,23 +25,23 @@ use Rattle.cb_interp.specs.Effects.{behind as behind_of, behind_computation, beh
 use Rattle.cb_interp.specs.Steps.{StandsBefore, computes_to, steps_to, tests_to}
 
 module _ (now : Now) (pc : ℕ) (stands : StandsBefore now pc) where
-  stack_is : top_stack now.state.roots ≡ now.frame.stack
+  pub stack_is : top_stack now.state.roots ≡ now.frame.stack
   stack_is = ap (on_top [] stack_in) stands.frames
 
   locals_are : top_locals now.state.roots ≡ now.frame.locals
   locals_are = ap (on_top [] locals_in) stands.frames
 
   -- with another stack, on at the next place or elsewhere
-  leaves_so : (stack : List Value) → leaves now stack ≡ steps_to now pc (Some (stacked now.state.roots stack))
+  pub leaves_so : (stack : List Value) → leaves now stack ≡ steps_to now pc (Some (stacked now.state.roots stack))
   leaves_so stack =
       ap (option_map (λ pc. goes_to now pc now.frame.locals stack (leaving now.state))) stands.next
       ∙ ap (λ frames. Some (leaving (with_frames now.state (changed_in (placed_at pc) (changed_in (with_stack (λ before. stack)) frames))))) (sym stands.frames)
 
-  goes_so : (target : ℕ) (stack : List Value) → Some (goes_to now target now.frame.locals stack (leaving now.state)) ≡ steps_to now target (Some (stacked now.state.roots stack))
+  pub goes_so : (target : ℕ) (stack : List Value) → Some (goes_to now target now.frame.locals stack (leaving now.state)) ≡ steps_to now target (Some (stacked now.state.roots stack))
   goes_so target stack =
       ap (λ frames. Some (leaving (with_frames now.state (changed_in (placed_at target) (changed_in (with_stack (λ before. stack)) frames))))) (sym stands.frames)
 
-  pushed_so : (value : Value) → leaves now (value ∷ now.frame.stack) ≡ steps_to now pc (Some (pushed now.state.roots value))
+  pub pushed_so : (value : Value) → leaves now (value ∷ now.frame.stack) ≡ steps_to now pc (Some (pushed now.state.roots value))
   pushed_so value =
       ap (option_map (λ pc. goes_to now pc now.frame.locals (value ∷ now.frame.stack) (leaving now.state))) stands.next
       ∙ ap (λ frames. Some (leaving (with_frames now.state (changed_in (placed_at pc) (changed_in (with_stack (λ stack. value ∷ stack)) frames))))) (sym stands.frames)

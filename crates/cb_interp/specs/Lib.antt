@@ -1,2 +1,11 @@
+pub mod Changing
+pub mod Classes
 pub mod Effects
+pub mod Framing
+pub mod Going
+pub mod Keeping
+pub mod Objects
+pub mod Placing
 pub mod Steps
+pub mod Unwound
+pub mod Within

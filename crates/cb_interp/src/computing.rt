@@ -38,8 +38,10 @@ pub fn compute(roots: &mut Roots, computation: Computation) -> bool
 
 /// An operation on two ints.
 fn of_ints(roots: &mut Roots, op: IntOp) -> bool
-    requires there { is_some (computed_on (computations.OfInts op) (top_stack roots.old.roots)) ≡ true }
-    ensures behind { behind_computation (computations.OfInts op) roots.old.roots ≡ Some roots.new.roots }
+    requires there { is_some (computed_on (computations.OfInts op) (top_stack roots.old.roots))
+        ≡ true }
+    ensures behind { behind_computation (computations.OfInts op) roots.old.roots
+        ≡ Some roots.new.roots }
     ensures limit { roots.new.limit ≡ roots.old.limit }
     ensures gave { gave (computations.OfInts op) roots.old.roots ≡ Some result }
 {
@@ -56,8 +58,10 @@ fn of_ints(roots: &mut Roots, op: IntOp) -> bool
 
 /// An operation on two longs.
 fn of_longs(roots: &mut Roots, op: LongOp) -> bool
-    requires there { is_some (computed_on (computations.OfLongs op) (top_stack roots.old.roots)) ≡ true }
-    ensures behind { behind_computation (computations.OfLongs op) roots.old.roots ≡ Some roots.new.roots }
+    requires there { is_some (computed_on (computations.OfLongs op) (top_stack roots.old.roots))
+        ≡ true }
+    ensures behind { behind_computation (computations.OfLongs op) roots.old.roots
+        ≡ Some roots.new.roots }
     ensures limit { roots.new.limit ≡ roots.old.limit }
     ensures gave { gave (computations.OfLongs op) roots.old.roots ≡ Some result }
 {
@@ -74,8 +78,10 @@ fn of_longs(roots: &mut Roots, op: LongOp) -> bool
 
 /// A shift of a long.
 fn shift_long(roots: &mut Roots, op: ShiftOp) -> bool
-    requires there { is_some (computed_on (computations.ShiftLong op) (top_stack roots.old.roots)) ≡ true }
-    ensures behind { behind_computation (computations.ShiftLong op) roots.old.roots ≡ Some roots.new.roots }
+    requires there { is_some (computed_on (computations.ShiftLong op) (top_stack roots.old.roots))
+        ≡ true }
+    ensures behind { behind_computation (computations.ShiftLong op) roots.old.roots
+        ≡ Some roots.new.roots }
     ensures limit { roots.new.limit ≡ roots.old.limit }
     ensures gave { gave (computations.ShiftLong op) roots.old.roots ≡ Some result }
 {
@@ -87,8 +93,10 @@ fn shift_long(roots: &mut Roots, op: ShiftOp) -> bool
 
 /// `lcmp`
 fn compare_longs(roots: &mut Roots) -> bool
-    requires there { is_some (computed_on computations.CompareLongs (top_stack roots.old.roots)) ≡ true }
-    ensures behind { behind_computation computations.CompareLongs roots.old.roots ≡ Some roots.new.roots }
+    requires there { is_some (computed_on computations.CompareLongs (top_stack roots.old.roots))
+        ≡ true }
+    ensures behind { behind_computation computations.CompareLongs roots.old.roots
+        ≡ Some roots.new.roots }
     ensures limit { roots.new.limit ≡ roots.old.limit }
     ensures gave { gave computations.CompareLongs roots.old.roots ≡ Some result }
 {
@@ -100,8 +108,10 @@ fn compare_longs(roots: &mut Roots) -> bool
 
 /// `ineg`
 fn negate_int(roots: &mut Roots) -> bool
-    requires there { is_some (computed_on computations.NegateInt (top_stack roots.old.roots)) ≡ true }
-    ensures behind { behind_computation computations.NegateInt roots.old.roots ≡ Some roots.new.roots }
+    requires there { is_some (computed_on computations.NegateInt (top_stack roots.old.roots))
+        ≡ true }
+    ensures behind { behind_computation computations.NegateInt roots.old.roots
+        ≡ Some roots.new.roots }
     ensures limit { roots.new.limit ≡ roots.old.limit }
     ensures gave { gave computations.NegateInt roots.old.roots ≡ Some result }
 {
@@ -117,8 +127,10 @@ fn negate_int(roots: &mut Roots) -> bool
 
 /// `lneg`
 fn negate_long(roots: &mut Roots) -> bool
-    requires there { is_some (computed_on computations.NegateLong (top_stack roots.old.roots)) ≡ true }
-    ensures behind { behind_computation computations.NegateLong roots.old.roots ≡ Some roots.new.roots }
+    requires there { is_some (computed_on computations.NegateLong (top_stack roots.old.roots))
+        ≡ true }
+    ensures behind { behind_computation computations.NegateLong roots.old.roots
+        ≡ Some roots.new.roots }
     ensures limit { roots.new.limit ≡ roots.old.limit }
     ensures gave { gave computations.NegateLong roots.old.roots ≡ Some result }
 {
@@ -134,8 +146,10 @@ fn negate_long(roots: &mut Roots) -> bool
 
 /// `i2l`
 fn int_to_long(roots: &mut Roots) -> bool
-    requires there { is_some (computed_on computations.IntToLong (top_stack roots.old.roots)) ≡ true }
-    ensures behind { behind_computation computations.IntToLong roots.old.roots ≡ Some roots.new.roots }
+    requires there { is_some (computed_on computations.IntToLong (top_stack roots.old.roots))
+        ≡ true }
+    ensures behind { behind_computation computations.IntToLong roots.old.roots
+        ≡ Some roots.new.roots }
     ensures limit { roots.new.limit ≡ roots.old.limit }
     ensures gave { gave computations.IntToLong roots.old.roots ≡ Some result }
 {
@@ -146,8 +160,10 @@ fn int_to_long(roots: &mut Roots) -> bool
 
 /// `l2i`
 fn long_to_int(roots: &mut Roots) -> bool
-    requires there { is_some (computed_on computations.LongToInt (top_stack roots.old.roots)) ≡ true }
-    ensures behind { behind_computation computations.LongToInt roots.old.roots ≡ Some roots.new.roots }
+    requires there { is_some (computed_on computations.LongToInt (top_stack roots.old.roots))
+        ≡ true }
+    ensures behind { behind_computation computations.LongToInt roots.old.roots
+        ≡ Some roots.new.roots }
     ensures limit { roots.new.limit ≡ roots.old.limit }
     ensures gave { gave computations.LongToInt roots.old.roots ≡ Some result }
 {
@@ -158,8 +174,10 @@ fn long_to_int(roots: &mut Roots) -> bool
 
 /// `i2b`, `i2c`, `i2s`
 fn make_narrow(roots: &mut Roots, to: Narrow) -> bool
-    requires there { is_some (computed_on (computations.MakeNarrow to) (top_stack roots.old.roots)) ≡ true }
-    ensures behind { behind_computation (computations.MakeNarrow to) roots.old.roots ≡ Some roots.new.roots }
+    requires there { is_some (computed_on (computations.MakeNarrow to) (top_stack roots.old.roots))
+        ≡ true }
+    ensures behind { behind_computation (computations.MakeNarrow to) roots.old.roots
+        ≡ Some roots.new.roots }
     ensures limit { roots.new.limit ≡ roots.old.limit }
     ensures gave { gave (computations.MakeNarrow to) roots.old.roots ≡ Some result }
 {
@@ -170,9 +188,11 @@ fn make_narrow(roots: &mut Roots, to: Narrow) -> bool
 
 /// `iconst_m1` to `sipush`
 fn int_constant(roots: &mut Roots, number: i32) -> bool
-    requires there { is_some (computed_on (computations.IntConstant number) (top_stack roots.old.roots)) ≡ true }
+    requires there { is_some (computed_on (computations.IntConstant number)
+        (top_stack roots.old.roots)) ≡ true }
     requires room { 0 < top_room roots.old.roots }
-    ensures behind { behind_computation (computations.IntConstant number) roots.old.roots ≡ Some roots.new.roots }
+    ensures behind { behind_computation (computations.IntConstant number) roots.old.roots
+        ≡ Some roots.new.roots }
     ensures limit { roots.new.limit ≡ roots.old.limit }
     ensures gave { gave (computations.IntConstant number) roots.old.roots ≡ Some result }
 {
@@ -182,9 +202,11 @@ fn int_constant(roots: &mut Roots, number: i32) -> bool
 
 /// `lconst_0`, `lconst_1`
 fn long_constant(roots: &mut Roots, number: i64) -> bool
-    requires there { is_some (computed_on (computations.LongConstant number) (top_stack roots.old.roots)) ≡ true }
+    requires there { is_some (computed_on (computations.LongConstant number)
+        (top_stack roots.old.roots)) ≡ true }
     requires room { 0 < top_room roots.old.roots }
-    ensures behind { behind_computation (computations.LongConstant number) roots.old.roots ≡ Some roots.new.roots }
+    ensures behind { behind_computation (computations.LongConstant number) roots.old.roots
+        ≡ Some roots.new.roots }
     ensures limit { roots.new.limit ≡ roots.old.limit }
     ensures gave { gave (computations.LongConstant number) roots.old.roots ≡ Some result }
 {

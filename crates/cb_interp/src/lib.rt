@@ -1,19 +1,51 @@
-//! The machine's run: so far what instructions do that change nothing but the local variables and the stack of the topmost frame, over
-//! the roots of a running machine. Nothing runs by it yet.
+//! The machine's run: so far what one instruction does, over the roots of a running machine and any store of objects. Nothing runs by it
+//! yet.
 //!
-//! `specs/Effects.antt` says what each leaves of the roots, and `None` where what it takes isn't there; `specs/Steps.antt` what that has to do
-//! with the machine's step. No call takes memory, and each takes constant time.
+//! `specs/` says what each leaves, and `None` where what it takes isn't there: of the roots `Effects`, `Framing` (those that change the topmost
+//! frame alone, as whole steps) and `Going` (switches, static fields, returns); of roots and objects `Objects` (fields and elements),
+//! `Classes` (casts) and `Placing` (exceptions and new objects). `Steps` says what that has to do with the machine's step. No call takes
+//! memory, and each takes constant time where it doesn't say otherwise.
 #![tactic(auto)]
 
+mod arrays;
+mod classes;
 mod computing;
+mod fields;
+mod framing;
+mod keeping;
 mod law;
 mod moving;
 mod operands;
+mod placing;
+mod references;
+mod returning;
 mod shuffling;
+mod sites;
+mod statics;
+mod switching;
 mod testing;
+mod unwinding;
+mod words;
 
+pub use arrays::{array_length, load_element, store_element, store_reference};
+pub use classes::{cast, fits, instance, throw_object};
 pub use computing::compute;
-pub use law::{effects_are_read, effects_as_said};
+pub use fields::{get_field, put_field};
+pub use framing::frame_step;
+pub use keeping::{
+    calls_are_kept, frames_are_kept, initialisations_are_kept, keeping_goes_on, makings_are_kept,
+    next_states_are_kept, objects_are_kept, steps_are_kept,
+};
+pub use law::{
+    classes_as_said, effects_are_read, effects_as_said, frames_as_said, going_as_said,
+    going_is_read, objects_as_said, placing_as_said, unwinding_as_said,
+};
 pub use moving::{increase, load, store};
+pub use placing::{make_array, make_object, throw};
+pub use references::test_references;
+pub use returning::give_back;
 pub use shuffling::shuffle;
+pub use statics::{get_static, put_static};
+pub use switching::switch;
 pub use testing::test;
+pub use unwinding::catch;

@@ -34,7 +34,8 @@ pub(crate) fn long_at(roots: &Roots, below: u32) -> i64
 /// Puts a value in place of the topmost one.
 pub(crate) fn give_for_one(roots: &mut Roots, value: Value)
     requires { 0 < length (top_stack roots.old.roots) }
-    ensures { roots.new ≡ with_roots roots.old (stacked roots.old.roots (value ∷ drop 1 (top_stack roots.old.roots))) }
+    ensures { roots.new ≡ with_roots roots.old (stacked roots.old.roots (value ∷ drop 1
+        (top_stack roots.old.roots))) }
 {
     roots.pop();
     roots.push(value);
@@ -43,7 +44,8 @@ pub(crate) fn give_for_one(roots: &mut Roots, value: Value)
 /// Puts a value in place of the two topmost ones.
 pub(crate) fn give_for_two(roots: &mut Roots, value: Value)
     requires { 1 < length (top_stack roots.old.roots) }
-    ensures { roots.new ≡ with_roots roots.old (stacked roots.old.roots (value ∷ drop 2 (top_stack roots.old.roots))) }
+    ensures { roots.new ≡ with_roots roots.old (stacked roots.old.roots (value ∷ drop 2
+        (top_stack roots.old.roots))) }
 {
     roots.pop();
     roots.pop();
@@ -53,7 +55,8 @@ pub(crate) fn give_for_two(roots: &mut Roots, value: Value)
 /// Puts two values on the stack, the second upon the first.
 pub(crate) fn push_two(roots: &mut Roots, first: Value, second: Value)
     requires { 1 < top_room roots.old.roots }
-    ensures pushed { roots.new ≡ with_roots roots.old (stacked roots.old.roots (second ∷ first ∷ top_stack roots.old.roots)) }
+    ensures pushed { roots.new ≡ with_roots roots.old (stacked roots.old.roots
+        (second ∷ first ∷ top_stack roots.old.roots)) }
     ensures room { top_room roots.old.roots ≡ top_room roots.new.roots + 2 }
 {
     roots.push(first);
@@ -63,7 +66,8 @@ pub(crate) fn push_two(roots: &mut Roots, first: Value, second: Value)
 /// Takes the topmost value.
 pub(crate) fn take_one(roots: &mut Roots)
     requires { 0 < length (top_stack roots.old.roots) }
-    ensures { roots.new ≡ with_roots roots.old (stacked roots.old.roots (drop 1 (top_stack roots.old.roots))) }
+    ensures { roots.new ≡ with_roots roots.old (stacked roots.old.roots (drop 1
+        (top_stack roots.old.roots))) }
 {
     roots.pop();
 }
@@ -71,18 +75,30 @@ pub(crate) fn take_one(roots: &mut Roots)
 /// Takes the two topmost values.
 pub(crate) fn take_two(roots: &mut Roots)
     requires { 1 < length (top_stack roots.old.roots) }
-    ensures { roots.new ≡ with_roots roots.old (stacked roots.old.roots (drop 2 (top_stack roots.old.roots))) }
+    ensures { roots.new ≡ with_roots roots.old (stacked roots.old.roots (drop 2
+        (top_stack roots.old.roots))) }
 {
     roots.pop();
     roots.pop();
 }
 
-/// The place of the object, or 0 for null, to which the topmost value refers.
-pub(crate) fn reference_on_top(roots: &Roots) -> u64
-    requires { has_sort sorts.Reference (slice_get (top_stack roots.now.roots) 0) ≡ true }
-    ensures { slice_get (top_stack roots.now.roots) 0 ≡ Some (values.Ref result) }
+/// Takes the three topmost values.
+pub(crate) fn take_three(roots: &mut Roots)
+    requires { 2 < length (top_stack roots.old.roots) }
+    ensures { roots.new ≡ with_roots roots.old (stacked roots.old.roots (drop 3
+        (top_stack roots.old.roots))) }
 {
-    match roots.peek(0) {
+    roots.pop();
+    roots.pop();
+    roots.pop();
+}
+
+/// The place of the object, or 0 for null, to which the value at a depth of the stack refers.
+pub(crate) fn reference_at(roots: &Roots, below: u32) -> u64
+    requires { has_sort sorts.Reference (slice_get (top_stack roots.now.roots) below) ≡ true }
+    ensures { slice_get (top_stack roots.now.roots) below ≡ Some (values.Ref result) }
+{
+    match roots.peek(below) {
         Value::Ref(at) => at,
         Value::Int(_) | Value::Long(_) => 0,
     }

@@ -179,7 +179,8 @@ fn dup2_x2(roots: &mut Roots)
 fn lay_around(roots: &mut Roots, a: Value, b: Value)
     requires there { is_some (around a b (top_stack roots.old.roots)) ≡ true }
     requires room { 4 ≤ top_room roots.old.roots }
-    ensures behind { option_map (stacked roots.old.roots) (around a b (top_stack roots.old.roots)) ≡ Some roots.new.roots }
+    ensures behind { option_map (stacked roots.old.roots) (around a b (top_stack roots.old.roots))
+        ≡ Some roots.new.roots }
     ensures limit { roots.new.limit ≡ roots.old.limit }
 {
     let c = roots.pop();

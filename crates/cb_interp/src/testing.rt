@@ -4,7 +4,7 @@ ghost use Rattle.cb_frames.specs.Tops.{top_stack};
 ghost use Rattle.cb_shapes.specs.declared.test.Condition.TheVariants as conditions;
 ghost use Rattle.cb_interp.specs.Effects.{behind_test, compares_references, tested_on, told};
 
-use crate::operands::{int_at, reference_on_top, take_one, take_two};
+use crate::operands::{int_at, reference_at, take_one, take_two};
 use cb_frames::Roots;
 use cb_shapes::{Condition, Test};
 
@@ -58,7 +58,7 @@ fn is_null(roots: &mut Roots, is: bool) -> bool
     ensures limit { roots.new.limit ≡ roots.old.limit }
     ensures told { told (conditions.IsNull is) roots.old.roots ≡ Some result }
 {
-    let a = reference_on_top(roots);
+    let a = reference_at(roots, 0);
     take_one(roots);
     (a == 0) == is
 }
