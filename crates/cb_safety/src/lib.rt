@@ -9,33 +9,50 @@
 //! (`Initialisers`). `Loaded` and `Linked` say what loading and linking ensure of a program, and `Sound` all that then holds of one that is typed.
 //! What a program may ask of a typed state that runs the machine step by step is in `Room`, `Words` and `There`.
 //!
+//! The laws on programs are in `src/programs.rt`, those on next states in `next_states.rt` and, at calls of natives, `natives.rt`, and what a
+//! program may ask in `room.rt` and `words.rt`.
+//!
 //! In a program that is linked and typed a typed state whose run goes on has a next state, which is typed too, if a native that it calls
 //! has one (`linked_programs_advance`). Natives have one (`natives_advance`) where the constants of enums are of kinds below Enum, the strings
 //! and builders that natives are given are built, and the input is bytes. The state with which a run begins is typed, so a run in which
 //! natives are given such (`Given`) never gets stuck (`runs_advance`).
 #![tactic(auto)]
 
-mod law;
+mod natives;
+mod next_states;
+mod programs;
+mod room;
+mod words;
 
-pub use law::{
-    answer_natives_advance, arguments_fit, array_natives_advance, arrays_hold_elements,
-    arrays_made_advance, arrays_measured, beginning_advances, begins, box_natives_advance,
-    callers_fit, catchers_fit, caught_fits, causes_are_kept, classes_go_above, classes_own_kinds,
-    constants_advance, constructor_calls_advance, covered_frames_fit, division_keeps_types,
-    elements_read, elements_written, entered_fits, enum_natives_advance, exceptions_are_thrown,
-    fields_read, fields_written, flows, frames_advance, frames_fit, frames_name_objects,
-    initialisation_begins, initialising_advances, instructions_name_classes,
-    instructions_name_fields, instructions_name_kinds, instructions_name_statics,
-    interface_calls_advance, kinds_hold_on, kinds_hold_own, kinds_hold_through,
-    linked_has_constants, linked_has_initialisers, linked_has_main, linked_has_natives,
-    linked_has_start, linked_is_sound, linked_objects_advance, linked_programs,
-    linked_programs_advance, linked_special_calls_advance, linked_static_calls_advance,
-    linked_unwinding_advances, linking_links, natives_advance, new_advances,
-    number_natives_advance, objects_advance, outside_natives_advance, own_field_natives_advance,
-    pushes_fit, references_are_asked, references_are_read, references_are_written, returns_advance,
-    returns_fit, runs_advance, shuffles_fit, special_calls_advance, spelled_rises,
-    standing_frames_fit, start_is_typed, static_calls_advance, statics_advance, statics_read,
-    statics_written, tables_name_objects, text_natives_advance, throw_advances,
-    throwing_keeps_types, typed_states_are_closed, unwinding_advances, virtual_calls_advance,
-    waiting_frames_fit, well_formed_code, whole_has_sites, whole_has_texts, words_name_objects,
+pub use natives::{
+    answer_natives_advance, array_natives_advance, box_natives_advance, enum_natives_advance,
+    natives_advance, number_natives_advance, outside_natives_advance, own_field_natives_advance,
+    text_natives_advance,
+};
+pub use next_states::{
+    arrays_made_advance, beginning_advances, constants_advance, constructor_calls_advance,
+    division_keeps_types, frames_advance, initialisation_begins, initialising_advances,
+    interface_calls_advance, linked_objects_advance, linked_programs_advance,
+    linked_special_calls_advance, linked_static_calls_advance, linked_unwinding_advances,
+    new_advances, objects_advance, returns_advance, runs_advance, special_calls_advance,
+    start_is_typed, static_calls_advance, statics_advance, throw_advances, throwing_keeps_types,
+    unwinding_advances, virtual_calls_advance,
+};
+pub use programs::{
+    arrays_hold_elements, begins, causes_are_kept, classes_go_above, classes_own_kinds,
+    exceptions_are_thrown, flows, instructions_name_classes, instructions_name_fields,
+    instructions_name_kinds, instructions_name_statics, kinds_hold_on, kinds_hold_own,
+    kinds_hold_through, linked_has_constants, linked_has_initialisers, linked_has_main,
+    linked_has_natives, linked_has_start, linked_is_sound, linked_programs, linking_links,
+    spelled_rises, well_formed_code, whole_has_sites, whole_has_texts,
+};
+pub use room::{
+    arguments_fit, callers_fit, catchers_fit, caught_fits, covered_frames_fit, entered_fits,
+    frames_fit, pushes_fit, returns_fit, shuffles_fit, standing_frames_fit, waiting_frames_fit,
+};
+pub use words::{
+    arrays_measured, elements_read, elements_written, fields_read, fields_written,
+    frames_name_objects, references_are_asked, references_are_read, references_are_written,
+    statics_read, statics_written, tables_name_objects, typed_states_are_closed,
+    words_name_objects,
 };

@@ -1,5 +1,0 @@
-use Rattle.cb_safety.proofs.Arguments.{arguments_fit}
-use Rattle.cb_safety.proofs.law.arguments_fit.Goals as goal
-
-pub returns : goal.returns
-returns c = arguments_fit

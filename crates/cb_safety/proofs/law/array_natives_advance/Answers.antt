@@ -1,5 +1,0 @@
-use Rattle.cb_safety.proofs.ArrayNatives.{arrays_advance}
-use Rattle.cb_safety.proofs.law.array_natives_advance.Goals as goal
-
-pub returns : goal.returns
-returns c = arrays_advance

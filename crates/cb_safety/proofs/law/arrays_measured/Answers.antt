@@ -1,5 +1,0 @@
-use Rattle.cb_safety.proofs.ArrayWords.{arrays_measured}
-use Rattle.cb_safety.proofs.law.arrays_measured.Goals as goal
-
-pub returns : goal.returns
-returns c = arrays_measured

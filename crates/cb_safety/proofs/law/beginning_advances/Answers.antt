@@ -1,5 +1,0 @@
-use Rattle.cb_safety.proofs.Main.{beginning_advances}
-use Rattle.cb_safety.proofs.law.beginning_advances.Goals as goal
-
-pub returns : goal.returns
-returns c = beginning_advances

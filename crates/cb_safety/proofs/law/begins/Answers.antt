@@ -1,5 +1,0 @@
-use Rattle.cb_safety.proofs.Beginning.{method_begins}
-use Rattle.cb_safety.proofs.law.begins.Goals as goal
-
-pub returns : goal.returns
-returns c = method_begins

@@ -1,5 +1,0 @@
-use Rattle.cb_safety.proofs.Boxes.{boxes_advance}
-use Rattle.cb_safety.proofs.law.box_natives_advance.Goals as goal
-
-pub returns : goal.returns
-returns c = boxes_advance

@@ -1,5 +1,0 @@
-use Rattle.cb_safety.proofs.Rooms.{callers_fit}
-use Rattle.cb_safety.proofs.law.callers_fit.Goals as goal
-
-pub returns : goal.returns
-returns c = callers_fit

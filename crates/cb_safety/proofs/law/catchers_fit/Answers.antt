@@ -1,5 +1,0 @@
-use Rattle.cb_safety.proofs.Rooms.{catchers_fit}
-use Rattle.cb_safety.proofs.law.catchers_fit.Goals as goal
-
-pub returns : goal.returns
-returns c = catchers_fit

@@ -1,5 +1,0 @@
-use Rattle.cb_safety.proofs.Causes.{keeps_cause}
-use Rattle.cb_safety.proofs.law.causes_are_kept.Goals as goal
-
-pub returns : goal.returns
-returns c = keeps_cause

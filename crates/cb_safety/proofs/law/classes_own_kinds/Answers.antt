@@ -1,5 +1,0 @@
-use Rattle.cb_safety.proofs.OwnKinds.{own_kinds}
-use Rattle.cb_safety.proofs.law.classes_own_kinds.Goals as goal
-
-pub returns : goal.returns
-returns c = own_kinds

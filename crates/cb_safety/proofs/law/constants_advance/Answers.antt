@@ -1,5 +1,0 @@
-use Rattle.cb_safety.proofs.Constants.{constants_advance}
-use Rattle.cb_safety.proofs.law.constants_advance.Goals as goal
-
-pub returns : goal.returns
-returns c = constants_advance

@@ -1,5 +1,0 @@
-use Rattle.cb_safety.proofs.ArrayWords.{elements_written}
-use Rattle.cb_safety.proofs.law.elements_written.Goals as goal
-
-pub returns : goal.returns
-returns c = elements_written

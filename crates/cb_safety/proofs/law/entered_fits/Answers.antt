@@ -1,5 +1,0 @@
-use Rattle.cb_safety.proofs.Arguments.{entered_fits}
-use Rattle.cb_safety.proofs.law.entered_fits.Goals as goal
-
-pub returns : goal.returns
-returns c = entered_fits

@@ -1,5 +1,0 @@
-use Rattle.cb_safety.proofs.OnStack.{fields_read}
-use Rattle.cb_safety.proofs.law.fields_read.Goals as goal
-
-pub returns : goal.returns
-returns c = fields_read

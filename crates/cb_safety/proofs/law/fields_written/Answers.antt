@@ -1,5 +1,0 @@
-use Rattle.cb_safety.proofs.OnStack.{fields_written}
-use Rattle.cb_safety.proofs.law.fields_written.Goals as goal
-
-pub returns : goal.returns
-returns c = fields_written

@@ -1,5 +1,0 @@
-use Rattle.cb_safety.proofs.Advancing.{frames_advance}
-use Rattle.cb_safety.proofs.law.frames_advance.Goals as goal
-
-pub returns : goal.returns
-returns c = frames_advance

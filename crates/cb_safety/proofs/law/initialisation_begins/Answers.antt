@@ -1,5 +1,0 @@
-use Rattle.cb_safety.proofs.Begun.{initialisation_begins}
-use Rattle.cb_safety.proofs.law.initialisation_begins.Goals as goal
-
-pub returns : goal.returns
-returns c = initialisation_begins

@@ -1,5 +1,0 @@
-use Rattle.cb_safety.proofs.StaticNames.{names_static}
-use Rattle.cb_safety.proofs.law.instructions_name_statics.Goals as goal
-
-pub returns : goal.returns
-returns c = names_static

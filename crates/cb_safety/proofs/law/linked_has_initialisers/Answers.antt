@@ -1,5 +1,0 @@
-use Rattle.cb_safety.proofs.Initialisers.{has_initialisers}
-use Rattle.cb_safety.proofs.law.linked_has_initialisers.Goals as goal
-
-pub returns : goal.returns
-returns c = has_initialisers

@@ -1,5 +1,0 @@
-use Rattle.cb_safety.proofs.LinkedNatives.{has_natives}
-use Rattle.cb_safety.proofs.law.linked_has_natives.Goals as goal
-
-pub returns : goal.returns
-returns c = has_natives

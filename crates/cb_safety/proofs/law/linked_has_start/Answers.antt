@@ -1,5 +1,0 @@
-use Rattle.cb_safety.proofs.Streams.{has_start}
-use Rattle.cb_safety.proofs.law.linked_has_start.Goals as goal
-
-pub returns : goal.returns
-returns c = has_start

@@ -1,5 +1,0 @@
-use Rattle.cb_safety.proofs.LinkedCalls.{linked_special_calls_advance}
-use Rattle.cb_safety.proofs.law.linked_special_calls_advance.Goals as goal
-
-pub returns : goal.returns
-returns c = linked_special_calls_advance

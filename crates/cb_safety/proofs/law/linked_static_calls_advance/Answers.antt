@@ -1,5 +1,0 @@
-use Rattle.cb_safety.proofs.StaticCalls.{linked_static_calls_advance}
-use Rattle.cb_safety.proofs.law.linked_static_calls_advance.Goals as goal
-
-pub returns : goal.returns
-returns c = linked_static_calls_advance

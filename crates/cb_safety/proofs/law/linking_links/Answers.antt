@@ -1,5 +1,0 @@
-use Rattle.cb_safety.proofs.Loading.{linking_links}
-use Rattle.cb_safety.proofs.law.linking_links.Goals as goal
-
-pub returns : goal.returns
-returns c = linking_links

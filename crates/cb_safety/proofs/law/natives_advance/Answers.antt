@@ -1,5 +1,0 @@
-use Rattle.cb_safety.proofs.EveryNative.{natives_advance}
-use Rattle.cb_safety.proofs.law.natives_advance.Goals as goal
-
-pub returns : goal.returns
-returns c = natives_advance

@@ -1,5 +1,0 @@
-use Rattle.cb_safety.proofs.Answering.{numbers_advance}
-use Rattle.cb_safety.proofs.law.number_natives_advance.Goals as goal
-
-pub returns : goal.returns
-returns c = numbers_advance

@@ -1,5 +1,0 @@
-use Rattle.cb_safety.proofs.Objects.{objects_advance}
-use Rattle.cb_safety.proofs.law.objects_advance.Goals as goal
-
-pub returns : goal.returns
-returns c = objects_advance

@@ -1,5 +1,0 @@
-use Rattle.cb_safety.proofs.Outside.{outside_advances}
-use Rattle.cb_safety.proofs.law.outside_natives_advance.Goals as goal
-
-pub returns : goal.returns
-returns c = outside_advances

@@ -1,5 +1,0 @@
-use Rattle.cb_safety.proofs.Asked.{references_are_asked}
-use Rattle.cb_safety.proofs.law.references_are_asked.Goals as goal
-
-pub returns : goal.returns
-returns c = references_are_asked

@@ -1,5 +1,0 @@
-use Rattle.cb_safety.proofs.ArrayWords.{references_are_read}
-use Rattle.cb_safety.proofs.law.references_are_read.Goals as goal
-
-pub returns : goal.returns
-returns c = references_are_read

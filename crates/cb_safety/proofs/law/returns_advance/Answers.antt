@@ -1,5 +1,0 @@
-use Rattle.cb_safety.proofs.Returning.{returns_advance}
-use Rattle.cb_safety.proofs.law.returns_advance.Goals as goal
-
-pub returns : goal.returns
-returns c = returns_advance

@@ -1,5 +1,0 @@
-use Rattle.cb_safety.proofs.Pushes.{returns_fit}
-use Rattle.cb_safety.proofs.law.returns_fit.Goals as goal
-
-pub returns : goal.returns
-returns c = returns_fit

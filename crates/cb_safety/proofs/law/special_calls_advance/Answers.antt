@@ -1,5 +1,0 @@
-use Rattle.cb_safety.proofs.Special.{special_calls_advance}
-use Rattle.cb_safety.proofs.law.special_calls_advance.Goals as goal
-
-pub returns : goal.returns
-returns c = special_calls_advance

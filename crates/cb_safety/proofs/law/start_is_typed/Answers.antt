@@ -1,5 +1,0 @@
-use Rattle.cb_safety.proofs.Starting.{start_is_typed}
-use Rattle.cb_safety.proofs.law.start_is_typed.Goals as goal
-
-pub returns : goal.returns
-returns c = start_is_typed

@@ -1,5 +1,0 @@
-use Rattle.cb_safety.proofs.StaticWords.{statics_read}
-use Rattle.cb_safety.proofs.law.statics_read.Goals as goal
-
-pub returns : goal.returns
-returns c = statics_read

@@ -1,5 +1,0 @@
-use Rattle.cb_safety.proofs.StaticWords.{statics_written}
-use Rattle.cb_safety.proofs.law.statics_written.Goals as goal
-
-pub returns : goal.returns
-returns c = statics_written

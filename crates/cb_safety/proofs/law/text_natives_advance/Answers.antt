@@ -1,5 +1,0 @@
-use Rattle.cb_safety.proofs.Texts.{texts_advance}
-use Rattle.cb_safety.proofs.law.text_natives_advance.Goals as goal
-
-pub returns : goal.returns
-returns c = texts_advance

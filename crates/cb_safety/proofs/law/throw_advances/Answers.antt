@@ -1,5 +1,0 @@
-use Rattle.cb_safety.proofs.Throws.{throw_advances}
-use Rattle.cb_safety.proofs.law.throw_advances.Goals as goal
-
-pub returns : goal.returns
-returns c = throw_advances

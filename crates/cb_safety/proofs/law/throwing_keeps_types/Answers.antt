@@ -1,5 +1,0 @@
-use Rattle.cb_safety.proofs.Throwing.{throws_typed}
-use Rattle.cb_safety.proofs.law.throwing_keeps_types.Goals as goal
-
-pub returns : goal.returns
-returns c = throws_typed

@@ -1,5 +1,0 @@
-use Rattle.cb_safety.proofs.Rooms.{waiting_frames_fit}
-use Rattle.cb_safety.proofs.law.waiting_frames_fit.Goals as goal
-
-pub returns : goal.returns
-returns c = waiting_frames_fit

@@ -1,5 +1,0 @@
-use Rattle.cb_safety.proofs.Coded.{well_formed_code, well_formed_spelled}
-use Rattle.cb_safety.proofs.law.well_formed_code.Goals as goal
-
-pub returns : goal.returns
-returns c = λ program formed. (well_formed_spelled program formed, well_formed_code program formed)

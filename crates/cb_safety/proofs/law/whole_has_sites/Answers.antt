@@ -1,5 +1,0 @@
-use Rattle.cb_safety.proofs.Sited.{has_sites}
-use Rattle.cb_safety.proofs.law.whole_has_sites.Goals as goal
-
-pub returns : goal.returns
-returns c = has_sites

@@ -1,5 +1,0 @@
-use Rattle.cb_safety.proofs.Texted.{whole_texts}
-use Rattle.cb_safety.proofs.law.whole_has_texts.Goals as goal
-
-pub returns : goal.returns
-returns c = λ program text units whole formed is. whole_texts program whole formed text units is

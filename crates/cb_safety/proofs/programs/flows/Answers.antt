@@ -1,0 +1,5 @@
+use Rattle.cb_safety.proofs.Laws.{flows}
+use Rattle.cb_safety.proofs.programs.flows.Goals as goal
+
+pub returns : goal.returns
+returns c = flows
