@@ -1,200 +1,181 @@
 // A program and its record, and programs that have none.
-use cb_asm_line::{
-    CatchLine, CodeLine, CodeText, FieldText, Frame, FrameLine, FrameType, Instruction, Label,
-    MemberText, MethodText, Operand, Program, Value,
-};
+use crate::classfile::described::push_record;
+use crate::rows::{check, same};
+use cb_asm_line::{CodeText, FrameLine, MethodText, Program, Statement, read_line};
 use cb_asm_record::record;
-use cb_classfile::{ClassFile, MapType};
-use cb_insn::{Operand as InsnOperand, opcode};
+use cb_classfile::ClassFile;
 use cb_plain::List;
-use cb_text::{MemberKind, Units};
-use std::alloc::Global;
+use cb_text::Units;
+use std::alloc::{AllocError, Global};
 use std::test::Fail;
 
-/// A text of ASCII.
-fn units(alloc: Global, text: &[u8]) -> Result<Units, Fail> {
+/// What the class of the tests has, and what its method has up to a jump.
+const MEMBERS: &str = "implements B/field static+final F J long 7/L1:/ldc text \"hi\"/L2:/\
+    invokeinterface interface B f (J[JLJ;I)V";
+
+fn units(alloc: Global, text: &str) -> Result<Units, AllocError> {
     let mut units = Units::new(alloc);
-    for byte in text {
+    for byte in text.as_bytes() {
         units.push(u16::from(*byte))?;
     }
     Ok(units)
 }
 
-/// A label of one digit.
-fn label(alloc: Global, digit: u8) -> Result<Label, Fail> {
-    let mut label = Label::new(alloc);
-    label.push(digit)?;
-    Ok(label)
-}
-
-/// Adds an instruction.
-fn push(lines: &mut List<CodeLine>, opcode: u8, operand: Operand) -> Result<(), Fail> {
-    lines.push(CodeLine::Do(Instruction {
-        opcode,
-        wide: false,
-        operand,
-    }))?;
-    Ok(())
-}
-
-/// Lines with the labels 1 at 0, 2 at 2 and 3 at the end, where a `goto` to the label `target` stands.
-fn lines(alloc: Global, target: u8) -> Result<List<CodeLine>, Fail> {
-    let mut lines = List::new(alloc);
-    lines.push(CodeLine::Here(label(alloc, b'1')?))?;
-    let text = Operand::Load(Value::Text(units(alloc, b"hi")?));
-    push(&mut lines, opcode::LDC, text)?;
-    lines.push(CodeLine::Here(label(alloc, b'2')?))?;
-    let member = MemberText {
-        kind: MemberKind::InterfaceMethod,
-        class: units(alloc, b"B")?,
-        name: units(alloc, b"f")?,
-        descriptor: units(alloc, b"(J[JLJ;I)V")?,
-    };
-    push(&mut lines, opcode::INVOKEINTERFACE, Operand::Member(member))?;
-    let branch = Operand::Branch(label(alloc, target)?);
-    push(&mut lines, opcode::GOTO, branch)?;
-    lines.push(CodeLine::Here(label(alloc, b'3')?))?;
-    push(&mut lines, opcode::RETURN, Operand::Nothing)?;
-    Ok(lines)
-}
-
-/// A frame at a label, with an `A` as its one local.
-fn frame(alloc: Global, place: u8) -> Result<FrameLine, Fail> {
-    let mut locals = List::new(alloc);
-    locals.push(FrameType::Object(units(alloc, b"A")?))?;
-    Ok(FrameLine::Full(Frame {
-        place: label(alloc, place)?,
-        locals,
-        stack: List::new(alloc),
-    }))
-}
-
-/// Code with those lines, an entry of the exception table and frames at two labels.
-fn code(alloc: Global, target: u8, first: u8, second: u8) -> Result<CodeText, Fail> {
-    let mut catches = List::new(alloc);
-    catches.push(CatchLine {
-        start: label(alloc, b'1')?,
-        end: label(alloc, b'3')?,
-        handler: label(alloc, b'2')?,
-        class: None,
-    })?;
-    let mut frames = List::new(alloc);
-    frames.push(frame(alloc, first)?)?;
-    frames.push(frame(alloc, second)?)?;
-    Ok(CodeText {
-        stack: 2,
-        locals: 1,
-        lines: lines(alloc, target)?,
-        catches,
-        frames,
-    })
-}
-
-/// A class with a constant field and a method with that code.
-fn program(alloc: Global, code: CodeText) -> Result<Program, Fail> {
-    let mut fields = List::new(alloc);
-    fields.push(FieldText {
-        flags: 0x18,
-        name: units(alloc, b"F")?,
-        descriptor: units(alloc, b"J")?,
-        value: Some(Value::Long(7)),
-    })?;
-    let mut methods = List::new(alloc);
-    methods.push(MethodText {
-        flags: 0x01,
-        name: units(alloc, b"m")?,
-        descriptor: units(alloc, b"()V")?,
-        code: Some(code),
-    })?;
-    let mut interfaces = List::new(alloc);
-    interfaces.push(units(alloc, b"B")?)?;
+/// A class `A` below `O`, without members.
+fn class(alloc: Global) -> Result<Program, AllocError> {
     Ok(Program {
         major: 50,
         flags: 0x21,
-        name: units(alloc, b"A")?,
-        superclass: Some(units(alloc, b"O")?),
-        interfaces,
-        fields,
-        methods,
+        name: units(alloc, "A")?,
+        superclass: Some(units(alloc, "O")?),
+        interfaces: List::new(alloc),
+        fields: List::new(alloc),
+        methods: List::new(alloc),
     })
 }
 
-/// The record of a program that has one.
-fn made(alloc: Global, program: &Program) -> Result<ClassFile, Fail> {
-    match record(alloc, program)? {
-        Some(class) => Ok(class),
-        None => Err(Fail::new("no record")),
+fn no_code(alloc: Global) -> CodeText {
+    CodeText {
+        stack: 2,
+        locals: 1,
+        lines: List::new(alloc),
+        catches: List::new(alloc),
+        frames: List::new(alloc),
     }
 }
 
-#[test]
-fn constants_are_numbered_as_they_are_used(rt: HostRuntime) -> Result<(), Fail> {
-    let program = program(rt.alloc(), code(rt.alloc(), b'2', b'2', b'3')?)?;
-    let class = made(rt.alloc(), &program)?;
-    // A 1 and 2, O 3 and 4, B 5 and 6, F 7, J 8, ConstantValue 9, the long 10 and 11, m 12, ()V 13, Code 14, hi 15 and 16,
-    // f 17, its descriptor 18, both 19, the method 20 and StackMapTable 21.
-    assert_eq!(rt; class.pool.len(), 22);
-    assert_eq!(rt; (class.this_class, class.super_class), (2, 4));
-    assert_eq!(rt; class.interfaces.as_slice(), [6].as_slice());
-    assert_eq!(rt; class.pool.long(10), Some(7));
-    assert_eq!(rt; (class.fields.len(), class.methods.len()), (1, 1));
-    for field in class.fields.as_slice() {
-        assert_eq!(rt;
-            (field.name, field.descriptor, field.constant),
-            (7, 8, Some(10))
-        );
+/// A method `m` of this code.
+fn method(alloc: Global, code: CodeText) -> Result<MethodText, AllocError> {
+    Ok(MethodText {
+        flags: 0x01,
+        name: units(alloc, "m")?,
+        descriptor: units(alloc, "()V")?,
+        code: Some(code),
+    })
+}
+
+/// Adds what a line says to the class or to the code of its method.
+fn add(program: &mut Program, code: &mut CodeText, statement: Statement) -> Result<(), AllocError> {
+    match statement {
+        Statement::Implements(name) => program.interfaces.push(name),
+        Statement::Field(field) => program.fields.push(field),
+        Statement::Code(line) => code.lines.push(line),
+        Statement::Catch(entry) => code.catches.push(entry),
+        Statement::Frame(frame) => code.frames.push(FrameLine::Full(frame)),
+        _ => Ok(()),
     }
-    for method in class.methods.as_slice() {
-        assert_eq!(rt;
-            (method.name, method.descriptor, method.body.is_some()),
-            (12, 13, true)
-        );
+}
+
+/// Adds what lines say, between which there are slashes.
+fn add_lines(
+    program: &mut Program,
+    code: &mut CodeText,
+    alloc: Global,
+    lines: &str,
+) -> Result<(), Fail> {
+    for line in lines.split('/') {
+        let statement = read_line(alloc, line.as_bytes())?.ok_or("no line")?;
+        add(program, code, statement)?;
     }
     Ok(())
 }
 
-#[test]
-fn labels_become_places(rt: HostRuntime) -> Result<(), Fail> {
-    let program = program(rt.alloc(), code(rt.alloc(), b'2', b'2', b'3')?)?;
-    let class = made(rt.alloc(), &program)?;
+/// Adds members, with a method of the code that the lines have behind those above.
+fn add_members(program: &mut Program, alloc: Global, lines: &str) -> Result<(), Fail> {
+    let mut code = no_code(alloc);
+    add_lines(program, &mut code, alloc, MEMBERS)?;
+    add_lines(program, &mut code, alloc, lines)?;
+    let method = method(alloc, code)?;
+    Ok(program.methods.push(method)?)
+}
+
+fn program(alloc: Global, lines: &str) -> Result<Program, Fail> {
+    let mut program = class(alloc)?;
+    add_members(&mut program, alloc, lines)?;
+    Ok(program)
+}
+
+/// The record of the class with these lines.
+fn made(alloc: Global, lines: &str) -> Result<Option<ClassFile>, Fail> {
+    let program = program(alloc, lines)?;
+    Ok(record(alloc, &program)?)
+}
+
+/// Adds a line for the indices of the class, its superclass and interfaces, and for the fields and the long at the index 10.
+fn push_indices(out: &mut String, class: &ClassFile) -> Result<(), AllocError> {
+    let interfaces = class.interfaces.as_slice();
+    let fields = class.fields.as_slice();
+    let this_class = class.this_class;
+    let super_class = class.super_class;
+    writeln!(out, "{this_class} {super_class} {interfaces:?} {fields:?}")?;
+    writeln!(out, "{:?}", class.pool.long(10))
+}
+
+/// Adds a line for the indices of each method's name and descriptor.
+fn push_methods(out: &mut String, class: &ClassFile) -> Result<(), AllocError> {
     for method in class.methods.as_slice() {
-        let Some(body) = &method.body else {
-            return Err(Fail::new("no body"));
-        };
-        assert_eq!(rt;
-            (body.code.len(), body.handlers.len(), body.frames.len()),
-            (4, 1, 2)
-        );
-        let places = [(0, 16, 0, 0), (2, 20, 6, 0), (7, 0, 0, 2), (10, 0, 0, 0)];
-        for ((pc, insn), place) in body.code.as_slice().iter().zip(places) {
-            let told = match &insn.operand {
-                InsnOperand::Pool(index) => (*pc, *index, 0, 0),
-                InsnOperand::Interface { pool, count } => (*pc, *pool, *count, 0),
-                InsnOperand::Branch(target) => (*pc, 0, 0, *target),
-                _ => (*pc, 0, 0, 0),
-            };
-            assert_eq!(rt; told, place);
-        }
-        for entry in body.handlers.as_slice() {
-            assert_eq!(rt;
-                (entry.start, entry.end, entry.handler, entry.catch_type),
-                (0, 10, 2, 0)
-            );
-        }
-        for (frame, delta) in body.frames.as_slice().iter().zip([2, 7]) {
-            assert_eq!(rt; (frame.kind, frame.delta), (255, delta));
-            assert_eq!(rt; frame.locals.as_slice(), [MapType::Object(2)].as_slice());
-        }
+        writeln!(out, "{} {}", method.name, method.descriptor)?;
     }
     Ok(())
 }
 
+/// Adds the record, and the indices in it.
+fn push_class(out: &mut String, class: &ClassFile) -> Result<(), AllocError> {
+    push_record(out, class)?;
+    push_indices(out, class)?;
+    push_methods(out, class)
+}
+
+/// The record of the class with these lines, line by line.
+fn told(alloc: Global, lines: &str) -> Result<String, Fail> {
+    let mut out = String::new(alloc);
+    push_made(&mut out, alloc, lines)?;
+    Ok(out)
+}
+
+fn push_made(out: &mut String, alloc: Global, lines: &str) -> Result<(), Fail> {
+    match made(alloc, lines)? {
+        Some(class) => Ok(push_class(out, &class)?),
+        None => Ok(out.push_str("no record")?),
+    }
+}
+
+/// The record of the class whose labels stand as they should. Of its constants are A 1 and 2, O 3 and 4, B 5 and 6, F 7, J 8,
+/// ConstantValue 9, the long 10 and 11, m 12, ()V 13, Code 14, hi 15 and 16, f 17, its descriptor 18, both 19, the method 20
+/// and StackMapTable 21.
+const TOLD: &str = "\
+version 50.0 pool 22
+class 0021 A O
+implements B
+field 0018 F J 10
+method 0001 m ()V
+code 2 1: 0 12 16, 2 B9 20 6, 7 A7 2, 10 B1,
+handler 0 10 2 any
+frame 255 2 [ class A ] [ ]
+frame 255 7 [ class A ] [ ]
+2 4 [6] [Field { flags: FieldFlags(24), name: 7, descriptor: 8, constant: Some(10) }]
+Some(7)
+12 13
+";
+
+#[test]
+fn constants_are_numbered_as_they_are_used_and_labels_become_places(
+    rt: HostRuntime,
+) -> Result<(), Fail> {
+    let lines = "goto L2/L3:/return/catch L1 L3 L2 any/\
+        frame L2 locals object:A stack -/frame L3 locals object:A stack -";
+    let found = told(rt.alloc(), lines)?;
+    same(&rt, found.as_str(), TOLD);
+    Ok(())
+}
+
+/// A label that isn't there, a frame before another, and one at the same place.
 #[test]
 fn labels_that_do_not_stand_as_they_should(rt: HostRuntime) -> Result<(), Fail> {
-    for (target, first, second) in [(b'4', b'2', b'3'), (b'2', b'3', b'2'), (b'2', b'2', b'2')] {
-        let program = program(rt.alloc(), code(rt.alloc(), target, first, second)?)?;
-        let found = record(rt.alloc(), &program)?;
-        assert!(rt; found.is_none());
-    }
-    Ok(())
+    let rows = "
+        goto L4/L3:/return/catch L1 L3 L2 any/frame L2 locals object:A stack -/frame L3 locals object:A stack - | no record
+        goto L2/L3:/return/catch L1 L3 L2 any/frame L3 locals object:A stack -/frame L2 locals object:A stack - | no record
+        goto L2/L3:/return/catch L1 L3 L2 any/frame L2 locals object:A stack -/frame L2 locals object:A stack - | no record
+    ";
+    check(&rt, rt.alloc(), rows, told)
 }

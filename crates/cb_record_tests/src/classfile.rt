@@ -1,69 +1,19 @@
 // Class files as JVMS chapter 4 has them, and files with one fault each. That `<clinit>` is static, takes and gives
 // nothing and has code is a rule of this machine.
 mod costs;
-mod described;
+pub(crate) mod described;
 mod files;
 mod left_out;
 mod opened;
 mod real_classes;
 mod spelled;
+mod versions;
 
 use described::check_record;
 use files::{
-    BEHIND_POOL, BODY, CONSTANTS, FIELDS, FRAMES, HANDLERS, INSNS, METHODS, POOL, SE_8, answer,
-    check,
+    BEHIND_POOL, BODY, CONSTANTS, FIELDS, FRAMES, HANDLERS, INSNS, METHODS, SE_8, check, file_of,
 };
-use spelled::spelled;
 use std::test::Fail;
-
-/// What stands behind the version of a class `A` without members (JVMS §4.1).
-const CONTENTS: &str = "0005 01 0001 41 07 0001 01 0010 6A6176612F6C616E672F4F626A656374 07 0003 \
-    0021 0002 0004 0000 0000 0000 0000";
-
-#[test]
-fn a_class_without_members_is_read_as_a_whole_alone(rt: HostRuntime) -> Result<(), Fail> {
-    let bytes = spelled(rt.alloc(), &[SE_8, CONTENTS])?;
-    assert_eq!(rt; bytes.len(), 53);
-    let record = "
-        version 52.0 pool 5
-        class 0021 A java/lang/Object
-    ";
-    check_record(&rt, rt.alloc(), &bytes, record)?;
-    for length in 0..53 {
-        let cut = bytes.get(..length).ok_or("no such length")?;
-        let found = answer(rt.alloc(), cut)?;
-        assert_eq!(rt; found.as_str(), "malformed", "of {length} bytes");
-    }
-    Ok(())
-}
-
-#[test]
-fn the_version_is_told_before_what_stands_behind_it(rt: HostRuntime) -> Result<(), Fail> {
-    for (before, behind, want) in [
-        ("", "", "malformed"),
-        ("CAFEBABE 0000 0034", CONTENTS, "read"),
-        ("CAFEBABE 0000 0034", "0005 01", "malformed"),
-        ("CAFEBABE 0000 0033", CONTENTS, "read"),
-        ("CAFEBABE 0000 0032", CONTENTS, "read"),
-        ("CAFEBABE FFFF 0034", CONTENTS, "read"),
-        ("CAFEBABE 0000 0035", CONTENTS, "version 53"),
-        ("CAFEBABE 0000 0035", "", "version 53"),
-        ("CAFEBABE 0000 0035", "FFFF FF", "version 53"),
-        ("CAFEBABE 0000 00", "", "malformed"),
-        ("CAFEBABE 0000 0031", CONTENTS, "version 49"),
-        ("CAFEBABE 0003 002D", "", "version 45"),
-        ("CAFEBABE 0034 0000", CONTENTS, "version 0"),
-        ("CAFEBABE 0000 FFFF", CONTENTS, "version 65535"),
-        ("CAFEBABF 0000 0034", CONTENTS, "malformed"),
-        ("CAFED00D 0000 0035", CONTENTS, "malformed"),
-        ("BEBAFECA 0000 0035", "", "malformed"),
-    ] {
-        let bytes = spelled(rt.alloc(), &[before, behind])?;
-        let found = answer(rt.alloc(), &bytes)?;
-        assert_eq!(rt; found.as_str(), want, "at {before} {behind}");
-    }
-    Ok(())
-}
 
 #[test]
 fn constants_keep_the_grammars_of_names_and_descriptors(rt: HostRuntime) -> Result<(), Fail> {
@@ -292,33 +242,36 @@ fn frames_have_kinds_and_types(rt: HostRuntime) -> Result<(), Fail> {
     check(&rt, rt.alloc(), FRAMES, rows)
 }
 
+/// Frames of each form.
+const EACH_FORM: &str =
+    "00, 3F, 40 00, 7F 05, F7 0102 04, F8 0000, F9 FFFF, FA 0001, FB 0203, FC 0004 06, \
+    FD 0005 00 07 0002, FE 0006 01 08 0304 05, FF 0007 (01, 07 0018) (04), FF 0008 () ()";
+
+const EACH_FORM_TOLD: &str = "\
+version 52.0 pool 45
+class 0021 A java/lang/Object
+method 0009 f ()V
+code 2 2: 0 B1,
+frame 0 0 [ ] [ ]
+frame 63 63 [ ] [ ]
+frame 64 0 [ ] [ Top ]
+frame 127 63 [ ] [ Null ]
+frame 247 258 [ ] [ Long ]
+frame 248 0 [ ] [ ]
+frame 249 65535 [ ] [ ]
+frame 250 1 [ ] [ ]
+frame 251 515 [ ] [ ]
+frame 252 4 [ UninitializedThis ] [ ]
+frame 253 5 [ Top class A ] [ ]
+frame 254 6 [ int Uninitialized(772) Null ] [ ]
+frame 255 7 [ int class [I ] [ Long ]
+frame 255 8 [ ] [ ]
+";
+
 #[test]
 fn frames_of_each_form_have_their_parts(rt: HostRuntime) -> Result<(), Fail> {
-    let frames =
-        "00, 3F, 40 00, 7F 05, F7 0102 04, F8 0000, F9 FFFF, FA 0001, FB 0203, FC 0004 06, FD 0005 00 07 0002, \
-        FE 0006 01 08 0304 05, FF 0007 (01, 07 0018) (04), FF 0008 () ()";
-    let bytes = spelled(rt.alloc(), &[SE_8, POOL, FRAMES.0, frames, FRAMES.1])?;
-    let record = "
-        version 52.0 pool 45
-        class 0021 A java/lang/Object
-        method 0009 f ()V
-        code 2 2: 0 B1,
-        frame 0 0 [ ] [ ]
-        frame 63 63 [ ] [ ]
-        frame 64 0 [ ] [ Top ]
-        frame 127 63 [ ] [ Null ]
-        frame 247 258 [ ] [ Long ]
-        frame 248 0 [ ] [ ]
-        frame 249 65535 [ ] [ ]
-        frame 250 1 [ ] [ ]
-        frame 251 515 [ ] [ ]
-        frame 252 4 [ UninitializedThis ] [ ]
-        frame 253 5 [ Top class A ] [ ]
-        frame 254 6 [ int Uninitialized(772) Null ] [ ]
-        frame 255 7 [ int class [I ] [ Long ]
-        frame 255 8 [ ] [ ]
-    ";
-    check_record(&rt, rt.alloc(), &bytes, record)
+    let bytes = file_of(rt.alloc(), SE_8, FRAMES, EACH_FORM)?;
+    check_record(&rt, rt.alloc(), &bytes, EACH_FORM_TOLD)
 }
 
 #[test]
@@ -356,60 +309,4 @@ fn instructions_name_constants_of_their_kinds(rt: HostRuntime) -> Result<(), Fai
         a fault in a later instruction           | B1 BB 0010                                 | malformed
     ";
     check(&rt, rt.alloc(), INSNS, rows)
-}
-
-#[test]
-fn direct_calls_of_interface_methods_come_with_version_52(rt: HostRuntime) -> Result<(), Fail> {
-    let both = "B7 000E B8 000E B9 000F 01 00";
-    for (version, insn, want) in [
-        ("CAFEBABE 0000 0032", "B7 000F", "malformed"),
-        ("CAFEBABE 0000 0033", "B7 000F", "malformed"),
-        ("CAFEBABE 0000 0034", "B7 000F", "read"),
-        ("CAFEBABE 0000 0032", "B8 000F", "malformed"),
-        ("CAFEBABE 0000 0033", "B8 000F", "malformed"),
-        ("CAFEBABE 0000 0034", "B8 000F", "read"),
-        ("CAFEBABE 0000 0033", both, "read"),
-    ] {
-        let bytes = spelled(rt.alloc(), &[version, POOL, INSNS.0, insn, INSNS.1])?;
-        let found = answer(rt.alloc(), &bytes)?;
-        assert_eq!(rt; found.as_str(), want, "{insn} at {version}");
-    }
-    Ok(())
-}
-
-#[test]
-fn what_the_verifier_looks_at_is_read(rt: HostRuntime) -> Result<(), Fail> {
-    let constructor = "0001 0015 002D (0007 {0000 0001 {B1} () ()})";
-    for (constants, around, part, what) in [
-        (
-            "01 '()I'",
-            METHODS,
-            constructor,
-            "a constructor that gives an int",
-        ),
-        (
-            "01 '255*[I', 07 002D",
-            INSNS,
-            "BD 002E",
-            "anewarray of 255 dimensions",
-        ),
-        (
-            "0C 0015 0006, 0A 0002 002D",
-            INSNS,
-            "B6 002E",
-            "invokevirtual of a constructor",
-        ),
-        (
-            "0C 0005 0026, 0A 0002 002D",
-            INSNS,
-            "B6 002E",
-            "invokevirtual of 255 words",
-        ),
-    ] {
-        let file = [SE_8, POOL, ",", constants, around.0, part, around.1];
-        let bytes = spelled(rt.alloc(), &file)?;
-        let found = answer(rt.alloc(), &bytes)?;
-        assert_eq!(rt; found.as_str(), "read", "{what}");
-    }
-    Ok(())
 }

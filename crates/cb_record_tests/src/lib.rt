@@ -15,4 +15,10 @@ mod classfile;
 #[cfg(test)]
 mod core_records;
 #[cfg(test)]
+mod files;
+#[cfg(test)]
+mod rows;
+#[cfg(test)]
+mod texts;
+#[cfg(test)]
 mod writer;

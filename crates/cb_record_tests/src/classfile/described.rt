@@ -1,9 +1,10 @@
 // Records of classes as texts, with what `javap -v -p` prints of them.
-use super::files::answer;
-use cb_classfile::{Body, ClassFile, Field, Handler, MapFrame, MapType, Method, read_class};
-use cb_insn::{Insn, Operand};
-use cb_text::Constant;
-use std::alloc::Global;
+use super::files::check_answer;
+use crate::rows::same;
+use crate::texts::{push_class_name, push_member};
+use cb_classfile::{Body, ClassFile, Field, Handler, MapFrame, MapType, Method, Pool, read_class};
+use cb_insn::{Insn, Operand, Pair};
+use std::alloc::{AllocError, Global};
 use std::process::Abort;
 use std::test::Fail;
 
@@ -15,121 +16,144 @@ pub(crate) fn check_record(
     record: &str,
 ) -> Result<(), Fail> {
     let found = record_of(alloc, bytes)?;
-    let want = lines_of(alloc, record)?;
-    assert_eq!(rt; found.as_str(), want.as_str());
+    same(rt, found.as_str(), record);
+    check_alone(rt, alloc, bytes)
+}
+
+fn check_alone(rt: &impl Abort, alloc: Global, bytes: &[u8]) -> Result<(), Fail> {
     let cut = bytes.split_last().ok_or("no byte")?.1;
-    assert_eq!(rt; answer(alloc, cut)?.as_str(), "malformed");
+    check_answer(rt, alloc, cut, "malformed")?;
+    let longer = longer(alloc, bytes)?;
+    check_answer(rt, alloc, &longer, "malformed")
+}
+
+/// Bytes with one more.
+fn longer(alloc: Global, bytes: &[u8]) -> Result<Vec<u8>, AllocError> {
     let mut longer = bytes.to_vec(alloc)?;
     longer.push(0)?;
-    assert_eq!(rt; answer(alloc, &longer)?.as_str(), "malformed");
-    Ok(())
+    Ok(longer)
 }
 
 fn record_of(alloc: Global, bytes: &[u8]) -> Result<String, Fail> {
     let class = read_class(alloc, bytes)?;
-    described(alloc, &class)
+    let mut out = String::new(alloc);
+    push_record(&mut out, &class)?;
+    Ok(out)
 }
 
-/// The lines of a text without the blanks before them.
-fn lines_of(alloc: Global, text: &str) -> Result<String, Fail> {
-    let mut lines = String::new(alloc);
-    for line in text.trim().lines() {
-        lines.push_str(line.trim())?;
-        lines.push_str("\n")?;
-    }
-    Ok(lines)
-}
-
-/// A line for the version and the count of the constant pool, the class, each superinterface, field and method, and for
+/// Adds a line for the version and the count of the constant pool, the class, each superinterface, field and method, and for
 /// the code, each handler and each frame of a method. Flags and opcodes are hexadecimal.
-fn described(alloc: Global, class: &ClassFile) -> Result<String, Fail> {
-    let mut lines = described_head(alloc, class)?;
-    for index in class.interfaces.as_slice() {
-        let name = class_at(alloc, class, u16::try_from(*index)?)?;
-        lines.push_str(&format!(in alloc; "implements {name}\n")?)?;
-    }
-    for field in class.fields.as_slice() {
-        lines.push_str(&described_field(alloc, class, field)?)?;
-    }
-    for method in class.methods.as_slice() {
-        lines.push_str(&described_method(alloc, class, method)?)?;
-    }
-    Ok(lines)
+pub(crate) fn push_record(out: &mut String, class: &ClassFile) -> Result<(), AllocError> {
+    push_version(out, class)?;
+    push_class(out, class)?;
+    push_interfaces(out, class)?;
+    push_fields(out, class)?;
+    push_methods(out, class)
 }
 
-fn described_head(alloc: Global, class: &ClassFile) -> Result<String, Fail> {
+fn push_version(out: &mut String, class: &ClassFile) -> Result<(), AllocError> {
     let major = class.major;
     let minor = class.minor;
     let count = class.pool.len();
-    let mut lines = format!(in alloc; "version {major}.{minor} pool {count}\n")?;
-    let flags = class.flags.0;
-    let name = class_at(alloc, class, class.this_class)?;
-    let superclass = class_at(alloc, class, class.super_class)?;
-    lines.push_str(&format!(in alloc; "class {flags:04X} {name} {superclass}\n")?)?;
-    Ok(lines)
+    writeln!(out, "version {major}.{minor} pool {count}")
 }
 
-fn described_field(alloc: Global, class: &ClassFile, field: &Field) -> Result<String, Fail> {
-    let flags = field.flags.0;
-    let name = text_at(alloc, class, field.name)?;
-    let descriptor = text_at(alloc, class, field.descriptor)?;
-    match field.constant {
-        Some(index) => Ok(format!(in alloc; "field {flags:04X} {name} {descriptor} {index}\n")?),
-        None => Ok(format!(in alloc; "field {flags:04X} {name} {descriptor}\n")?),
+fn push_class(out: &mut String, class: &ClassFile) -> Result<(), AllocError> {
+    write!(out, "class {:04X}", class.flags.0)?;
+    push_class_name(out, &class.pool, class.this_class)?;
+    push_class_name(out, &class.pool, class.super_class)?;
+    out.push('\n')
+}
+
+fn push_interfaces(out: &mut String, class: &ClassFile) -> Result<(), AllocError> {
+    for interface in class.interfaces.as_slice() {
+        out.push_str("implements")?;
+        push_class_name(out, &class.pool, u16::try_from(*interface).unwrap_or(0))?;
+        out.push('\n')?;
+    }
+    Ok(())
+}
+
+fn push_fields(out: &mut String, class: &ClassFile) -> Result<(), AllocError> {
+    for field in class.fields.as_slice() {
+        push_field(out, &class.pool, field)?;
+    }
+    Ok(())
+}
+
+fn push_field(out: &mut String, pool: &Pool, field: &Field) -> Result<(), AllocError> {
+    write!(out, "field {:04X}", field.flags.0)?;
+    push_member(out, pool, field.name, field.descriptor)?;
+    push_number(out, field.constant.map(i64::from))?;
+    out.push('\n')
+}
+
+fn push_methods(out: &mut String, class: &ClassFile) -> Result<(), AllocError> {
+    for method in class.methods.as_slice() {
+        push_method(out, &class.pool, method)?;
+    }
+    Ok(())
+}
+
+fn push_method(out: &mut String, pool: &Pool, method: &Method) -> Result<(), AllocError> {
+    write!(out, "method {:04X}", method.flags.0)?;
+    push_member(out, pool, method.name, method.descriptor)?;
+    out.push('\n')?;
+    match &method.body {
+        Some(body) => push_body(out, pool, body),
+        None => Ok(()),
     }
 }
 
-fn described_method(alloc: Global, class: &ClassFile, method: &Method) -> Result<String, Fail> {
-    let flags = method.flags.0;
-    let name = text_at(alloc, class, method.name)?;
-    let descriptor = text_at(alloc, class, method.descriptor)?;
-    let mut lines = format!(in alloc; "method {flags:04X} {name} {descriptor}\n")?;
-    if let Some(body) = &method.body {
-        lines.push_str(&described_code(alloc, body)?)?;
-        for handler in body.handlers.as_slice() {
-            lines.push_str(&described_handler(alloc, class, *handler)?)?;
-        }
-        for frame in body.frames.as_slice() {
-            lines.push_str(&described_frame(alloc, class, frame)?)?;
-        }
-    }
-    Ok(lines)
+fn push_body(out: &mut String, pool: &Pool, body: &Body) -> Result<(), AllocError> {
+    push_code(out, body)?;
+    push_handlers(out, pool, body)?;
+    push_frames(out, pool, body)
 }
 
-fn described_code(alloc: Global, body: &Body) -> Result<String, Fail> {
+fn push_code(out: &mut String, body: &Body) -> Result<(), AllocError> {
     let stack = body.max_stack;
     let locals = body.max_locals;
-    let mut line = format!(in alloc; "code {stack} {locals}:")?;
+    write!(out, "code {stack} {locals}:")?;
     for (place, insn) in body.code.as_slice() {
-        let insn = described_insn(alloc, insn)?;
-        line.push_str(&format!(in alloc; " {place} {insn},")?)?;
+        push_insn(out, *place, insn)?;
     }
-    line.push_str("\n")?;
-    Ok(line)
+    out.push('\n')
 }
 
-/// The opcode and the numbers of the operand. Those of a switch stand in the order of the file, and targets are places.
-fn described_insn(alloc: Global, insn: &Insn) -> Result<String, Fail> {
-    let mut line = format!(in alloc; "{:02X}", insn.opcode)?;
+/// Adds the place, the opcode and the numbers of the operand. Those of a switch stand in the order of the file, and targets
+/// are places.
+fn push_insn(out: &mut String, place: u32, insn: &Insn) -> Result<(), AllocError> {
+    let opcode = insn.opcode;
     let (first, second) = numbers(&insn.operand);
-    for number in [first, second] {
-        add(alloc, &mut line, number)?;
+    write!(out, " {place} {opcode:02X}")?;
+    push_number(out, first)?;
+    push_number(out, second)?;
+    push_switch(out, &insn.operand)?;
+    out.push(',')
+}
+
+/// Adds the targets of a switch.
+fn push_switch(out: &mut String, operand: &Operand) -> Result<(), AllocError> {
+    match operand {
+        Operand::Table { targets, .. } => push_targets(out, targets.as_slice()),
+        Operand::Lookup { pairs, .. } => push_pairs(out, pairs.as_slice()),
+        _ => Ok(()),
     }
-    match &insn.operand {
-        Operand::Table { targets, .. } => {
-            for target in targets.as_slice() {
-                add(alloc, &mut line, Some(i64::from(*target)))?;
-            }
-        }
-        Operand::Lookup { pairs, .. } => {
-            for pair in pairs.as_slice() {
-                add(alloc, &mut line, Some(i64::from(pair.key)))?;
-                add(alloc, &mut line, Some(i64::from(pair.target)))?;
-            }
-        }
-        _ => {}
+}
+
+fn push_targets(out: &mut String, targets: &[u32]) -> Result<(), AllocError> {
+    for target in targets {
+        write!(out, " {target}")?;
     }
-    Ok(line)
+    Ok(())
+}
+
+fn push_pairs(out: &mut String, pairs: &[Pair]) -> Result<(), AllocError> {
+    for pair in pairs {
+        write!(out, " {} {}", pair.key, pair.target)?;
+    }
+    Ok(())
 }
 
 /// The first numbers of an operand.
@@ -152,69 +176,67 @@ fn numbers(operand: &Operand) -> (Option<i64>, Option<i64>) {
 }
 
 /// Adds a number, if there is one.
-fn add(alloc: Global, line: &mut String, number: Option<i64>) -> Result<(), Fail> {
-    if let Some(number) = number {
-        line.push_str(&format!(in alloc; " {number}")?)?;
+fn push_number(out: &mut String, number: Option<i64>) -> Result<(), AllocError> {
+    match number {
+        Some(number) => write!(out, " {number}"),
+        None => Ok(()),
+    }
+}
+
+fn push_handlers(out: &mut String, pool: &Pool, body: &Body) -> Result<(), AllocError> {
+    for handler in body.handlers.as_slice() {
+        push_handler(out, pool, *handler)?;
     }
     Ok(())
 }
 
-fn described_handler(alloc: Global, class: &ClassFile, entry: Handler) -> Result<String, Fail> {
+fn push_handler(out: &mut String, pool: &Pool, entry: Handler) -> Result<(), AllocError> {
     let Handler {
         start,
         end,
         handler,
         catch_type,
     } = entry;
+    write!(out, "handler {start} {end} {handler}")?;
     if catch_type == 0 {
-        return Ok(format!(in alloc; "handler {start} {end} {handler} any\n")?);
+        return out.push_str(" any\n");
     }
-    let name = class_at(alloc, class, catch_type)?;
-    Ok(format!(in alloc; "handler {start} {end} {handler} {name}\n")?)
+    push_class_name(out, pool, catch_type)?;
+    out.push('\n')
 }
 
-fn described_frame(alloc: Global, class: &ClassFile, frame: &MapFrame) -> Result<String, Fail> {
+fn push_frames(out: &mut String, pool: &Pool, body: &Body) -> Result<(), AllocError> {
+    for frame in body.frames.as_slice() {
+        push_frame(out, pool, frame)?;
+    }
+    Ok(())
+}
+
+fn push_frame(out: &mut String, pool: &Pool, frame: &MapFrame) -> Result<(), AllocError> {
     let kind = frame.kind;
     let delta = frame.delta;
-    let mut line = format!(in alloc; "frame {kind} {delta} [")?;
-    for local in frame.locals.as_slice() {
-        line.push_str(&described_type(alloc, class, *local)?)?;
-    }
-    line.push_str(" ] [")?;
-    for item in frame.stack.as_slice() {
-        line.push_str(&described_type(alloc, class, *item)?)?;
-    }
-    line.push_str(" ]\n")?;
-    Ok(line)
+    write!(out, "frame {kind} {delta}")?;
+    push_types(out, pool, frame.locals.as_slice())?;
+    push_types(out, pool, frame.stack.as_slice())?;
+    out.push('\n')
 }
 
-fn described_type(alloc: Global, class: &ClassFile, kind: MapType) -> Result<String, Fail> {
+/// Adds types between brackets.
+fn push_types(out: &mut String, pool: &Pool, kinds: &[MapType]) -> Result<(), AllocError> {
+    out.push_str(" [")?;
+    for kind in kinds {
+        push_type(out, pool, *kind)?;
+    }
+    out.push_str(" ]")
+}
+
+fn push_type(out: &mut String, pool: &Pool, kind: MapType) -> Result<(), AllocError> {
     match kind {
-        MapType::Integer => Ok(format!(in alloc; " int")?),
+        MapType::Integer => out.push_str(" int"),
         MapType::Object(index) => {
-            let name = class_at(alloc, class, index)?;
-            Ok(format!(in alloc; " class {name}")?)
+            out.push_str(" class")?;
+            push_class_name(out, pool, index)
         }
-        _ => Ok(format!(in alloc; " {kind:?}")?),
+        _ => write!(out, " {kind:?}"),
     }
-}
-
-/// The name of the class at an index.
-fn class_at(alloc: Global, class: &ClassFile, index: u16) -> Result<String, Fail> {
-    match class.pool.get(index) {
-        Some(Constant::Class(name)) => text_at(alloc, class, *name),
-        _ => Err(Fail::new("no class")),
-    }
-}
-
-/// The text at an index, of ASCII.
-fn text_at(alloc: Global, class: &ClassFile, index: u16) -> Result<String, Fail> {
-    let Some(Constant::Utf8(units)) = class.pool.get(index) else {
-        return Err(Fail::new("no text"));
-    };
-    let mut text = String::new(alloc);
-    for unit in units.as_slice() {
-        text.push(char::from(u8::try_from(*unit)?))?;
-    }
-    Ok(text)
 }

@@ -1,5 +1,6 @@
 // Files that share their constants, and what the reader answers.
 use super::spelled::spelled;
+use crate::rows::same;
 use cb_classfile::{ClassFault, read_class};
 use std::alloc::Global;
 use std::process::Abort;
@@ -57,6 +58,22 @@ pub(crate) const FRAMES: Around<'static> = (
     ")})})) ()",
 );
 
+/// The file of a version with a part.
+pub(crate) fn file_of(
+    alloc: Global,
+    version: &str,
+    around: Around<'_>,
+    part: &str,
+) -> Result<Vec<u8>, Fail> {
+    spelled(alloc, &[version, POOL, around.0, part, around.1])
+}
+
+/// What the reader answers to the file with a part.
+pub(crate) fn told(alloc: Global, around: Around<'_>, part: &str) -> Result<String, Fail> {
+    let bytes = file_of(alloc, SE_8, around, part)?;
+    answer(alloc, &bytes)
+}
+
 /// Reads the file of each row, which has what it shows, its part of the file and the answer.
 pub(crate) fn check(
     rt: &impl Abort,
@@ -65,22 +82,44 @@ pub(crate) fn check(
     rows: &str,
 ) -> Result<(), Fail> {
     for row in rows.trim().lines() {
-        let (what, row) = row.split_once(" | ").ok_or("no part")?;
-        let (part, want) = row.split_once(" | ").ok_or("no answer")?;
-        let bytes = spelled(alloc, &[SE_8, POOL, around.0, part, around.1])?;
-        let found = answer(alloc, &bytes)?;
-        assert_eq!(rt; found.as_str(), want.trim(), "{what}");
+        check_row(rt, alloc, around, row)?;
     }
+    Ok(())
+}
+
+fn check_row(rt: &impl Abort, alloc: Global, around: Around<'_>, row: &str) -> Result<(), Fail> {
+    let (given, want) = row.rsplit_once(" | ").ok_or("no answer")?;
+    let (_, part) = given.split_once(" | ").ok_or("no part")?;
+    let found = told(alloc, around, part)?;
+    assert_eq!(rt; found.as_str(), want.trim(), "at {given}");
     Ok(())
 }
 
 /// What the reader answers, in a word or two.
 pub(crate) fn answer(alloc: Global, bytes: &[u8]) -> Result<String, Fail> {
     match read_class(alloc, bytes) {
-        Ok(_) => Ok(format!(in alloc; "read")?),
-        Err(ClassFault::BadVersion { major }) => Ok(format!(in alloc; "version {major}")?),
-        Err(ClassFault::Malformed) => Ok(format!(in alloc; "malformed")?),
-        Err(ClassFault::Unsupported { item }) => Ok(format!(in alloc; "{item}")?),
-        Err(ClassFault::OutOfMemory) => Err(Fail::new("out of memory")),
+        Ok(_) => Ok(String::from_str(alloc, "read")?),
+        Err(fault) => told_fault(alloc, fault),
+    }
+}
+
+/// Compares what the reader answers to bytes.
+pub(crate) fn check_answer(
+    rt: &impl Abort,
+    alloc: Global,
+    bytes: &[u8],
+    want: &str,
+) -> Result<(), Fail> {
+    let found = answer(alloc, bytes)?;
+    same(rt, found.as_str(), want);
+    Ok(())
+}
+
+fn told_fault(alloc: Global, fault: ClassFault) -> Result<String, Fail> {
+    match fault {
+        ClassFault::BadVersion { major } => Ok(format!(in alloc; "version {major}")?),
+        ClassFault::Malformed => Ok(String::from_str(alloc, "malformed")?),
+        ClassFault::Unsupported { item } => Ok(format!(in alloc; "{item}")?),
+        ClassFault::OutOfMemory => Err(Fail::new("out of memory")),
     }
 }

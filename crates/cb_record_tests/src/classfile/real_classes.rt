@@ -1,6 +1,6 @@
 // Real classes, as `javap -v -p` prints them.
 use super::described::check_record;
-use super::files::answer;
+use super::files::check_answer;
 use std::test::Fail;
 
 /// What `javac --release 8 -g:none` of JDK 17 wrote for this class.
@@ -182,104 +182,102 @@ const TASK: &[u8] =
     \x00\x00\x00\x0D\x00\x00\x00\x00\x00\x00\x00\x01\xB1\x00\x00\x00\x00\x00\x02\x00\x10\x00\x00\x00\x0C\x00\x01\x00\
     \x11\x00\x03\x00\x18\x00\x19\x00\x18\x00\x1C\x00\x00\x00\x0A\x00\x01\x00\x1D\x00\x1F\x00!\x00\x19";
 
+const HELLO_RECORD: &str = "\
+version 52.0 pool 25
+class 0020 Hello java/lang/Object
+method 0000 <init> ()V
+code 1 1: 0 2A, 1 B7 1, 4 B1,
+method 0009 main ([Ljava/lang/String;)V
+code 2 1: 0 B2 7, 3 12 13, 5 B6 15, 8 B1,
+";
+
 #[test]
 fn a_class_that_prints_hello(rt: HostRuntime) -> Result<(), Fail> {
-    let record = "
-        version 52.0 pool 25
-        class 0020 Hello java/lang/Object
-        method 0000 <init> ()V
-        code 1 1: 0 2A, 1 B7 1, 4 B1,
-        method 0009 main ([Ljava/lang/String;)V
-        code 2 1: 0 B2 7, 3 12 13, 5 B6 15, 8 B1,
-    ";
-    check_record(&rt, rt.alloc(), HELLO, record)
+    check_record(&rt, rt.alloc(), HELLO, HELLO_RECORD)
 }
+
+const NESTED_RECORD: &str = "\
+version 52.0 pool 30
+class 0020 Nested java/lang/Object
+method 0000 <init> ()V
+code 1 1: 0 2A, 1 B7 1, 4 B1,
+method 0008 work (I[Ljava/lang/String;)I
+code 2 5: 0 03, 1 3D, 2 1A, 3 AA 56 1 32 38 56 48, 32 2B, 33 BE, 34 3D, 35 A7 56, 38 2B, 39 1A, 40 32, \
+41 B6 7, 44 3D, 45 A7 56, 48 BB 13, 51 59, 52 B7 15, 55 BF, 56 A7 62, 59 4E, 60 02, 61 3D, 62 1C, \
+63 AB 99 -1000 88 70000 96, 88 1A, 89 3E, 90 1C, 91 1A, 92 60, 93 3D, 94 1D, 95 AC, 96 84 2 1, 99 1C, 100 1A, \
+101 60, 102 3D, 103 A7 115, 106 3A 4, 108 1C, 109 1A, 110 60, 111 3D, 112 19 4, 114 BF, 115 1C, 116 AC,
+handler 2 56 59 java/lang/NullPointerException
+handler 2 56 59 java/lang/ArrayIndexOutOfBoundsException
+handler 2 90 106 any
+handler 96 99 106 any
+handler 106 108 106 any
+frame 252 32 [ int ] [ ]
+frame 5 5 [ ] [ ]
+frame 9 9 [ ] [ ]
+frame 7 7 [ ] [ ]
+frame 66 2 [ ] [ class java/lang/RuntimeException ]
+frame 2 2 [ ] [ ]
+frame 25 25 [ ] [ ]
+frame 7 7 [ ] [ ]
+frame 2 2 [ ] [ ]
+frame 70 6 [ ] [ class java/lang/Throwable ]
+frame 8 8 [ ] [ ]
+";
 
 #[test]
 fn a_class_with_nested_handlers_and_switches(rt: HostRuntime) -> Result<(), Fail> {
-    let record = "
-        version 52.0 pool 30
-        class 0020 Nested java/lang/Object
-        method 0000 <init> ()V
-        code 1 1: 0 2A, 1 B7 1, 4 B1,
-        method 0008 work (I[Ljava/lang/String;)I
-        code 2 5: 0 03, 1 3D, 2 1A, 3 AA 56 1 32 38 56 48, 32 2B, 33 BE, 34 3D, 35 A7 56, 38 2B, 39 1A, 40 32, \
-        41 B6 7, 44 3D, 45 A7 56, 48 BB 13, 51 59, 52 B7 15, 55 BF, 56 A7 62, 59 4E, 60 02, 61 3D, 62 1C, \
-        63 AB 99 -1000 88 70000 96, 88 1A, 89 3E, 90 1C, 91 1A, 92 60, 93 3D, 94 1D, 95 AC, 96 84 2 1, 99 1C, 100 1A, \
-        101 60, 102 3D, 103 A7 115, 106 3A 4, 108 1C, 109 1A, 110 60, 111 3D, 112 19 4, 114 BF, 115 1C, 116 AC,
-        handler 2 56 59 java/lang/NullPointerException
-        handler 2 56 59 java/lang/ArrayIndexOutOfBoundsException
-        handler 2 90 106 any
-        handler 96 99 106 any
-        handler 106 108 106 any
-        frame 252 32 [ int ] [ ]
-        frame 5 5 [ ] [ ]
-        frame 9 9 [ ] [ ]
-        frame 7 7 [ ] [ ]
-        frame 66 2 [ ] [ class java/lang/RuntimeException ]
-        frame 2 2 [ ] [ ]
-        frame 25 25 [ ] [ ]
-        frame 7 7 [ ] [ ]
-        frame 2 2 [ ] [ ]
-        frame 70 6 [ ] [ class java/lang/Throwable ]
-        frame 8 8 [ ] [ ]
-    ";
-    check_record(&rt, rt.alloc(), NESTED, record)
+    check_record(&rt, rt.alloc(), NESTED, NESTED_RECORD)
 }
+
+const SHAPE_RECORD: &str = "\
+version 52.0 pool 31
+class 0600 Shape java/lang/Object
+implements java/lang/Cloneable
+implements java/lang/Comparable
+field 0019 LIMIT I 26
+method 0401 area ()J
+method 0001 compareTo (LShape;)I
+code 4 2: 0 2A, 1 B9 1 1, 6 2B, 7 B9 1 1, 12 B8 7, 15 AC,
+method 1041 compareTo (Ljava/lang/Object;)I
+code 2 2: 0 2A, 1 2B, 2 C0 2, 5 B9 13 2, 10 AC,
+";
 
 #[test]
 fn an_interface_with_default_methods(rt: HostRuntime) -> Result<(), Fail> {
-    let record = "
-        version 52.0 pool 31
-        class 0600 Shape java/lang/Object
-        implements java/lang/Cloneable
-        implements java/lang/Comparable
-        field 0019 LIMIT I 26
-        method 0401 area ()J
-        method 0001 compareTo (LShape;)I
-        code 4 2: 0 2A, 1 B9 1 1, 6 2B, 7 B9 1 1, 12 B8 7, 15 AC,
-        method 1041 compareTo (Ljava/lang/Object;)I
-        code 2 2: 0 2A, 1 2B, 2 C0 2, 5 B9 13 2, 10 AC,
-    ";
-    check_record(&rt, rt.alloc(), SHAPE, record)
+    check_record(&rt, rt.alloc(), SHAPE, SHAPE_RECORD)
 }
+
+const SUIT_RECORD: &str = "\
+version 52.0 pool 45
+class 4030 Suit java/lang/Enum
+field 4019 CLUBS LSuit;
+field 4019 SPADES LSuit;
+field 101A $VALUES [LSuit;
+method 0009 values ()[LSuit;
+code 1 0: 0 B2 10, 3 B6 14, 6 C0 15, 9 B0,
+method 0009 valueOf (Ljava/lang/String;)LSuit;
+code 2 1: 0 12 1, 2 2A, 3 B8 19, 6 C0 1, 9 B0,
+method 0002 <init> (Ljava/lang/String;I)V
+code 3 3: 0 2A, 1 2B, 2 1C, 3 B7 25, 6 B1,
+method 0000 isBlack ()Z
+code 1 1: 0 04, 1 AC,
+method 100A $values ()[LSuit;
+code 4 0: 0 05, 1 BD 1, 4 59, 5 03, 6 B2 3, 9 53, 10 59, 11 04, 12 B2 7, 15 53, 16 B0,
+method 0008 <clinit> ()V
+code 4 0: 0 BB 1, 3 59, 4 12 29, 6 03, 7 B7 30, 10 B3 3, 13 BB 1, 16 59, 17 12 31, 19 04, 20 B7 30, 23 B3 7, \
+26 B8 32, 29 B3 10, 32 B1,
+";
 
 #[test]
 fn an_enum(rt: HostRuntime) -> Result<(), Fail> {
-    let record = "
-        version 52.0 pool 45
-        class 4030 Suit java/lang/Enum
-        field 4019 CLUBS LSuit;
-        field 4019 SPADES LSuit;
-        field 101A $VALUES [LSuit;
-        method 0009 values ()[LSuit;
-        code 1 0: 0 B2 10, 3 B6 14, 6 C0 15, 9 B0,
-        method 0009 valueOf (Ljava/lang/String;)LSuit;
-        code 2 1: 0 12 1, 2 2A, 3 B8 19, 6 C0 1, 9 B0,
-        method 0002 <init> (Ljava/lang/String;I)V
-        code 3 3: 0 2A, 1 2B, 2 1C, 3 B7 25, 6 B1,
-        method 0000 isBlack ()Z
-        code 1 1: 0 04, 1 AC,
-        method 100A $values ()[LSuit;
-        code 4 0: 0 05, 1 BD 1, 4 59, 5 03, 6 B2 3, 9 53, 10 59, 11 04, 12 B2 7, 15 53, 16 B0,
-        method 0008 <clinit> ()V
-        code 4 0: 0 BB 1, 3 59, 4 12 29, 6 03, 7 B7 30, 10 B3 3, 13 BB 1, 16 59, 17 12 31, 19 04, 20 B7 30, 23 B3 7, \
-        26 B8 32, 29 B3 10, 32 B1,
-    ";
-    check_record(&rt, rt.alloc(), SUIT, record)
+    check_record(&rt, rt.alloc(), SUIT, SUIT_RECORD)
 }
 
+/// By a method's descriptor, a constant, a method's flag, and the first of the constants that are left out.
 #[test]
 fn real_classes_that_are_left_out(rt: HostRuntime) -> Result<(), Fail> {
-    for (bytes, want) in [
-        // By a method's descriptor, a constant, a method's flag, and the first of the constants that are left out.
-        (HALF, "float"),
-        (TWICE, "double"),
-        (LOCK, "synchronized"),
-        (TASK, "invokedynamic"),
-    ] {
-        let found = answer(rt.alloc(), bytes)?;
-        assert_eq!(rt; found.as_str(), want);
-    }
-    Ok(())
+    check_answer(&rt, rt.alloc(), HALF, "float")?;
+    check_answer(&rt, rt.alloc(), TWICE, "double")?;
+    check_answer(&rt, rt.alloc(), LOCK, "synchronized")?;
+    check_answer(&rt, rt.alloc(), TASK, "invokedynamic")
 }

@@ -3,14 +3,14 @@ use std::alloc::{AllocError, Global};
 use std::test::Fail;
 
 /// What stands between two brackets or quotes, so far.
-#[derive(Debug, Drop)]
+#[derive(Drop)]
 struct Part {
     bytes: Vec<u8>,
     commas: u16,
 }
 
 /// Bytes that are being spelled: the open parts, the innermost last.
-#[derive(Debug, Drop)]
+#[derive(Drop)]
 struct Spelling {
     alloc: Global,
     parts: Vec<Part>,

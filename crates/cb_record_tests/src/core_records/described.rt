@@ -1,93 +1,80 @@
-// A class record in words.
-use cb_classfile::{ClassFile, Pool};
+// Class records in words.
+use crate::texts::{push_class_name, push_member};
+use cb_classfile::ClassFile;
 use cb_plain::OutOfMemory;
 
-/// Flags of classes, fields and methods by their words, and of a class besides `super`.
-const WORDS: [(u16, &str); 8] = [
-    (0x0001, "public"),
-    (0x0002, "private"),
-    (0x0004, "protected"),
-    (0x0008, "static"),
-    (0x0010, "final"),
-    (0x0100, "native"),
-    (0x0200, "interface"),
-    (0x0400, "abstract"),
-];
+/// Flags of classes, fields and methods by their words, from the lowest bit on (JVMS §4.1, §4.5, §4.6). The library has those of words alone.
+const WORDS: &str = "public private protected static final super - - native interface abstract";
 
-const SUPER: u16 = 0x0020;
-
-/// Adds a line for the class, and one for each member.
-pub(crate) fn push_class(out: &mut String, class: &ClassFile) -> Result<(), OutOfMemory> {
-    out.push_str("class ")?;
-    push_text(out, class.pool.class(class.this_class))?;
-    push_flags(out, class.flags.0)?;
-    if class.super_class == 0 {
-        out.push_str(" -")?;
-    } else {
-        out.push(' ')?;
-        push_text(out, class.pool.class(class.super_class))?;
-    }
-    for interface in &class.interfaces {
-        out.push(' ')?;
-        if let Ok(index) = u16::try_from(*interface) {
-            push_text(out, class.pool.class(index))?;
-        }
-    }
-    out.push('\n')?;
-    for field in &class.fields {
-        out.push_str("field")?;
-        push_flags(out, field.flags.0)?;
-        push_member(out, &class.pool, field.name, field.descriptor)?;
-    }
-    for method in &class.methods {
-        out.push_str("method")?;
-        push_flags(out, method.flags.0)?;
-        push_member(out, &class.pool, method.name, method.descriptor)?;
+/// Adds classes.
+pub(crate) fn push_classes(out: &mut String, classes: &[ClassFile]) -> Result<(), OutOfMemory> {
+    for class in classes {
+        push_class(out, class)?;
     }
     Ok(())
 }
 
-/// Adds the name and the descriptor of a member, and ends its line.
-fn push_member(
-    out: &mut String,
-    pool: &Pool,
-    name: u16,
-    descriptor: u16,
-) -> Result<(), OutOfMemory> {
-    out.push(' ')?;
-    push_text(out, pool.text(name))?;
-    out.push(' ')?;
-    push_text(out, pool.text(descriptor))?;
-    out.push('\n')?;
+/// Adds a line for the class, and one for each member.
+fn push_class(out: &mut String, class: &ClassFile) -> Result<(), OutOfMemory> {
+    out.push_str("class")?;
+    push_class_name(out, &class.pool, class.this_class)?;
+    push_flags(out, class.flags.0)?;
+    push_superclass(out, class)?;
+    push_interfaces(out, class)?;
+    push_fields(out, class)?;
+    push_methods(out, class)
+}
+
+fn push_superclass(out: &mut String, class: &ClassFile) -> Result<(), OutOfMemory> {
+    if class.super_class == 0 {
+        return out.push_str(" -");
+    }
+    push_class_name(out, &class.pool, class.super_class)
+}
+
+/// Adds the superinterfaces, and ends the line.
+fn push_interfaces(out: &mut String, class: &ClassFile) -> Result<(), OutOfMemory> {
+    for interface in class.interfaces.as_slice() {
+        let index = u16::try_from(*interface).unwrap_or(0);
+        push_class_name(out, &class.pool, index)?;
+    }
+    out.push('\n')
+}
+
+fn push_fields(out: &mut String, class: &ClassFile) -> Result<(), OutOfMemory> {
+    for field in class.fields.as_slice() {
+        out.push_str("field")?;
+        push_flags(out, field.flags.0)?;
+        push_member(out, &class.pool, field.name, field.descriptor)?;
+        out.push('\n')?;
+    }
+    Ok(())
+}
+
+fn push_methods(out: &mut String, class: &ClassFile) -> Result<(), OutOfMemory> {
+    for method in class.methods.as_slice() {
+        out.push_str("method")?;
+        push_flags(out, method.flags.0)?;
+        push_member(out, &class.pool, method.name, method.descriptor)?;
+        out.push('\n')?;
+    }
     Ok(())
 }
 
 /// Adds the words of flags, with signs between them.
 fn push_flags(out: &mut String, flags: u16) -> Result<(), OutOfMemory> {
     let mut sign = ' ';
-    for (bit, word) in WORDS {
+    let mut bit = 1;
+    for word in WORDS.split(' ') {
         if flags & bit != 0 {
             out.push(sign)?;
             out.push_str(word)?;
             sign = '+';
         }
-        if bit == 0x0010 && flags & SUPER != 0 {
-            out.push_str("+super")?;
-        }
+        bit <<= 1;
     }
     if sign == ' ' {
-        out.push_str(" 0")?;
-    }
-    Ok(())
-}
-
-/// Adds a text of the pool, which has characters of ASCII alone, or `?` where there is none.
-fn push_text(out: &mut String, text: Option<&[u16]>) -> Result<(), OutOfMemory> {
-    let Some(units) = text else {
-        return out.push('?');
-    };
-    for unit in units {
-        out.push(char::from_u32(u32::from(*unit)).unwrap_or('?'))?;
+        return out.push_str(" 0");
     }
     Ok(())
 }

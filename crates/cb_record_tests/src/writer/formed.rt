@@ -1,6 +1,9 @@
 // Records that no bytes spell, each by one change of a record that some do.
+ghost use Rattle.cb_classfile.specs.Class.{IsWellFormed};
+
 use super::add;
 use super::files::SMALL;
+use crate::rows::check;
 use cb_classfile::{
     Body, ClassFile, Code, Constant, Field, FieldFlags, Fields, Frames, Handler, Handlers, Insn,
     MapFrame, MapType, MapTypes, Method, MethodFlags, Methods, Operand, opcode, read_any_class,
@@ -9,34 +12,6 @@ use cb_plain::Numbers;
 use cb_writer::{well_formed, write_class};
 use std::alloc::{AllocError, Global};
 use std::test::Fail;
-
-/// The changes, each by what it breaks.
-const CHANGES: [&str; 24] = [
-    "a name stands with a descriptor",
-    "the class is none",
-    "Object alone has no superclass",
-    "an interface is a class",
-    "an index has two bytes",
-    "a field has a name",
-    "a field has the descriptor of a field",
-    "a value is of the field's type",
-    "a field stands once",
-    "a method has a name",
-    "a method has the descriptor of a method",
-    "an abstract method has no code",
-    "another has code",
-    "code has bytes",
-    "instructions stand one behind the other",
-    "an operand has the form of its opcode",
-    "an instruction loads what is loaded",
-    "a handler covers something",
-    "a handler's end is a place",
-    "a handler begins an instruction",
-    "a handler catches a class",
-    "a frame's kind has a form",
-    "a frame has its kind's delta",
-    "a type names a class",
-];
 
 /// The change of a record, by what it breaks.
 #[derive(Clone, Copy)]
@@ -52,16 +27,28 @@ impl Change<'_> {
 /// The record of `Small` with other members, made part by part.
 fn record(alloc: Global, change: Change<'_>) -> Result<ClassFile, Fail> {
     let mut class = read_any_class(alloc, SMALL)?;
+    change_all(&mut class, alloc, change)?;
+    Ok(class)
+}
+
+fn change_all(class: &mut ClassFile, alloc: Global, change: Change<'_>) -> Result<(), Fail> {
+    change_classes(class, change);
+    change_members(class, alloc, change)
+}
+
+fn change_classes(class: &mut ClassFile, change: Change<'_>) {
     let this_class = class.this_class;
     let super_class = class.super_class;
     class.this_class = change.pick("the class is none", this_class, 14);
     class.super_class = change.pick("Object alone has no superclass", super_class, 0);
+}
+
+fn change_members(class: &mut ClassFile, alloc: Global, change: Change<'_>) -> Result<(), Fail> {
     class.interfaces = interfaces(alloc, change)?;
     class.fields = fields(alloc, change)?;
     class.methods = methods(alloc, change)?;
     let descriptor = change.pick("a name stands with a descriptor", 17, 16);
-    add(&mut class.pool, Constant::NameAndType(16, descriptor))?;
-    Ok(class)
+    add(&mut class.pool, Constant::NameAndType(16, descriptor))
 }
 
 fn interfaces(alloc: Global, change: Change<'_>) -> Result<Numbers, AllocError> {
@@ -71,80 +58,118 @@ fn interfaces(alloc: Global, change: Change<'_>) -> Result<Numbers, AllocError> 
     Ok(interfaces)
 }
 
-fn fields(alloc: Global, change: Change<'_>) -> Result<Fields, AllocError> {
-    let mut fields = Fields::new(alloc);
-    fields.push(Field {
+fn first_field(change: Change<'_>) -> Field {
+    Field {
         flags: FieldFlags(0x0018),
         name: change.pick("a field has a name", 11, 9),
         descriptor: change.pick("a field has the descriptor of a field", 12, 6),
         constant: Some(change.pick("a value is of the field's type", 14, 9)),
-    })?;
-    fields.push(Field {
+    }
+}
+
+fn second_field(change: Change<'_>) -> Field {
+    Field {
         flags: FieldFlags(0),
         name: change.pick("a field stands once", 16, 11),
         descriptor: 12,
         constant: None,
-    })?;
+    }
+}
+
+fn fields(alloc: Global, change: Change<'_>) -> Result<Fields, AllocError> {
+    let mut fields = Fields::new(alloc);
+    fields.push(first_field(change))?;
+    fields.push(second_field(change))?;
     Ok(fields)
 }
 
-fn methods(alloc: Global, change: Change<'_>) -> Result<Methods, AllocError> {
-    let mut methods = Methods::new(alloc);
-    methods.push(Method {
+fn first_method(alloc: Global, change: Change<'_>) -> Result<Method, AllocError> {
+    Ok(Method {
         flags: MethodFlags(change.pick("an abstract method has no code", 0x0008, 0x0400)),
         name: change.pick("a method has a name", 16, 9),
         descriptor: change.pick("a method has the descriptor of a method", 17, 12),
         body: Some(body(alloc, change)?),
-    })?;
-    methods.push(Method {
+    })
+}
+
+fn second_method(change: Change<'_>) -> Method {
+    Method {
         flags: MethodFlags(change.pick("another has code", 0x0100, 0)),
         name: 11,
         descriptor: 6,
         body: None,
-    })?;
+    }
+}
+
+fn methods(alloc: Global, change: Change<'_>) -> Result<Methods, AllocError> {
+    let mut methods = Methods::new(alloc);
+    methods.push(first_method(alloc, change)?)?;
+    methods.push(second_method(change))?;
     Ok(methods)
 }
 
-fn body(alloc: Global, change: Change<'_>) -> Result<Body, AllocError> {
-    let mut handlers = Handlers::new(alloc);
-    handlers.push(Handler {
+fn handlers(alloc: Global, change: Change<'_>) -> Result<Handlers, AllocError> {
+    let handler = Handler {
         start: change.pick("a handler covers something", 0, 4),
         end: change.pick("a handler's end is a place", 4, 9),
         handler: change.pick("a handler begins an instruction", 5, 2),
         catch_type: change.pick("a handler catches a class", 7, 11),
-    })?;
+    };
+    let mut handlers = Handlers::new(alloc);
+    handlers.push(handler)?;
+    Ok(handlers)
+}
+
+fn body(alloc: Global, change: Change<'_>) -> Result<Body, AllocError> {
     Ok(Body {
         max_stack: 2,
         max_locals: 2,
         code: code(alloc, change)?,
-        handlers,
+        handlers: handlers(alloc, change)?,
         frames: frames(alloc, change)?,
     })
 }
 
-/// `iload_0; ldc 70000; idiv; ireturn; astore_1; iconst_0; ireturn`
+fn load(change: Change<'_>) -> Insn {
+    Insn {
+        opcode: opcode::LDC,
+        wide: change.pick("an operand has the form of its opcode", false, true),
+        operand: Operand::Pool(change.pick("an instruction loads what is loaded", 14, 3)),
+    }
+}
+
+/// Adds instructions that are their opcodes alone, from a place on.
+fn push_plain(code: &mut Code, first: u32, opcodes: &[u8]) -> Result<(), AllocError> {
+    let mut place = first;
+    for opcode in opcodes {
+        code.push((place, plain(*opcode)))?;
+        place = place.wrapping_add(1);
+    }
+    Ok(())
+}
+
+/// What stands behind the second instruction.
+const REST: [u8; 5] = [
+    opcode::IDIV,
+    opcode::IRETURN,
+    opcode::ASTORE_1,
+    opcode::ICONST_0,
+    opcode::IRETURN,
+];
+
+/// Adds `iload_0; ldc 70000; idiv; ireturn; astore_1; iconst_0; ireturn`.
+fn push_code(code: &mut Code, change: Change<'_>) -> Result<(), AllocError> {
+    let second = change.pick("instructions stand one behind the other", 1, 2);
+    code.push((0, plain(opcode::ILOAD_0)))?;
+    code.push((second, load(change)))?;
+    push_plain(code, 3, REST.as_slice())
+}
+
 fn code(alloc: Global, change: Change<'_>) -> Result<Code, AllocError> {
     let mut code = Code::new(alloc);
-    if change.0 == "code has bytes" {
-        return Ok(code);
+    if change.0 != "code has bytes" {
+        push_code(&mut code, change)?;
     }
-    let index = change.pick("an instruction loads what is loaded", 14, 3);
-    let second = change.pick("instructions stand one behind the other", 1, 2);
-    let wide = change.pick("an operand has the form of its opcode", false, true);
-    code.push((0, plain(opcode::ILOAD_0)))?;
-    code.push((
-        second,
-        Insn {
-            opcode: opcode::LDC,
-            wide,
-            operand: Operand::Pool(index),
-        },
-    ))?;
-    code.push((3, plain(opcode::IDIV)))?;
-    code.push((4, plain(opcode::IRETURN)))?;
-    code.push((5, plain(opcode::ASTORE_1)))?;
-    code.push((6, plain(opcode::ICONST_0)))?;
-    code.push((7, plain(opcode::IRETURN)))?;
     Ok(code)
 }
 
@@ -157,67 +182,139 @@ fn plain(opcode: u8) -> Insn {
     }
 }
 
-/// The stack has the fault alone where the handler begins.
-fn frames(alloc: Global, change: Change<'_>) -> Result<Frames, AllocError> {
+fn stack(alloc: Global, change: Change<'_>) -> Result<MapTypes, AllocError> {
     let mut stack = MapTypes::new(alloc);
     stack.push(MapType::Object(change.pick("a type names a class", 7, 11)))?;
-    let mut frames = Frames::new(alloc);
-    frames.push(MapFrame {
+    Ok(stack)
+}
+
+/// The stack has the fault alone where the handler begins.
+fn frame(alloc: Global, change: Change<'_>) -> Result<MapFrame, AllocError> {
+    Ok(MapFrame {
         kind: change.pick("a frame's kind has a form", 69, 128),
         delta: change.pick("a frame has its kind's delta", 5, 6),
         locals: MapTypes::new(alloc),
-        stack,
-    })?;
+        stack: stack(alloc, change)?,
+    })
+}
+
+fn frames(alloc: Global, change: Change<'_>) -> Result<Frames, AllocError> {
+    let mut frames = Frames::new(alloc);
+    frames.push(frame(alloc, change)?)?;
     Ok(frames)
+}
+
+/// How many methods the record of the bytes has that spell a record.
+fn methods_again(alloc: Global, class: &ClassFile) -> Result<usize, Fail>
+    requires { IsWellFormed class.now }
+{
+    let bytes = write_class(alloc, class)?;
+    let again = read_any_class(alloc, &bytes)?;
+    Ok(again.methods.len())
+}
+
+/// Whether some bytes spell a record, and how many methods they have.
+fn told_spelling(alloc: Global, class: &ClassFile) -> Result<String, Fail> {
+    if !well_formed(class) {
+        return Ok(String::from_str(alloc, "no bytes")?);
+    }
+    let methods = methods_again(alloc, class)?;
+    Ok(format!(in alloc; "bytes with {methods} methods")?)
+}
+
+/// The same of the changed record.
+fn told(alloc: Global, change: &str) -> Result<String, Fail> {
+    let class = record(alloc, Change(change))?;
+    told_spelling(alloc, &class)
 }
 
 #[test]
 fn one_change_leaves_no_spelling(rt: HostRuntime) -> Result<(), Fail> {
-    let class = record(rt.alloc(), Change(""))?;
-    assert!(rt; well_formed(&class));
-    let bytes = write_class(rt.alloc(), &class)?;
-    let again = read_any_class(rt.alloc(), &bytes)?;
-    assert_eq!(rt; again.methods.len(), 2);
-    for change in CHANGES {
-        let class = record(rt.alloc(), Change(change))?;
-        assert!(rt; !well_formed(&class), "{change}");
-    }
-    Ok(())
+    let rows = "
+        no change                               | bytes with 2 methods
+        a name stands with a descriptor         | no bytes
+        the class is none                       | no bytes
+        Object alone has no superclass          | no bytes
+        an interface is a class                 | no bytes
+        an index has two bytes                  | no bytes
+        a field has a name                      | no bytes
+        a field has the descriptor of a field   | no bytes
+        a value is of the field's type          | no bytes
+        a field stands once                     | no bytes
+        a method has a name                     | no bytes
+        a method has the descriptor of a method | no bytes
+        an abstract method has no code          | no bytes
+        another has code                        | no bytes
+        code has bytes                          | no bytes
+        instructions stand one behind the other | no bytes
+        an operand has the form of its opcode   | no bytes
+        an instruction loads what is loaded     | no bytes
+        a handler covers something              | no bytes
+        a handler's end is a place              | no bytes
+        a handler begins an instruction         | no bytes
+        a handler catches a class               | no bytes
+        a frame's kind has a form               | no bytes
+        a frame has its kind's delta            | no bytes
+        a type names a class                    | no bytes
+    ";
+    check(&rt, rt.alloc(), rows, told)
 }
 
-/// The record of `Small` with one method of so many `nop` and a `return`, which has neither handlers nor frames.
-fn long_code(alloc: Global, count: u32) -> Result<ClassFile, Fail> {
-    let mut code = Code::new(alloc);
+/// Adds so many `nop` and a `return`.
+fn push_nops(code: &mut Code, count: u32) -> Result<(), AllocError> {
     for place in 0..count {
         code.push((place, plain(opcode::NOP)))?;
     }
-    code.push((count, plain(opcode::RETURN)))?;
-    let mut methods = Methods::new(alloc);
-    methods.push(Method {
+    code.push((count, plain(opcode::RETURN)))
+}
+
+fn nops(alloc: Global, count: u32) -> Result<Code, AllocError> {
+    let mut code = Code::new(alloc);
+    push_nops(&mut code, count)?;
+    Ok(code)
+}
+
+/// One method of that code, which has neither handlers nor frames.
+fn long_method(alloc: Global, count: u32) -> Result<Method, AllocError> {
+    let body = Body {
+        max_stack: 0,
+        max_locals: 1,
+        code: nops(alloc, count)?,
+        handlers: Handlers::new(alloc),
+        frames: Frames::new(alloc),
+    };
+    Ok(Method {
         flags: MethodFlags(0),
         name: 16,
         descriptor: 6,
-        body: Some(Body {
-            max_stack: 0,
-            max_locals: 1,
-            code,
-            handlers: Handlers::new(alloc),
-            frames: Frames::new(alloc),
-        }),
-    })?;
+        body: Some(body),
+    })
+}
+
+fn long_methods(alloc: Global, count: u32) -> Result<Methods, AllocError> {
+    let mut methods = Methods::new(alloc);
+    methods.push(long_method(alloc, count)?)?;
+    Ok(methods)
+}
+
+/// The record of `Small` with that method alone.
+fn long_code(alloc: Global, count: u32) -> Result<ClassFile, Fail> {
     let mut class = read_any_class(alloc, SMALL)?;
-    class.methods = methods;
+    class.methods = long_methods(alloc, count)?;
     Ok(class)
+}
+
+/// The same of the record with so many `nop`.
+fn told_long(alloc: Global, count: &str) -> Result<String, Fail> {
+    let class = long_code(alloc, count.parse()?)?;
+    told_spelling(alloc, &class)
 }
 
 #[test]
 fn code_has_at_most_65535_bytes(rt: HostRuntime) -> Result<(), Fail> {
-    let class = long_code(rt.alloc(), 65_534)?;
-    assert!(rt; well_formed(&class));
-    let bytes = write_class(rt.alloc(), &class)?;
-    let again = read_any_class(rt.alloc(), &bytes)?;
-    assert!(rt; well_formed(&again));
-    let class = long_code(rt.alloc(), 65_535)?;
-    assert!(rt; !well_formed(&class));
-    Ok(())
+    let rows = "
+        65534 | bytes with 1 methods
+        65535 | no bytes
+    ";
+    check(&rt, rt.alloc(), rows, told_long)
 }
