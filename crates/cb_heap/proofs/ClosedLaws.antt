@@ -150,7 +150,7 @@ characters_of test held all = rest_along test (held.constants ++ held.classes ++
 pub booleans_of : (test : ℕ → Bool) (held : Tables) → IsTrue (list_all test (table_references held)) → IsTrue (list_all test (flat_map unless_null held.booleans))
 booleans_of test held all = rest_along test (held.constants ++ held.classes ++ held.integers ++ held.longs ++ held.characters) held.booleans all
 
-joined_tables : (test : ℕ → Bool) (held : Tables) → IsTrue (list_all test (flat_map unless_null held.constants)) → IsTrue (list_all test (flat_map unless_null held.classes)) → IsTrue (list_all test (flat_map unless_null held.integers)) → IsTrue (list_all test (flat_map unless_null held.longs)) → IsTrue (list_all test (flat_map unless_null held.characters)) → IsTrue (list_all test (flat_map unless_null held.booleans)) → IsTrue (list_all test (table_references held))
+pub joined_tables : (test : ℕ → Bool) (held : Tables) → IsTrue (list_all test (flat_map unless_null held.constants)) → IsTrue (list_all test (flat_map unless_null held.classes)) → IsTrue (list_all test (flat_map unless_null held.integers)) → IsTrue (list_all test (flat_map unless_null held.longs)) → IsTrue (list_all test (flat_map unless_null held.characters)) → IsTrue (list_all test (flat_map unless_null held.booleans)) → IsTrue (list_all test (table_references held))
 joined_tables test held constants classes integers longs characters booleans =
     along test (held.constants ++ held.classes ++ held.integers ++ held.longs ++ held.characters) held.booleans (along test (held.constants ++ held.classes ++ held.integers ++ held.longs) held.characters (along test (held.constants ++ held.classes ++ held.integers) held.longs (along test (held.constants ++ held.classes) held.integers (along test held.constants held.classes constants classes) integers) longs) characters) booleans
 

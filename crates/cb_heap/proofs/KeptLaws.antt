@@ -3,7 +3,7 @@ use Rattle.std.proofs.Common.{◌≡◌, ◌∙◌, ap, sym, refl, arith, ℕ, �
 use Rattle.std.proofs.lemmas.List.{map-append}
 use Rattle.std.proofs.lemmas.Bool.{false≢true}
 use Rattle.cb_plain.specs.State.{Content, Object}
-use Rattle.cb_plain.specs.Updates.{with_contents_in}
+use Rattle.cb_plain.specs.Updates.{object_in, with_contents_in}
 use Rattle.cb_heap.specs.Kept.{is_held, keep, residents, with_content}
 
 changes_residents : (objects : List (Option Object)) (place : ℕ) (contents : List Content) → residents (with_contents_in objects (suc place) contents) ≡ residents objects
@@ -55,6 +55,21 @@ keep_twice (true ∷ now) (false ∷ before) (entry ∷ objects) is same = absur
   first_of_list : List Bool → Bool
   first_of_list [] = false
   first_of_list (first ∷ rest) = first
+
+-- an object that is kept is as it was
+same_in : (residents : List Bool) (objects : List (Option Object)) (place : ℕ) → IsTrue (is_held (keep residents objects) (suc place))
+    → object_in (keep residents objects) (suc place) ≡ object_in objects (suc place)
+same_in [] objects place there = absurd (false≢true there)
+same_in (stays ∷ residents) [] place there = refl
+same_in (true ∷ residents) (entry ∷ objects) zero there = refl
+same_in (false ∷ residents) (entry ∷ objects) zero there = absurd (false≢true there)
+same_in (true ∷ residents) (entry ∷ objects) (suc place) there = same_in residents objects place there
+same_in (false ∷ residents) (entry ∷ objects) (suc place) there = same_in residents objects place there
+
+pub same_object : (residents : List Bool) (objects : List (Option Object)) (serial : ℕ) → IsTrue (is_held (keep residents objects) serial)
+    → object_in (keep residents objects) serial ≡ object_in objects serial
+same_object residents objects zero held = refl
+same_object residents objects (suc place) held = same_in residents objects place held
 
 -- whether a reference is held is told by which objects are kept
 abbrev held_by : List Bool → ℕ → Bool

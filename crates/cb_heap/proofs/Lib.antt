@@ -5,3 +5,4 @@ pub mod ObjectLaws
 pub mod PlacedLaws
 pub mod ReachedLaws
 pub mod ReadingLaws
+pub mod TextLaws

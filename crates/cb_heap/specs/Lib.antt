@@ -8,3 +8,4 @@ pub mod Rules
 pub mod Shaped
 pub mod StandsFor
 pub mod Store
+pub mod Text

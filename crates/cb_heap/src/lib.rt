@@ -3,14 +3,19 @@
 //!
 //! `specs/` says in this order: which objects are kept (`Kept`) and of which shapes (`Shaped`); how places are read (`Reading`); what a
 //! collection is (`Closed`); what is granted (`Grants`); what a store does beyond what every store does (`Rules`); the words of the trait
-//! (`Store`); what a view stands for (`StandsFor`); the room that partitions take, and what a collection of some of them leaves
-//! (`Occupancy`); and what holds of all stores (`Laws`), for whoever shows something of code over any store.
+//! (`Store`); what a view stands for (`StandsFor`); strings that are placed with their characters over any store (`Text`); the room that
+//! partitions take, and what a collection of some of them leaves (`Occupancy`); and what holds of all stores (`Laws`), for whoever shows
+//! something of code over any store.
 #![tactic(auto)]
 
 mod law;
 mod no_room;
 mod store;
+mod text;
+mod text_sites;
 
 pub use law::{closes_again, keeps_changes, keeps_reached, reads_through};
 pub use no_room::NoRoom;
 pub use store::Store;
+pub use text::place_text;
+pub use text_sites::TextSites;

@@ -1,2 +1,3 @@
 pub mod Cells
 pub mod FourCells
+pub mod Pair

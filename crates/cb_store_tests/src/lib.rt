@@ -9,4 +9,6 @@ mod cells;
 mod frames;
 #[cfg(test)]
 mod mapheap;
+#[cfg(test)]
+mod text;
 mod trial;

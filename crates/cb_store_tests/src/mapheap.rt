@@ -29,7 +29,7 @@ fn store(alloc: Global) -> Result<MapHeap, OutOfMemory>
 }
 
 /// Roots that name nothing.
-fn no_roots(alloc: Global) -> Result<Roots, OutOfMemory>
+pub(crate) fn no_roots(alloc: Global) -> Result<Roots, OutOfMemory>
     ensures { IfOk result (λ roots. root_references roots.roots ≡ []) }
 {
     Roots::make(

@@ -1,0 +1,14 @@
+-- What the test of strings places.
+use Rattle.std.specs.Prelude.{true, false, List, [], ◌∷◌, Option}
+use Rattle.cb_plain.specs.declared.shape.Shape.{Shape}
+use Rattle.cb_plain.specs.declared.shape.Shape.TheVariants as shapes
+use Rattle.cb_plain.specs.State.{Object}
+use Rattle.cb_heap.specs.Text.{with_text}
+
+-- strings of one word, and arrays of numbers
+abbrev pub text_kinds : List Shape
+text_kinds = shapes.Fields (true ∷ []) ∷ shapes.Elements false ∷ []
+
+-- a string of two units in a store without objects
+abbrev pub pair : List (Option Object)
+pair = with_text (record { site = 7; kind = 0; characters = 7; array = 1 }) (104 ∷ 105 ∷ []) []
