@@ -1,12 +1,11 @@
 -- What is kept of objects.
-use Rattle.std.proofs.Common.{◌≡◌, ◌∙◌, ap, refl, arith, ℕ, Bool, true, false, List, [], ◌∷◌, length, Option, None, zero, suc, IsTrue}
-use Rattle.std.proofs.lemmas.Bool.{false≢true}
+use Rattle.std.proofs.Common.{◌≡◌, ◌∙◌, ap, refl, arith, ℕ, Bool, true, false, List, [], ◌∷◌, length, Option, None, zero, suc}
 use Rattle.cb_heap.specs.Kept.{is_held, keep}
 use Rattle.cb_heap.specs.StandsFor.{forget}
-use Rattle.cb_heap.proofs.Laws.{content_of_object, held_from, passes_held, reference_held}
+use Rattle.cb_heap.proofs.Laws.{content_of_object, held_from, passes_held, reference_held, same_object}
 use Rattle.cb_machine.specs.Standing.{Now}
 use Rattle.cb_plain.specs.State.{Content, Object, State}
-use Rattle.cb_plain.specs.Updates.{object_in, with_contents_in}
+use Rattle.cb_plain.specs.Updates.{with_contents_in}
 use Rattle.cb_interp.specs.Changing.{IsHere, IsUnseen}
 use Rattle.cb_interp.specs.Keeping.{IsKeeping, KeepsHere}
 
@@ -15,21 +14,6 @@ length_kept [] objects same = same
 length_kept (stays ∷ residents) [] same = absurd (omega (arith, same))
 length_kept (true ∷ residents) (entry ∷ objects) same = ap suc (length_kept residents objects (omega (arith, same)))
 length_kept (false ∷ residents) (entry ∷ objects) same = ap suc (length_kept residents objects (omega (arith, same)))
-
--- an object that is kept is as it was
-same_in : (residents : List Bool) (objects : List (Option Object)) (place : ℕ) → IsTrue (is_held (keep residents objects) (suc place))
-    → object_in (keep residents objects) (suc place) ≡ object_in objects (suc place)
-same_in [] objects place there = absurd (false≢true there)
-same_in (stays ∷ residents) [] place there = refl
-same_in (true ∷ residents) (entry ∷ objects) zero there = refl
-same_in (false ∷ residents) (entry ∷ objects) zero there = absurd (false≢true there)
-same_in (true ∷ residents) (entry ∷ objects) (suc place) there = same_in residents objects place there
-same_in (false ∷ residents) (entry ∷ objects) (suc place) there = same_in residents objects place there
-
-pub same_object : (residents : List Bool) (objects : List (Option Object)) (serial : ℕ) → IsTrue (is_held (keep residents objects) serial)
-    → object_in (keep residents objects) serial ≡ object_in objects serial
-same_object residents objects zero held = refl
-same_object residents objects (suc place) held = same_in residents objects place held
 
 -- and so are objects with other contents
 contents_in : (residents : List Bool) (objects : List (Option Object)) (place : ℕ) (contents : List Content)

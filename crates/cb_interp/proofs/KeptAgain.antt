@@ -137,7 +137,7 @@ module _ (residents : List Bool) (state : State) (keeping : IsKeeping residents 
     go true held = rw held refl
     go false held = rw held (lt-ltb (length state.objects) serial new)
 
-  kept_within : IsWithin ok (kept_state residents state)
+  pub kept_within : IsWithin ok (kept_state residents state)
   kept_within = record {
     roots = from_roots ok state.roots (more_all (is_held (keep residents state.objects)) ok is_kept_ok (root_references state.roots) keeping.closed.roots);
     objects = more_all (is_held (keep residents state.objects)) ok is_kept_ok (references_in_objects (keep residents state.objects)) keeping.closed.objects;

@@ -61,7 +61,7 @@ any_all : (serials : List ℕ) → IsTrue (list_all any serials)
 any_all [] = refl
 any_all (serial ∷ serials) = any_all serials
 
-matched_unseen : (state : State) → IsUnseen (matched (residents state.objects)) any state
+pub matched_unseen : (state : State) → IsUnseen (matched (residents state.objects)) any state
 matched_unseen state = record {
   count = ap length (is_matched state.objects);
   contents = contents_matched (residents state.objects);

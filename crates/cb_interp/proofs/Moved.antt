@@ -10,14 +10,14 @@ use Rattle.cb_shapes.specs.declared.sort.Category.TheVariants.{One, Two}
 
 -- the forms of shuffles, as their definition has them
 module _ {Item : Type 0} where
-  abbrev by_one : Shuffle → Option Category → Item → List Item → Option (List Item)
+  abbrev pub by_one : Shuffle → Option Category → Item → List Item → Option (List Item)
   by_one Pop (Some One) a rest = Some rest
   by_one Dup (Some One) a rest = Some (a ∷ a ∷ rest)
   by_one Pop2 (Some Two) a rest = Some rest
   by_one Dup2 (Some Two) a rest = Some (a ∷ a ∷ rest)
   by_one other found a rest = None
 
-  abbrev by_two : Shuffle → Option Category → Option Category → Item → Item → List Item → Option (List Item)
+  abbrev pub by_two : Shuffle → Option Category → Option Category → Item → Item → List Item → Option (List Item)
   by_two Pop2 (Some One) (Some One) a b rest = Some rest
   by_two Dup2 (Some One) (Some One) a b rest = Some (a ∷ b ∷ a ∷ b ∷ rest)
   by_two Swap (Some One) (Some One) a b rest = Some (b ∷ a ∷ rest)
@@ -27,14 +27,14 @@ module _ {Item : Type 0} where
   by_two Dup2X2 (Some Two) (Some Two) a b rest = Some (a ∷ b ∷ a ∷ rest)
   by_two other one two a b rest = None
 
-  abbrev by_three : Shuffle → Option Category → Option Category → Option Category → Item → Item → Item → List Item → Option (List Item)
+  abbrev pub by_three : Shuffle → Option Category → Option Category → Option Category → Item → Item → Item → List Item → Option (List Item)
   by_three DupX2 (Some One) (Some One) (Some One) a b c rest = Some (a ∷ b ∷ c ∷ a ∷ rest)
   by_three Dup2X1 (Some One) (Some One) (Some One) a b c rest = Some (a ∷ b ∷ c ∷ a ∷ b ∷ rest)
   by_three Dup2X2 (Some One) (Some One) (Some Two) a b c rest = Some (a ∷ b ∷ c ∷ a ∷ b ∷ rest)
   by_three Dup2X2 (Some Two) (Some One) (Some One) a b c rest = Some (a ∷ b ∷ c ∷ a ∷ rest)
   by_three other one two three a b c rest = None
 
-  abbrev by_four : Shuffle → Option Category → Option Category → Option Category → Option Category → Item → Item → Item → Item → List Item → Option (List Item)
+  abbrev pub by_four : Shuffle → Option Category → Option Category → Option Category → Option Category → Item → Item → Item → Item → List Item → Option (List Item)
   by_four Dup2X2 (Some One) (Some One) (Some One) (Some One) a b c d rest = Some (a ∷ b ∷ c ∷ d ∷ a ∷ b ∷ rest)
   by_four other one two three four a b c d rest = None
 

@@ -1,5 +1,6 @@
 -- Constants that a program names are numbers.
-use Rattle.std.proofs.Common.{◌≡◌, refl, subst, ℕ, Bool, true, false, List, Option, Some, None}
+use Rattle.std.proofs.Common.{◌≡◌, refl, subst, ℕ, Bool, true, false, List, Option, Some, None, zero, suc}
+use Rattle.std.proofs.lemmas.Bool.{false≢true}
 use Rattle.std.specs.Prelude.{option_and_then, option_map, slice_get}
 use Rattle.std.specs.Option.{option_or}
 use Rattle.cb_classfile.specs.declared.class.ClassFile.{ClassFile}
@@ -14,6 +15,8 @@ use Rattle.cb_link.specs.Resolving.{found_field, found_method}
 use Rattle.cb_link.specs.Slots.{static_at}
 use Rattle.cb_link.specs.declared.named.Named.{Named}
 use Rattle.cb_link.specs.declared.named.Named.TheVariants as meanings
+use Rattle.cb_heap.specs.Reading.{read_value}
+use Rattle.cb_plain.specs.declared.value.Value.{Value}
 use Rattle.cb_plain.specs.declared.value.Value.TheVariants as values
 use Rattle.cb_plain.specs.Reach.{reference_in}
 use Rattle.cb_text.specs.declared.constant.Constant.{Constant}
@@ -112,3 +115,12 @@ module _ (ok : ℕ → Bool) where
     named = λ method pc value is. subst NumberIn is (named_number program method pc);
     initial = λ slot value is. subst NumberIn is (initial_number program slot);
   }
+
+-- so reading leaves them as they are
+pub whole_read : (program : Linked) (method pc : ℕ) (value : Value) → named program method pc ≡ meanings.Whole value → (index : ℕ → ℕ) → read_value index value ≡ value
+whole_read program method pc value names index = go value ((has_numbers (λ serial. false) program).named method pc value names) where
+  go : (value : Value) → Pass (λ serial. false) (reference_in value) → read_value index value ≡ value
+  go (values.Int number) pass = refl
+  go (values.Long number) pass = refl
+  go (values.Ref zero) pass = refl
+  go (values.Ref (suc place)) pass = absurd (false≢true pass)

@@ -63,7 +63,7 @@ module _ (now : Now) (pc : ℕ) (stands : StandsBefore now pc) where
     go (Some states.Done) at ready = rw (names, classed, at, sited) (makes_at_so site size shapes is)
 
   -- invokestatic
-  enters_so : (method : ℕ) (body : Body) (held rest : List Value) → now.frame.stack ≡ held ++ rest
+  pub enters_so : (method : ℕ) (body : Body) (held rest : List Value) → now.frame.stack ≡ held ++ rest
       → (if has_room now.machine.frames (OfMethod (holding now.frame rest) ∷ now.below) (body.max_locals + body.max_stack)
       then leaving (with_frames now.state (frame_of method body.max_locals body.max_stack (reverse held) ∷ OfMethod (holding now.frame rest) ∷ now.below))
       else throws now.machine now.state stack_overflow)

@@ -97,7 +97,7 @@ module _ (ok : ℕ → Bool) where
   entered_passes held table place serial pass new = from_roots (roots.with_entry held table place serial) (closed_entry ok held table place serial (to_roots held pass) new)
 
   -- entries of tables
-  listed_passes : (table : List ℕ) (place serial : ℕ) → Pass ok (flat_map unless_null table) → or_zero (slice_get table place) ≡ serial → Pass ok (unless_null serial)
+  pub listed_passes : (table : List ℕ) (place serial : ℕ) → Pass ok (flat_map unless_null table) → or_zero (slice_get table place) ≡ serial → Pass ok (unless_null serial)
   listed_passes [] place serial all is = subst (λ each. Pass ok (unless_null each)) is refl
   listed_passes (first ∷ table) zero serial all is = subst (λ each. Pass ok (unless_null each)) is (parts ok (unless_null first) (flat_map unless_null table) all).0
   listed_passes (first ∷ table) (suc place) serial all is = listed_passes table place serial (parts ok (unless_null first) (flat_map unless_null table) all).1 is
@@ -154,7 +154,7 @@ module _ (ok : ℕ → Bool) where
   abbrev PlacedWithin : Placed → Type 0
   PlacedWithin placed = IsPlanWithin ok placed.plan × Pass ok (unless_null placed.serial)
 
-  units_pass : (units : List ℕ) → Pass ok (contents_references (unit_contents units))
+  pub units_pass : (units : List ℕ) → Pass ok (contents_references (unit_contents units))
   units_pass [] = refl
   units_pass (unit ∷ units) = units_pass units
 

@@ -2,7 +2,6 @@
 ghost use Rattle.std.specs.Prelude.{◌≡◌, ◌<◌, ◌^◌, is_some, length, true, OnErr, Some};
 ghost use Rattle.cb_heap.specs.Kept.{contents_at};
 ghost use Rattle.cb_heap.specs.Reading.{seen};
-ghost use Rattle.cb_kinds.specs.declared.basic.Basic.{Basic as OfBasic};
 ghost use Rattle.cb_kinds.specs.declared.basic.Basic.TheVariants as basics;
 ghost use Rattle.cb_machine.specs.Values.{sort_of_basic};
 ghost use Rattle.cb_interp.specs.Objects.{MayPut, SuitsWords, behind_length, behind_load_element, behind_store_element};
@@ -15,7 +14,6 @@ use cb_frames::Roots;
 use cb_heap::Store;
 use cb_kinds::Basic;
 use cb_plain::Value;
-use cb_shapes::Sort;
 
 /// Puts its length in place of the array on the stack of the topmost frame: `arraylength` (JVMS §6.5). An error is the site of the
 /// exception of the machine that is thrown; then nothing has changed.
@@ -38,11 +36,9 @@ pub fn array_length<S: Store>(store: &S, roots: &mut Roots) -> Result<(), u32>
     Ok(())
 }
 
-/// Puts the element of a sort at an index in place of the array and the index on the stack of the topmost frame: `iaload` to `saload`
+/// Puts the element of a type at an index in place of the array and the index on the stack of the topmost frame: `iaload` to `saload`
 /// (JVMS §6.5). An error is the site of the exception of the machine that is thrown; then nothing has changed.
-pub fn load_element<S: Store>(store: &S, roots: &mut Roots, sort: Sort) -> Result<(), u32>
-    ghost basic: { OfBasic }
-    requires sort { sort_of_basic basic ≡ sort }
+pub fn load_element<S: Store>(store: &S, roots: &mut Roots, basic: Basic) -> Result<(), u32>
     requires there { is_some (behind_load_element basic (seen (S.index store.now)
         (S.kept store.now) roots.old.roots)) ≡ true }
     requires suits { SuitsWords basic 1 (seen (S.index store.now)
@@ -62,7 +58,7 @@ pub fn load_element<S: Store>(store: &S, roots: &mut Roots, sort: Sort) -> Resul
     let Some(place) = place_of(index, count) else {
         return Err(ARRAY_INDEX);
     };
-    let value = value_at(store, at, place, sort);
+    let value = value_at(store, at, place, basic);
     give_for_two(roots, value);
     Ok(())
 }
@@ -81,6 +77,7 @@ pub fn store_element<S: Store>(store: &mut S, roots: &mut Roots, basic: Basic) -
         (S.kept store.old) roots.old.roots)
         ≡ Some (left_by result (seen (S.index store.new) (S.kept store.new) roots.new.roots)) }
     ensures same { OnErr result (roots.new ≡ roots.old) }
+    ensures held { OnErr result (S.kept store.new ≡ S.kept store.old) }
     ensures limit { roots.new.limit ≡ roots.old.limit }
     ensures places { S.index store.new ≡ S.index store.old }
     ensures facts { S.facts store.new ≡ S.facts store.old }
@@ -118,6 +115,7 @@ pub fn store_reference<S: Store>(store: &mut S, roots: &mut Roots, fits: bool) -
         (S.kept store.old) roots.old.roots)
         ≡ Some (left_by result (seen (S.index store.new) (S.kept store.new) roots.new.roots)) }
     ensures same { OnErr result (roots.new ≡ roots.old) }
+    ensures held { OnErr result (S.kept store.new ≡ S.kept store.old) }
     ensures limit { roots.new.limit ≡ roots.old.limit }
     ensures places { S.index store.new ≡ S.index store.old }
     ensures facts { S.facts store.new ≡ S.facts store.old }

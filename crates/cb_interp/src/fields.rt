@@ -1,8 +1,6 @@
 // Fields of objects.
 ghost use Rattle.std.specs.Prelude.{◌≡◌, is_some, true, OnErr, Some};
 ghost use Rattle.cb_heap.specs.Reading.{seen};
-ghost use Rattle.cb_kinds.specs.declared.basic.Basic.{Basic as OfBasic};
-ghost use Rattle.cb_machine.specs.Values.{sort_of_basic};
 ghost use Rattle.cb_interp.specs.Objects.{MayPut, SuitsWord, behind_get_field, behind_put_field, left_by};
 
 use crate::operands::{give_for_one, reference_at, take_two};
@@ -11,13 +9,10 @@ use crate::words::{kept_value, put_value, value_at};
 use cb_frames::Roots;
 use cb_heap::Store;
 use cb_kinds::Basic;
-use cb_shapes::Sort;
 
-/// Puts the value of a field of a sort in place of the object on the stack of the topmost frame: `getfield` (JVMS §6.5). An error is the
+/// Puts the value of a field of a type in place of the object on the stack of the topmost frame: `getfield` (JVMS §6.5). An error is the
 /// site of the exception of the machine that is thrown; then nothing has changed.
-pub fn get_field<S: Store>(store: &S, roots: &mut Roots, slot: u32, sort: Sort) -> Result<(), u32>
-    ghost basic: { OfBasic }
-    requires sort { sort_of_basic basic ≡ sort }
+pub fn get_field<S: Store>(store: &S, roots: &mut Roots, slot: u32, basic: Basic) -> Result<(), u32>
     requires there { is_some (behind_get_field slot basic (seen (S.index store.now)
         (S.kept store.now) roots.old.roots)) ≡ true }
     requires suits { SuitsWord basic 0 slot (seen (S.index store.now)
@@ -32,7 +27,7 @@ pub fn get_field<S: Store>(store: &S, roots: &mut Roots, slot: u32, sort: Sort) 
     if at == 0 {
         return Err(NULL_POINTER);
     }
-    let value = value_at(store, at, slot, sort);
+    let value = value_at(store, at, slot, basic);
     give_for_one(roots, value);
     Ok(())
 }
@@ -55,6 +50,7 @@ pub fn put_field<S: Store>(
         (S.kept store.old) roots.old.roots)
         ≡ Some (left_by result (seen (S.index store.new) (S.kept store.new) roots.new.roots)) }
     ensures same { OnErr result (roots.new ≡ roots.old) }
+    ensures held { OnErr result (S.kept store.new ≡ S.kept store.old) }
     ensures limit { roots.new.limit ≡ roots.old.limit }
     ensures places { S.index store.new ≡ S.index store.old }
     ensures facts { S.facts store.new ≡ S.facts store.old }

@@ -18,6 +18,7 @@ ghost use Rattle.cb_machine.specs.Locals.{increases, loads, stores};
 ghost use Rattle.cb_machine.specs.Machine.{Machine};
 ghost use Rattle.cb_machine.specs.Plans.{Plan, made};
 ghost use Rattle.cb_machine.specs.Standing.{Now};
+ghost use Rattle.cb_machine.specs.Runs.{after};
 ghost use Rattle.cb_machine.specs.Steps.{plan, step};
 ghost use Rattle.cb_machine.specs.Testing.{asks_kind, casts, throws_object};
 ghost use Rattle.cb_machine.specs.Unwinding.{unwinding};
@@ -28,10 +29,12 @@ ghost use Rattle.cb_shapes.specs.declared.shuffle.Shuffle.{Shuffle};
 ghost use Rattle.cb_shapes.specs.declared.sort.Sort.{Sort};
 ghost use Rattle.cb_shapes.specs.declared.test.Condition.{Condition};
 ghost use Rattle.cb_interp.specs.Keeping.{IsKeeping, Keeps, KeepsHere, KeepsPlan};
-ghost use Rattle.cb_interp.specs.Keeping.{NativesCount, NativesKeep, NativesNameKept};
 ghost use Rattle.cb_interp.specs.Steps.{view_of};
-ghost use Rattle.cb_interp.specs.Within.{IsWithin, NativesWithin, Within};
+ghost use Rattle.cb_interp.specs.Turning.{Moment, StandsAt, Turns};
+ghost use Rattle.cb_interp.specs.Within.{IsWithin, Within};
 ghost use Rattle.cb_interp.specs.Keeping.{kept_after, kept_plan, kept_state, residents_behind};
+
+use cb_heap::Store;
 
 /// Instructions that look at frames alone, and constants: that it is told of each object whether it
 /// is kept is enough.
@@ -115,53 +118,47 @@ pub fn objects_are_kept()
         → Keeps residents now throws_object }
 {}
 
-/// Calls, where the natives do so.
+/// Calls, those of natives too.
 pub fn calls_are_kept()
     ensures on_none { (residents : List Bool) (now : Now)
-        → KeepsHere residents now → NativesKeep now.machine residents now.state
-        → Keeps residents now invokes_static }
+        → KeepsHere residents now → Keeps residents now invokes_static }
     ensures special { (residents : List Bool) (now : Now) (index : ℕ)
-        → KeepsHere residents now → NativesKeep now.machine residents now.state
-        → Keeps residents now (λ now. invokes_special now index) }
+        → KeepsHere residents now → Keeps residents now (λ now. invokes_special now index) }
     ensures selected { (residents : List Bool) (now : Now)
-        → KeepsHere residents now → NativesKeep now.machine residents now.state
-        → Keeps residents now invokes_virtual }
+        → KeepsHere residents now → Keeps residents now invokes_virtual }
     ensures of_interface { (residents : List Bool) (now : Now) (index : ℕ)
-        → KeepsHere residents now → NativesKeep now.machine residents now.state
-        → Keeps residents now (λ now. invokes_interface now index) }
+        → KeepsHere residents now → Keeps residents now (λ now. invokes_interface now index) }
 {}
 
 /// The effect on what is kept is what is kept of the effect, where nothing that is kept names an
-/// object that isn't: a step whatever it does, where the natives do so.
+/// object that isn't: a step whatever it does.
 pub fn steps_are_kept()
     ensures unwound { (machine : Machine) (residents : List Bool) (state : State)
         → IsKeeping residents state
         → unwinding machine (kept_state residents state) ≡ option_map (kept_plan residents)
         (unwinding machine state) }
     ensures planned { (machine : Machine) (residents : List Bool) (state : State)
-        → IsKeeping residents state → NativesKeep machine residents state
-        → KeepsPlan machine residents state }
+        → IsKeeping residents state → KeepsPlan machine residents state }
 {}
 
 /// The next state of what is kept is what is kept of the next state, with all that the step places;
 /// and but for that the step leaves the objects that were there, so that what is kept is there.
 pub fn next_states_are_kept()
-    ensures counted { (machine : Machine) (state : State) → NativesCount machine state
-        → (own : Plan) → plan machine state ≡ Some own → length own.left.objects
+    ensures counted { (machine : Machine) (state : State) (own : Plan)
+        → plan machine state ≡ Some own → length own.left.objects
         ≡ length state.objects }
-    ensures marked { (machine : Machine) (state : State) → NativesCount machine state
-        → (own : Plan) → plan machine state ≡ Some own → residents own.left.objects
+    ensures marked { (machine : Machine) (state : State) (own : Plan)
+        → plan machine state ≡ Some own → residents own.left.objects
         ≡ residents state.objects }
     ensures there { (machine : Machine) (kept : List Bool) (state : State) (own : Plan)
         → length kept ≡ length state.objects
-        → residents (keep kept state.objects) ≡ kept → NativesCount machine state
+        → residents (keep kept state.objects) ≡ kept
         → plan machine state ≡ Some own
         → residents (keep (kept_after kept own) (made own).objects) ≡ kept_after kept own }
     ensures made { (residents : List Bool) (own : Plan) → length residents ≡ length own.left.objects
         → made (kept_plan residents own) ≡ kept_state (kept_after residents own) (made own) }
     ensures stepped { (machine : Machine) (residents : List Bool) (state : State)
         → IsKeeping residents state
-        → NativesKeep machine residents state → NativesCount machine state
         → step machine (kept_state residents state)
         ≡ option_map (kept_state (residents_behind residents (plan machine state)))
         (step machine state) }
@@ -169,23 +166,28 @@ pub fn next_states_are_kept()
 
 /// All references of a step pass a test where all of the state's do, and all that come next; so the
 /// next state is keeping again, with all that the step places, where all its references name an
-/// object, kept or not, and natives name only what is kept, or comes next. What is kept stands for
-/// it.
+/// object, kept or not. What is kept stands for it.
 pub fn keeping_goes_on()
     ensures passed { (ok : ℕ → Bool) (machine : Machine) (state : State) → IsWithin ok state
-        → NativesWithin machine ok state
         → Within ok (plan machine state) }
     ensures again { (machine : Machine) (residents : List Bool) (state : State) (own : Plan)
         → IsKeeping residents state
-        → NativesKeep machine residents state → NativesCount machine state
-        → NativesNameKept machine residents state
         → plan machine state ≡ Some own → IsClosed (view_of (made own))
         → IsKeeping (kept_after residents own) (made own) }
     ensures stands { (machine : Machine) (kept : List Bool) (state : State) (own : Plan)
         → IsKeeping kept state
         → residents (keep kept state.objects) ≡ kept
-        → NativesKeep machine kept state → NativesCount machine state
-        → NativesNameKept machine kept state
         → plan machine state ≡ Some own → IsClosed (view_of (made own))
         → StandsFor (view_of (made (kept_plan kept own))) (made own) (kept_after kept own) }
+{}
+
+/// Turns of a run over what a store keeps, each with room made for what its step places, by whatever rule lets objects go that nothing
+/// reaches, come to what is kept of the state to which as many steps of the machine that never frees come: roots are the same, what was
+/// printed, and each object that is kept.
+pub fn turns_stand<S: Store>()
+    ensures { (machine : Machine) (steps : ℕ) (state : State)
+        → ((count : ℕ) (own : Plan) → plan machine (after machine count state) ≡ Some own
+        → IsClosed (view_of (made own)))
+        → (first last : Moment S.Facts) → StandsAt first state
+        → Turns S.rules machine steps first last → StandsAt last (after machine steps state) }
 {}

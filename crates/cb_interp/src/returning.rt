@@ -31,7 +31,8 @@ pub fn give_back(program: &Program, roots: &mut Roots, sort: Option<Sort>)
 fn go_on(program: &Program, roots: &mut Roots, answer: Option<Value>)
     requires there { is_some (returned_to program.now (answers answer) roots.old.roots.frames)
         ≡ true }
-    requires room { is_some answer ≡ true → runs_method roots.old.roots ≡ true → 0 < top_room roots.old.roots }
+    requires room { is_some answer ≡ true → runs_method roots.old.roots ≡ true
+        → 0 < top_room roots.old.roots }
     ensures behind { option_map (with_frames roots.old.roots) (returned_to program.now
         (answers answer) roots.old.roots.frames)
         ≡ Some roots.new.roots }

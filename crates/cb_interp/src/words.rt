@@ -5,30 +5,28 @@ ghost use Rattle.cb_frames.specs.Entries.{referent};
 ghost use Rattle.cb_heap.specs.Kept.{content_at, is_held, with_content};
 ghost use Rattle.cb_heap.specs.Reading.{read_value, serial_of};
 ghost use Rattle.cb_heap.specs.Store.{may_point};
-ghost use Rattle.cb_kinds.specs.declared.basic.Basic.{Basic as OfBasic};
-ghost use Rattle.cb_machine.specs.Values.{content_of, kept_int, kept_value, sort_of_basic, value_in};
+ghost use Rattle.cb_machine.specs.Values.{content_of, kept_int, kept_value, value_in};
 ghost use Rattle.cb_interp.specs.Objects.{Suits, takes};
 
 use cb_arith::{Narrow, narrow};
 use cb_heap::Store;
 use cb_kinds::Basic;
 use cb_plain::Value;
-use cb_shapes::Sort;
 
-/// The value in a word of an object that holds one of a sort.
-pub(crate) fn value_at<S: Store>(store: &S, at: u64, i: u32, sort: Sort) -> Value
-    ghost basic: { OfBasic }
-    requires sort { sort_of_basic basic ≡ sort }
+/// The value in a word of an object that holds one of a type.
+pub(crate) fn value_at<S: Store>(store: &S, at: u64, i: u32, basic: Basic) -> Value
     requires suits { Suits basic (content_at (S.kept store.now) (serial_of
         (S.index store.now) at) i) }
     ensures { option_map (value_in basic) (content_at (S.kept store.now) (serial_of
         (S.index store.now) at) i)
         ≡ Some (read_value (S.index store.now) result) }
 {
-    match sort {
-        Sort::Reference => Value::Ref(store.get_ref(at, i)),
-        Sort::Long => Value::Long(long_in(store.get(at, i))),
-        Sort::Int => Value::Int(int_in(store.get(at, i))),
+    match basic {
+        Basic::Reference(_) => Value::Ref(store.get_ref(at, i)),
+        Basic::Long => Value::Long(long_in(store.get(at, i))),
+        Basic::Boolean | Basic::Byte | Basic::Char | Basic::Short | Basic::Int => {
+            Value::Int(int_in(store.get(at, i)))
+        }
     }
 }
 

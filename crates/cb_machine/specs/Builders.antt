@@ -73,8 +73,9 @@ holding call serial builder place array units =
     else in_new_array call serial builder (length array.contents) units
 
 abbrev holds_in : Call → ℕ → Object → List ℕ → List Value → ℕ → Option Performed
-holds_in call serial builder units answer place =
-    option_map (λ array. Gives (holding call serial builder place array units) answer) (object_at call.state place)
+holds_in call serial builder units answer zero = Some (Gives (in_new_array call serial builder 0 units) answer)
+holds_in call serial builder units answer (suc place) =
+    option_map (λ array. Gives (holding call serial builder (suc place) array units) answer) (object_at call.state (suc place))
 
 abbrev holds : Call → ℕ → Object → List Value → List ℕ → Option Performed
 holds call serial builder answer units = if_short call (length units) (option_and_then (holds_in call serial builder units answer) (reference_at builder value_slot))

@@ -65,7 +65,7 @@ by_body now method arguments rest None = without_body now arguments rest (native
 by_body now method arguments rest (Some body) =
     Some (entered_upon now.machine now.state (OfMethod (with_stack now.frame rest) ∷ now.below) method arguments body)
 
-abbrev by_method : Now → List Value → List Value → Selected → Option Plan
+abbrev pub by_method : Now → List Value → List Value → Selected → Option Plan
 by_method now arguments rest (chosen.Method number) =
     option_and_then (λ numbered. by_body now number arguments rest numbered.member.body) (method_numbered now.machine.program number)
 by_method now arguments rest chosen.Abstract = throws_abstract now
@@ -99,7 +99,7 @@ receives now choose other rest = None
 abbrev calls_taken : Now → (ℕ → Selected) → List Value × List Value → Option Plan
 calls_taken now choose taken = receives now choose (reverse taken.0) taken.1
 
-abbrev calls : Now → (ℕ → Selected) → ℕ → Option Plan
+abbrev pub calls : Now → (ℕ → Selected) → ℕ → Option Plan
 calls now choose method =
     option_and_then (calls_taken now choose) (taken (asked_sorts now.machine.program method ++ sorts.Reference ∷ []) now.frame.stack)
 

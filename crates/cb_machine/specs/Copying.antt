@@ -14,7 +14,7 @@ use Rattle.cb_machine.specs.Values.{natural}
 use Rattle.cb_machine.specs.Arrays.{element_of, fits_kind}
 use Rattle.cb_machine.specs.Library.{cloneable}
 use Rattle.cb_machine.specs.Machine.{kind_of_site}
-use Rattle.cb_machine.specs.Performing.{Call, Performed, Gives, Stops, array_of, on_object, reference_at, stops, with_word, if_short}
+use Rattle.cb_machine.specs.Performing.{Call, Performed, Gives, Stops, array_words, on_object, reference_at, stops, with_word, if_short}
 use Rattle.cb_machine.specs.Plans.{leaving, with_left, with_one}
 use Rattle.cb_machine.specs.Sites.{array_index, array_store, clone_not_supported, illegal_argument, made_characters, suppressed}
 use Rattle.cb_machine.specs.Throwing.{throwing}
@@ -119,7 +119,7 @@ adds_suppressed call serial other =
 -- the characters of a string in an array of their own
 abbrev gives_characters : Call → Object → Option Performed
 gives_characters call string =
-    option_and_then (λ array. gives_new call made_characters (kind_of_site call.machine.program made_characters) array.contents) (array_of call.state string)
+    option_and_then (gives_new call made_characters (kind_of_site call.machine.program made_characters)) (array_words call.state string)
 
 abbrev pub array_native : Call → Native → List Value → Option Performed
 array_native call natives.ObjectClone (Ref object ∷ []) = on_object call object (clones call)

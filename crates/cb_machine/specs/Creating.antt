@@ -76,7 +76,7 @@ with_arrays machine method pc dimension count (size ∷ sizes) plan =
     (site_number machine.program method pc dimension)
 
 -- sizes are looked at before anything is placed
-abbrev is_size : Value → Bool
+abbrev pub is_size : Value → Bool
 is_size (Int (pos size)) = true
 is_size other = false
 

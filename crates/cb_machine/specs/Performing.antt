@@ -62,7 +62,16 @@ on_number call serial go = on_object call serial (λ object. option_and_then go 
 abbrev pub with_word : State → ℕ → Object → ℕ → Content → State
 with_word state serial object slot content = with_contents_at state serial (slice_set object.contents slot content)
 
--- the units of an array of chars, of a string, and of a builder, of whose array so many count
+-- the words of the array that an object has in its first field. Where that is null there are none: a String and a StringBuilder have
+-- theirs from their constructors, and no native is given one before (JVMS §4.10.1.9)
+abbrev pub words_at : State → ℕ → Option (List Content)
+words_at state zero = Some []
+words_at state (suc place) = option_map (λ array. array.contents) (object_at state (suc place))
+
+abbrev pub array_words : State → Object → Option (List Content)
+array_words state object = option_and_then (words_at state) (reference_at object value_slot)
+
+-- the units of an array of chars, of a string, and of a builder, of whose array so many count, none where that is negative
 abbrev unit_in : Content → ℕ
 unit_in (Number (pos unit)) = unit
 unit_in other = 0
@@ -73,22 +82,18 @@ units_of array = map unit_in array.contents
 abbrev pub count_slot : ℕ
 count_slot = 1
 
-abbrev pub array_of : State → Object → Option Object
-array_of state object = option_and_then (object_at state) (reference_at object value_slot)
-
 abbrev pub text_of : State → Object → Option (List ℕ)
-text_of state string = option_map units_of (array_of state string)
+text_of state string = option_map (map unit_in) (array_words state string)
 
 abbrev pub on_text : Call → ℕ → (List ℕ → Option Performed) → Option Performed
 on_text call serial go = on_object call serial (λ string. option_and_then go (text_of call.state string))
 
-abbrev counted : List ℕ → ℤ → Option (List ℕ)
-counted units (pos count) = Some (take count units)
-counted units other = None
+abbrev counted : List ℕ → ℤ → List ℕ
+counted units (pos count) = take count units
+counted units other = []
 
 abbrev pub built_text : State → Object → Option (List ℕ)
-built_text state builder =
-    option_and_then (λ array. option_and_then (counted (units_of array)) (number_at builder count_slot)) (array_of state builder)
+built_text state builder = option_and_then (λ units. option_map (counted units) (number_at builder count_slot)) (text_of state builder)
 
 -- no array is longer than this
 abbrev pub most_elements : ℕ

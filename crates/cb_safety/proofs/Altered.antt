@@ -61,6 +61,7 @@ altered_good program plan place object contents good there is =
       typed = record {
         heap = subst (IsHeap program) (sym same) heap;
         roots = subst (λ (kinds : Kinds). AreRoots program kinds plan.left.roots) (sym (ap kinds_of same ∙ kinds)) good.typed.roots;
+        input = good.typed.input;
       };
       next =
           let long : length (objects_in (altered plan (suc place) contents)) ≡ length (objects_in plan) = ap length same ∙ altered_length (objects_in plan) place contents in

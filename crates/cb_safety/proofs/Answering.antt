@@ -26,8 +26,7 @@ use Rattle.cb_machine.specs.Natives.{performed}
 use Rattle.cb_machine.specs.Performing.{Call, Performed, Stops, gives, identity_hash, most_elements, number_at, on_number, on_object, on_text, stops}
 use Rattle.cb_machine.specs.Plans.{made}
 use Rattle.cb_machine.specs.Sites.{number_format, string_index}
-use Rattle.cb_plain.specs.State.{Frame, MethodFrame, Object, OfMethod, State}
-use Rattle.cb_plain.specs.Updates.{object_at}
+use Rattle.cb_plain.specs.State.{Frame, MethodFrame, OfMethod, State}
 use Rattle.cb_plain.specs.declared.value.Value.{Value}
 use Rattle.cb_plain.specs.declared.value.Value.TheVariants as values
 use Rattle.cb_verify.specs.Typed.{IsTyped}
@@ -35,9 +34,9 @@ use Rattle.cb_verify.specs.Types.{type_of}
 use Rattle.cb_verify.specs.declared.verification_type.VerificationType.TheVariants as types
 use Rattle.cb_verify.specs.Within.{kind_of_string}
 use Rattle.cb_safety.specs.Advancing.{Advances, HoldsOn, IsSpelled}
-use Rattle.cb_safety.specs.Kinds.{Refers, holds_kind}
+use Rattle.cb_safety.specs.Kinds.{Refers}
 use Rattle.cb_safety.specs.Natives.{CallsNative}
-use Rattle.cb_safety.specs.Performing.{AreBuilt, HasNatives, HaveField, IsBuilt, native_sites}
+use Rattle.cb_safety.specs.Performing.{HasNatives, HaveField, native_sites}
 use Rattle.cb_safety.specs.Signatures.{enum, gives_of, is_of_answers, is_of_numbers, takes_of}
 use Rattle.cb_safety.specs.States.{IsTypedState}
 use Rattle.cb_safety.specs.Strings.{IsText}
@@ -194,7 +193,6 @@ module _ (machine : Machine) (state : State) (has : HasNatives machine.program) 
 
   -- texts
   text : (result : Option Basic) (serial : ℕ) (go : List ℕ → Option Performed) → Refer kind_of_string serial
-      → ((object : Object) → object_at state serial ≡ Some object → holds_kind machine.program object.kind kind_of_string ≡ true → IsBuilt state object)
       → ((units : List ℕ) → IsText units → Is result (go units)) → Is result (on_text call serial go)
   text = text_typed machine state has typed runs
 
@@ -235,11 +233,10 @@ module _ (machine : Machine) (state : State) (has : HasNatives machine.program) 
 
   text_parsed : (result : Option Basic) (width : Width) (give : ℤ → Option Performed) → ((number : ℤ) → FitsSigned width number → Is result (give number)) → (serial : ℕ)
       → Refer kind_of_string serial
-      → ((object : Object) → object_at state serial ≡ Some object → holds_kind machine.program object.kind kind_of_string ≡ true → IsBuilt state object)
       → Is result (parses width give serial)
-  text_parsed result width give follows zero refers built = stopped result number_format (6, omega arith, refl)
-  text_parsed result width give follows (suc place) refers built =
-      text result (suc place) (λ units. parsed_by give (option_and_then (in_range width) (number_in units))) refers built
+  text_parsed result width give follows zero refers = stopped result number_format (6, omega arith, refl)
+  text_parsed result width give follows (suc place) refers =
+      text result (suc place) (λ units. parsed_by give (option_and_then (in_range width) (number_in units))) refers
       (λ units is. parsed result width give follows (number_in units))
 
   -- hashes of objects
@@ -258,83 +255,80 @@ module _ (machine : Machine) (state : State) (has : HasNatives machine.program) 
       object_typed machine state has typed runs result enum serial (λ object. option_and_then go (number_at object 1)) refers
       (λ place object same there is goes. number_typed machine state has typed runs result enum 1 basics.Int object go has.core.ordinals refl goes is (λ number own. follows number))
 
-  abbrev Built : List Value → Type 0
-  Built held = AreBuilt machine.program state held
-
   -- those on numbers alone
-  number_performed : (native : Native) (held : List Value) → AreGiven machine.program (kinds machine state has typed runs) (takes_of machine.program native) held → Built held
+  number_performed : (native : Native) (held : List Value) → AreGiven machine.program (kinds machine state has typed runs) (takes_of machine.program native) held
       → is_of_numbers native ≡ true → Is (gives_of machine.program native) (performed machine state native held)
-  number_performed natives.MathAbsInt _ (AreGiven.AnInt a _ _ _ AreGiven.Nothing) built form = wrapped _
-  number_performed natives.MathAbsLong _ (AreGiven.ALong a _ _ _ AreGiven.Nothing) built form = wrapped_long _
-  number_performed natives.MathMaxInt _ (AreGiven.AnInt a _ _ a_fits (AreGiven.AnInt b _ _ b_fits AreGiven.Nothing)) built form = int (if int_lt a b then b else a) (either_fits (int_lt a b) b a w32 b_fits a_fits)
-  number_performed natives.MathMinInt _ (AreGiven.AnInt a _ _ a_fits (AreGiven.AnInt b _ _ b_fits AreGiven.Nothing)) built form = int (if int_lt b a then b else a) (either_fits (int_lt b a) b a w32 b_fits a_fits)
-  number_performed natives.MathFloorDivInt _ (AreGiven.AnInt a _ _ _ (AreGiven.AnInt b _ _ _ AreGiven.Nothing)) built form = divided floor_quotient a b
-  number_performed natives.MathFloorModInt _ (AreGiven.AnInt a _ _ _ (AreGiven.AnInt b _ _ _ AreGiven.Nothing)) built form = divided floor_remainder a b
-  number_performed natives.MathMaxLong _ (AreGiven.ALong a _ _ a_fits (AreGiven.ALong b _ _ b_fits AreGiven.Nothing)) built form = long (if int_lt a b then b else a) (either_fits (int_lt a b) b a w64 b_fits a_fits)
-  number_performed natives.MathMinLong _ (AreGiven.ALong a _ _ a_fits (AreGiven.ALong b _ _ b_fits AreGiven.Nothing)) built form = long (if int_lt b a then b else a) (either_fits (int_lt b a) b a w64 b_fits a_fits)
-  number_performed natives.MathFloorDivLong _ (AreGiven.ALong a _ _ _ (AreGiven.ALong b _ _ _ AreGiven.Nothing)) built form = divided_long floor_quotient a b
-  number_performed natives.MathFloorModLong _ (AreGiven.ALong a _ _ _ (AreGiven.ALong b _ _ _ AreGiven.Nothing)) built form = divided_long floor_remainder a b
-  number_performed natives.IntegerCompare _ (AreGiven.AnInt a _ _ _ (AreGiven.AnInt b _ _ _ AreGiven.Nothing)) built form = int _ (compare_fits a b)
-  number_performed natives.LongCompare _ (AreGiven.ALong a _ _ _ (AreGiven.ALong b _ _ _ AreGiven.Nothing)) built form = int _ (compare_fits a b)
-  number_performed other held given built form = absurd (false≢true form)
+  number_performed natives.MathAbsInt _ (AreGiven.AnInt a _ _ _ AreGiven.Nothing) form = wrapped _
+  number_performed natives.MathAbsLong _ (AreGiven.ALong a _ _ _ AreGiven.Nothing) form = wrapped_long _
+  number_performed natives.MathMaxInt _ (AreGiven.AnInt a _ _ a_fits (AreGiven.AnInt b _ _ b_fits AreGiven.Nothing)) form = int (if int_lt a b then b else a) (either_fits (int_lt a b) b a w32 b_fits a_fits)
+  number_performed natives.MathMinInt _ (AreGiven.AnInt a _ _ a_fits (AreGiven.AnInt b _ _ b_fits AreGiven.Nothing)) form = int (if int_lt b a then b else a) (either_fits (int_lt b a) b a w32 b_fits a_fits)
+  number_performed natives.MathFloorDivInt _ (AreGiven.AnInt a _ _ _ (AreGiven.AnInt b _ _ _ AreGiven.Nothing)) form = divided floor_quotient a b
+  number_performed natives.MathFloorModInt _ (AreGiven.AnInt a _ _ _ (AreGiven.AnInt b _ _ _ AreGiven.Nothing)) form = divided floor_remainder a b
+  number_performed natives.MathMaxLong _ (AreGiven.ALong a _ _ a_fits (AreGiven.ALong b _ _ b_fits AreGiven.Nothing)) form = long (if int_lt a b then b else a) (either_fits (int_lt a b) b a w64 b_fits a_fits)
+  number_performed natives.MathMinLong _ (AreGiven.ALong a _ _ a_fits (AreGiven.ALong b _ _ b_fits AreGiven.Nothing)) form = long (if int_lt b a then b else a) (either_fits (int_lt b a) b a w64 b_fits a_fits)
+  number_performed natives.MathFloorDivLong _ (AreGiven.ALong a _ _ _ (AreGiven.ALong b _ _ _ AreGiven.Nothing)) form = divided_long floor_quotient a b
+  number_performed natives.MathFloorModLong _ (AreGiven.ALong a _ _ _ (AreGiven.ALong b _ _ _ AreGiven.Nothing)) form = divided_long floor_remainder a b
+  number_performed natives.IntegerCompare _ (AreGiven.AnInt a _ _ _ (AreGiven.AnInt b _ _ _ AreGiven.Nothing)) form = int _ (compare_fits a b)
+  number_performed natives.LongCompare _ (AreGiven.ALong a _ _ _ (AreGiven.ALong b _ _ _ AreGiven.Nothing)) form = int _ (compare_fits a b)
+  number_performed other held given form = absurd (false≢true form)
 
   -- those that read objects
-  answer_performed : (native : Native) (held : List Value) → AreGiven machine.program (kinds machine state has typed runs) (takes_of machine.program native) held → Built held
+  answer_performed : (native : Native) (held : List Value) → AreGiven machine.program (kinds machine state has typed runs) (takes_of machine.program native) held
       → is_of_answers native ≡ true → Is (gives_of machine.program native) (performed machine state native held)
-  answer_performed natives.IntegerParseInt _ (AreGiven.AnObject _ string _ _ refers AreGiven.Nothing) built form = text_parsed (Some basics.Int) w32 (λ number. gives call (values.Int number ∷ [])) int string refers (λ object there goes. built.strings string object (0, omega arith, refl) there goes)
-  answer_performed natives.LongParseLong _ (AreGiven.AnObject _ string _ _ refers AreGiven.Nothing) built form = text_parsed (Some basics.Long) w64 (λ number. gives call (values.Long number ∷ [])) long string refers (λ object there goes. built.strings string object (0, omega arith, refl) there goes)
-  answer_performed natives.IntegerIntValue _ (AreGiven.AnObject _ box _ _ refers AreGiven.Nothing) built form = boxed (Some basics.Int) library.integer box basics.Int _ has.core.integers refl refers (λ number is. int number (is.narrow (λ same. cc same)))
-  answer_performed natives.IntegerLongValue _ (AreGiven.AnObject _ box _ _ refers AreGiven.Nothing) built form = boxed (Some basics.Long) library.integer box basics.Int _ has.core.integers refl refers (λ number is. long number is.wide)
-  answer_performed natives.IntegerHashCode _ (AreGiven.AnObject _ box _ _ refers AreGiven.Nothing) built form = boxed (Some basics.Int) library.integer box basics.Int _ has.core.integers refl refers (λ number is. int number (is.narrow (λ same. cc same)))
-  answer_performed natives.LongIntValue _ (AreGiven.AnObject _ box _ _ refers AreGiven.Nothing) built form = boxed (Some basics.Int) library.long box basics.Long _ has.core.longs refl refers (λ number is. wrapped number)
-  answer_performed natives.LongLongValue _ (AreGiven.AnObject _ box _ _ refers AreGiven.Nothing) built form = boxed (Some basics.Long) library.long box basics.Long _ has.core.longs refl refers (λ number is. long number is.wide)
-  answer_performed natives.LongHashCode _ (AreGiven.AnObject _ box _ _ refers AreGiven.Nothing) built form = boxed (Some basics.Int) library.long box basics.Long _ has.core.longs refl refers (λ number is. wrapped _)
-  answer_performed natives.CharacterCharValue _ (AreGiven.AnObject _ box _ _ refers AreGiven.Nothing) built form = boxed (Some basics.Char) library.character box basics.Char _ has.core.chars refl refers (λ number is. gives_number machine state has typed runs basics.Char number refl (is.narrow (λ same. cc same)))
-  answer_performed natives.CharacterHashCode _ (AreGiven.AnObject _ box _ _ refers AreGiven.Nothing) built form = boxed (Some basics.Int) library.character box basics.Char _ has.core.chars refl refers (λ number is. int number (is.narrow (λ same. cc same)))
-  answer_performed natives.BooleanBooleanValue _ (AreGiven.AnObject _ box _ _ refers AreGiven.Nothing) built form = boxed (Some basics.Boolean) library.boolean box basics.Boolean _ has.core.booleans refl refers (λ number is. gives_number machine state has typed runs basics.Boolean number refl (is.narrow (λ same. cc same)))
-  answer_performed natives.BooleanHashCode _ (AreGiven.AnObject _ box _ _ refers AreGiven.Nothing) built form = boxed (Some basics.Int) library.boolean box basics.Boolean _ has.core.booleans refl refers (λ number is. int (if int_eq number (pos 0) then pos 1237 else pos 1231) (either_fits (int_eq number (pos 0)) (pos 1237) (pos 1231) w32 (length_fits 1237 (omega arith)) (length_fits 1231 (omega arith))))
-  answer_performed natives.IntegerEquals _ (AreGiven.AnObject _ box _ _ refers (AreGiven.AnObject _ other _ _ _ AreGiven.Nothing)) built form = boxed (Some basics.Boolean) library.integer box basics.Int _ has.core.integers refl refers (λ number is. truth _)
-  answer_performed natives.LongEquals _ (AreGiven.AnObject _ box _ _ refers (AreGiven.AnObject _ other _ _ _ AreGiven.Nothing)) built form = boxed (Some basics.Boolean) library.long box basics.Long _ has.core.longs refl refers (λ number is. truth _)
-  answer_performed natives.CharacterEquals _ (AreGiven.AnObject _ box _ _ refers (AreGiven.AnObject _ other _ _ _ AreGiven.Nothing)) built form = boxed (Some basics.Boolean) library.character box basics.Char _ has.core.chars refl refers (λ number is. truth _)
-  answer_performed natives.BooleanEquals _ (AreGiven.AnObject _ box _ _ refers (AreGiven.AnObject _ other _ _ _ AreGiven.Nothing)) built form = boxed (Some basics.Boolean) library.boolean box basics.Boolean _ has.core.booleans refl refers (λ number is. truth _)
-  answer_performed natives.IntegerCompareTo _ (AreGiven.AnObject _ box _ _ refers (AreGiven.AnObject _ other _ _ also AreGiven.Nothing)) built form = compares library.integer basics.Int compare box other has.core.integers refl (λ first second is also. compare_fits first second) refers also
-  answer_performed natives.LongCompareTo _ (AreGiven.AnObject _ box _ _ refers (AreGiven.AnObject _ other _ _ also AreGiven.Nothing)) built form = compares library.long basics.Long compare box other has.core.longs refl (λ first second is also. compare_fits first second) refers also
-  answer_performed natives.CharacterCompareTo _ (AreGiven.AnObject _ box _ _ refers (AreGiven.AnObject _ other _ _ also AreGiven.Nothing)) built form = compares library.character basics.Char (λ first second. first -ℤ second) box other has.core.chars refl chars_differ refers also
-  answer_performed natives.BooleanCompareTo _ (AreGiven.AnObject _ box _ _ refers (AreGiven.AnObject _ other _ _ also AreGiven.Nothing)) built form = compares library.boolean basics.Boolean (λ first second. first -ℤ second) box other has.core.booleans refl booleans_differ refers also
-  answer_performed natives.StringLength _ (AreGiven.AnObject _ string _ _ refers AreGiven.Nothing) built form = text (Some basics.Int) string _ refers (λ object there goes. built.strings string object (0, omega arith, refl) there goes) (λ units is. int (pos (length units)) (length_fits (length units) is.few))
-  answer_performed natives.StringIsEmpty _ (AreGiven.AnObject _ string _ _ refers AreGiven.Nothing) built form = text (Some basics.Boolean) string _ refers (λ object there goes. built.strings string object (0, omega arith, refl) there goes) (λ units is. truth (length units == 0))
-  answer_performed natives.StringHashCode _ (AreGiven.AnObject _ string _ _ refers AreGiven.Nothing) built form = text (Some basics.Int) string _ refers (λ object there goes. built.strings string object (0, omega arith, refl) there goes) (λ units is. wrapped _)
-  answer_performed natives.StringCharAt _ (AreGiven.AnObject _ string _ _ refers (AreGiven.AnInt place _ _ _ AreGiven.Nothing)) built form = text (Some basics.Char) string (unit_at place) refers (λ object there goes. built.strings string object (0, omega arith, refl) there goes) (λ units is. unit_there place units is)
-  answer_performed natives.StringEquals _ (AreGiven.AnObject _ string _ _ refers (AreGiven.AnObject _ other _ _ _ AreGiven.Nothing)) built form = text (Some basics.Boolean) string _ refers (λ object there goes. built.strings string object (0, omega arith, refl) there goes) (λ units is. truth _)
-  answer_performed natives.StringIndexOfUnit _ (AreGiven.AnObject _ string _ _ refers (AreGiven.AnInt unit _ _ _ AreGiven.Nothing)) built form = text (Some basics.Int) string _ refers (λ object there goes. built.strings string object (0, omega arith, refl) there goes) (λ units is. int (unit_index units unit) (index_fits units unit is.few))
-  answer_performed natives.StringCompareTo _ (AreGiven.AnObject _ string _ _ refers (AreGiven.AnObject _ other _ _ also AreGiven.Nothing)) built form = text (Some basics.Int) other _ also (λ object there goes. built.strings other object (1, omega arith, refl) there goes) (λ others fine. text (Some basics.Int) string _ refers (λ object there goes. built.strings string object (0, omega arith, refl) there goes) (λ units is. int (compared units others) (compared_fits units others is fine)))
-  answer_performed natives.StringIndexOfString _ (AreGiven.AnObject _ string _ _ refers (AreGiven.AnObject _ other _ _ also AreGiven.Nothing)) built form = text (Some basics.Int) other _ also (λ object there goes. built.strings other object (1, omega arith, refl) there goes) (λ others fine. text (Some basics.Int) string _ refers (λ object there goes. built.strings string object (0, omega arith, refl) there goes) (λ units is. let few = is.few in int (found_from 0 units others) (found_fits 0 units others (omega (arith, few)))))
-  answer_performed natives.StringStartsWith _ (AreGiven.AnObject _ string _ _ refers (AreGiven.AnObject _ other _ _ also AreGiven.Nothing)) built form = text (Some basics.Boolean) other _ also (λ object there goes. built.strings other object (1, omega arith, refl) there goes) (λ others fine. text (Some basics.Boolean) string _ refers (λ object there goes. built.strings string object (0, omega arith, refl) there goes) (λ units is. truth _))
-  answer_performed natives.StringEndsWith _ (AreGiven.AnObject _ string _ _ refers (AreGiven.AnObject _ other _ _ also AreGiven.Nothing)) built form = text (Some basics.Boolean) other _ also (λ object there goes. built.strings other object (1, omega arith, refl) there goes) (λ others fine. text (Some basics.Boolean) string _ refers (λ object there goes. built.strings string object (0, omega arith, refl) there goes) (λ units is. truth _))
-  answer_performed natives.StringBuilderLength _ (AreGiven.AnObject _ own _ _ refers AreGiven.Nothing) built form = built_typed machine state has typed runs (Some basics.Int) own (λ object units. gives call (values.Int (pos (length units)) ∷ [])) refers (λ object there goes. built.builders own object (0, omega arith, refl) there goes) (λ place object units same there is goes fine. int (pos (length units)) (length_fits (length units) fine.few))
-  answer_performed natives.StringBuilderCharAt _ (AreGiven.AnObject _ own _ _ refers (AreGiven.AnInt index _ _ _ AreGiven.Nothing)) built form = built_typed machine state has typed runs (Some basics.Char) own (λ object units. unit_at index units) refers (λ object there goes. built.builders own object (0, omega arith, refl) there goes) (λ place object units same there is goes fine. unit_there index units fine)
-  answer_performed natives.ObjectHashCode _ (AreGiven.AnObject _ object _ _ _ AreGiven.Nothing) built form = hash object
-  answer_performed natives.ObjectEquals _ (AreGiven.AnObject _ object _ _ _ (AreGiven.AnObject _ other _ _ _ AreGiven.Nothing)) built form = truth (object == other)
-  answer_performed natives.SystemIdentityHashCode _ (AreGiven.AnObject _ object _ _ _ AreGiven.Nothing) built form = hash object
-  answer_performed natives.ClassDesiredAssertionStatus _ (AreGiven.AnObject _ class _ _ _ AreGiven.Nothing) built form = truth false
-  answer_performed natives.Flush _ (AreGiven.AnObject _ stream _ _ _ AreGiven.Nothing) built form = nothing
-  answer_performed natives.EnumEquals _ (AreGiven.AnObject _ constant _ _ _ (AreGiven.AnObject _ other _ _ _ AreGiven.Nothing)) built form = truth (constant == other)
-  answer_performed natives.EnumHashCode _ (AreGiven.AnObject _ constant _ _ _ AreGiven.Nothing) built form = hash constant
-  answer_performed natives.EnumCompareTo _ (AreGiven.AnObject _ constant _ _ refers (AreGiven.AnObject _ other _ _ also AreGiven.Nothing)) built form = ordinal (Some basics.Int) other _ also (λ second. ordinal (Some basics.Int) constant _ refers (λ first. wrapped (first -ℤ second)))
-  answer_performed other held given built form = absurd (false≢true form)
+  answer_performed natives.IntegerParseInt _ (AreGiven.AnObject _ string _ _ refers AreGiven.Nothing) form = text_parsed (Some basics.Int) w32 (λ number. gives call (values.Int number ∷ [])) int string refers
+  answer_performed natives.LongParseLong _ (AreGiven.AnObject _ string _ _ refers AreGiven.Nothing) form = text_parsed (Some basics.Long) w64 (λ number. gives call (values.Long number ∷ [])) long string refers
+  answer_performed natives.IntegerIntValue _ (AreGiven.AnObject _ box _ _ refers AreGiven.Nothing) form = boxed (Some basics.Int) library.integer box basics.Int _ has.core.integers refl refers (λ number is. int number (is.narrow (λ same. cc same)))
+  answer_performed natives.IntegerLongValue _ (AreGiven.AnObject _ box _ _ refers AreGiven.Nothing) form = boxed (Some basics.Long) library.integer box basics.Int _ has.core.integers refl refers (λ number is. long number is.wide)
+  answer_performed natives.IntegerHashCode _ (AreGiven.AnObject _ box _ _ refers AreGiven.Nothing) form = boxed (Some basics.Int) library.integer box basics.Int _ has.core.integers refl refers (λ number is. int number (is.narrow (λ same. cc same)))
+  answer_performed natives.LongIntValue _ (AreGiven.AnObject _ box _ _ refers AreGiven.Nothing) form = boxed (Some basics.Int) library.long box basics.Long _ has.core.longs refl refers (λ number is. wrapped number)
+  answer_performed natives.LongLongValue _ (AreGiven.AnObject _ box _ _ refers AreGiven.Nothing) form = boxed (Some basics.Long) library.long box basics.Long _ has.core.longs refl refers (λ number is. long number is.wide)
+  answer_performed natives.LongHashCode _ (AreGiven.AnObject _ box _ _ refers AreGiven.Nothing) form = boxed (Some basics.Int) library.long box basics.Long _ has.core.longs refl refers (λ number is. wrapped _)
+  answer_performed natives.CharacterCharValue _ (AreGiven.AnObject _ box _ _ refers AreGiven.Nothing) form = boxed (Some basics.Char) library.character box basics.Char _ has.core.chars refl refers (λ number is. gives_number machine state has typed runs basics.Char number refl (is.narrow (λ same. cc same)))
+  answer_performed natives.CharacterHashCode _ (AreGiven.AnObject _ box _ _ refers AreGiven.Nothing) form = boxed (Some basics.Int) library.character box basics.Char _ has.core.chars refl refers (λ number is. int number (is.narrow (λ same. cc same)))
+  answer_performed natives.BooleanBooleanValue _ (AreGiven.AnObject _ box _ _ refers AreGiven.Nothing) form = boxed (Some basics.Boolean) library.boolean box basics.Boolean _ has.core.booleans refl refers (λ number is. gives_number machine state has typed runs basics.Boolean number refl (is.narrow (λ same. cc same)))
+  answer_performed natives.BooleanHashCode _ (AreGiven.AnObject _ box _ _ refers AreGiven.Nothing) form = boxed (Some basics.Int) library.boolean box basics.Boolean _ has.core.booleans refl refers (λ number is. int (if int_eq number (pos 0) then pos 1237 else pos 1231) (either_fits (int_eq number (pos 0)) (pos 1237) (pos 1231) w32 (length_fits 1237 (omega arith)) (length_fits 1231 (omega arith))))
+  answer_performed natives.IntegerEquals _ (AreGiven.AnObject _ box _ _ refers (AreGiven.AnObject _ other _ _ _ AreGiven.Nothing)) form = boxed (Some basics.Boolean) library.integer box basics.Int _ has.core.integers refl refers (λ number is. truth _)
+  answer_performed natives.LongEquals _ (AreGiven.AnObject _ box _ _ refers (AreGiven.AnObject _ other _ _ _ AreGiven.Nothing)) form = boxed (Some basics.Boolean) library.long box basics.Long _ has.core.longs refl refers (λ number is. truth _)
+  answer_performed natives.CharacterEquals _ (AreGiven.AnObject _ box _ _ refers (AreGiven.AnObject _ other _ _ _ AreGiven.Nothing)) form = boxed (Some basics.Boolean) library.character box basics.Char _ has.core.chars refl refers (λ number is. truth _)
+  answer_performed natives.BooleanEquals _ (AreGiven.AnObject _ box _ _ refers (AreGiven.AnObject _ other _ _ _ AreGiven.Nothing)) form = boxed (Some basics.Boolean) library.boolean box basics.Boolean _ has.core.booleans refl refers (λ number is. truth _)
+  answer_performed natives.IntegerCompareTo _ (AreGiven.AnObject _ box _ _ refers (AreGiven.AnObject _ other _ _ also AreGiven.Nothing)) form = compares library.integer basics.Int compare box other has.core.integers refl (λ first second is also. compare_fits first second) refers also
+  answer_performed natives.LongCompareTo _ (AreGiven.AnObject _ box _ _ refers (AreGiven.AnObject _ other _ _ also AreGiven.Nothing)) form = compares library.long basics.Long compare box other has.core.longs refl (λ first second is also. compare_fits first second) refers also
+  answer_performed natives.CharacterCompareTo _ (AreGiven.AnObject _ box _ _ refers (AreGiven.AnObject _ other _ _ also AreGiven.Nothing)) form = compares library.character basics.Char (λ first second. first -ℤ second) box other has.core.chars refl chars_differ refers also
+  answer_performed natives.BooleanCompareTo _ (AreGiven.AnObject _ box _ _ refers (AreGiven.AnObject _ other _ _ also AreGiven.Nothing)) form = compares library.boolean basics.Boolean (λ first second. first -ℤ second) box other has.core.booleans refl booleans_differ refers also
+  answer_performed natives.StringLength _ (AreGiven.AnObject _ string _ _ refers AreGiven.Nothing) form = text (Some basics.Int) string _ refers (λ units is. int (pos (length units)) (length_fits (length units) is.few))
+  answer_performed natives.StringIsEmpty _ (AreGiven.AnObject _ string _ _ refers AreGiven.Nothing) form = text (Some basics.Boolean) string _ refers (λ units is. truth (length units == 0))
+  answer_performed natives.StringHashCode _ (AreGiven.AnObject _ string _ _ refers AreGiven.Nothing) form = text (Some basics.Int) string _ refers (λ units is. wrapped _)
+  answer_performed natives.StringCharAt _ (AreGiven.AnObject _ string _ _ refers (AreGiven.AnInt place _ _ _ AreGiven.Nothing)) form = text (Some basics.Char) string (unit_at place) refers (λ units is. unit_there place units is)
+  answer_performed natives.StringEquals _ (AreGiven.AnObject _ string _ _ refers (AreGiven.AnObject _ other _ _ _ AreGiven.Nothing)) form = text (Some basics.Boolean) string _ refers (λ units is. truth _)
+  answer_performed natives.StringIndexOfUnit _ (AreGiven.AnObject _ string _ _ refers (AreGiven.AnInt unit _ _ _ AreGiven.Nothing)) form = text (Some basics.Int) string _ refers (λ units is. int (unit_index units unit) (index_fits units unit is.few))
+  answer_performed natives.StringCompareTo _ (AreGiven.AnObject _ string _ _ refers (AreGiven.AnObject _ other _ _ also AreGiven.Nothing)) form = text (Some basics.Int) other _ also (λ others fine. text (Some basics.Int) string _ refers (λ units is. int (compared units others) (compared_fits units others is fine)))
+  answer_performed natives.StringIndexOfString _ (AreGiven.AnObject _ string _ _ refers (AreGiven.AnObject _ other _ _ also AreGiven.Nothing)) form = text (Some basics.Int) other _ also (λ others fine. text (Some basics.Int) string _ refers (λ units is. let few = is.few in int (found_from 0 units others) (found_fits 0 units others (omega (arith, few)))))
+  answer_performed natives.StringStartsWith _ (AreGiven.AnObject _ string _ _ refers (AreGiven.AnObject _ other _ _ also AreGiven.Nothing)) form = text (Some basics.Boolean) other _ also (λ others fine. text (Some basics.Boolean) string _ refers (λ units is. truth _))
+  answer_performed natives.StringEndsWith _ (AreGiven.AnObject _ string _ _ refers (AreGiven.AnObject _ other _ _ also AreGiven.Nothing)) form = text (Some basics.Boolean) other _ also (λ others fine. text (Some basics.Boolean) string _ refers (λ units is. truth _))
+  answer_performed natives.StringBuilderLength _ (AreGiven.AnObject _ own _ _ refers AreGiven.Nothing) form = built_typed machine state has typed runs (Some basics.Int) own (λ object units. gives call (values.Int (pos (length units)) ∷ [])) refers (λ place object units same there is goes fine. int (pos (length units)) (length_fits (length units) fine.few))
+  answer_performed natives.StringBuilderCharAt _ (AreGiven.AnObject _ own _ _ refers (AreGiven.AnInt index _ _ _ AreGiven.Nothing)) form = built_typed machine state has typed runs (Some basics.Char) own (λ object units. unit_at index units) refers (λ place object units same there is goes fine. unit_there index units fine)
+  answer_performed natives.ObjectHashCode _ (AreGiven.AnObject _ object _ _ _ AreGiven.Nothing) form = hash object
+  answer_performed natives.ObjectEquals _ (AreGiven.AnObject _ object _ _ _ (AreGiven.AnObject _ other _ _ _ AreGiven.Nothing)) form = truth (object == other)
+  answer_performed natives.SystemIdentityHashCode _ (AreGiven.AnObject _ object _ _ _ AreGiven.Nothing) form = hash object
+  answer_performed natives.ClassDesiredAssertionStatus _ (AreGiven.AnObject _ class _ _ _ AreGiven.Nothing) form = truth false
+  answer_performed natives.Flush _ (AreGiven.AnObject _ stream _ _ _ AreGiven.Nothing) form = nothing
+  answer_performed natives.EnumEquals _ (AreGiven.AnObject _ constant _ _ _ (AreGiven.AnObject _ other _ _ _ AreGiven.Nothing)) form = truth (constant == other)
+  answer_performed natives.EnumHashCode _ (AreGiven.AnObject _ constant _ _ _ AreGiven.Nothing) form = hash constant
+  answer_performed natives.EnumCompareTo _ (AreGiven.AnObject _ constant _ _ refers (AreGiven.AnObject _ other _ _ also AreGiven.Nothing)) form = ordinal (Some basics.Int) other _ also (λ second. ordinal (Some basics.Int) constant _ refers (λ first. wrapped (first -ℤ second)))
+  answer_performed other held given form = absurd (false≢true form)
 
 pub numbers_advance : (machine : Machine) (state : State) (frame : MethodFrame) (below : List Frame) → HasNatives machine.program → IsTyped machine.program → IsSpelled machine.program
     → HoldsOn machine.program → IsTypedState machine.program state → state.roots.pending ≡ 0 → state.roots.frames ≡ OfMethod frame ∷ below
-    → (calls : CallsNative machine state frame below) → AreBuilt machine.program state calls.arguments → IsTypedState machine.program (made (throws_by_zero machine state))
+    → (calls : CallsNative machine state frame below) → IsTypedState machine.program (made (throws_by_zero machine state))
     → is_of_numbers calls.native ≡ true → Advances machine state
-numbers_advance machine state frame below has fits spelled holds typed runs frames calls built divides form =
+numbers_advance machine state frame below has fits spelled holds typed runs frames calls divides form =
     given_advances machine state frame below has fits spelled holds typed runs frames calls
-    (λ given. number_performed machine state has typed runs divides calls.native calls.arguments given built form)
+    (λ given. number_performed machine state has typed runs divides calls.native calls.arguments given form)
 
 pub answers_advance : (machine : Machine) (state : State) (frame : MethodFrame) (below : List Frame) → HasNatives machine.program → IsTyped machine.program → IsSpelled machine.program
     → HoldsOn machine.program → IsTypedState machine.program state → state.roots.pending ≡ 0 → state.roots.frames ≡ OfMethod frame ∷ below
-    → (calls : CallsNative machine state frame below) → AreBuilt machine.program state calls.arguments → IsTypedState machine.program (made (throws_by_zero machine state))
+    → (calls : CallsNative machine state frame below) → IsTypedState machine.program (made (throws_by_zero machine state))
     → is_of_answers calls.native ≡ true → Advances machine state
-answers_advance machine state frame below has fits spelled holds typed runs frames calls built divides form =
+answers_advance machine state frame below has fits spelled holds typed runs frames calls divides form =
     given_advances machine state frame below has fits spelled holds typed runs frames calls
-    (λ given. answer_performed machine state has typed runs divides calls.native calls.arguments given built form)
+    (λ given. answer_performed machine state has typed runs divides calls.native calls.arguments given form)

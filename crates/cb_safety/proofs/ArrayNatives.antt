@@ -19,7 +19,7 @@ use Rattle.cb_machine.specs.Copying.{fitting, overwritten, suppressed_slot}
 use Rattle.cb_machine.specs.Library.{cloneable}
 use Rattle.cb_machine.specs.Machine.{Machine, kind_of_site}
 use Rattle.cb_machine.specs.Natives.{performed}
-use Rattle.cb_machine.specs.Performing.{Call, Gives, Performed, Stops, array_of, if_short, most_elements, on_object, reference_at, stops}
+use Rattle.cb_machine.specs.Performing.{Call, Gives, Performed, Stops, array_words, if_short, most_elements, on_object, reference_at, stops}
 use Rattle.cb_machine.specs.Plans.{Plan, leaving, object_of, with_left, with_one}
 use Rattle.cb_machine.specs.Sites as sites
 use Rattle.cb_machine.specs.Throwing.{throwing}
@@ -36,7 +36,7 @@ use Rattle.cb_safety.specs.Held.{HasContent}
 use Rattle.cb_safety.specs.Kinds.{IsOfKind, Kinds, Refers, holds_kind, kinds_of}
 use Rattle.cb_safety.specs.Naming.{Components, HasElements}
 use Rattle.cb_safety.specs.Natives.{CallsNative}
-use Rattle.cb_safety.specs.Performing.{AreBuilt, HasNatives, IsBuilt, native_sites}
+use Rattle.cb_safety.specs.Performing.{HasNatives, native_sites}
 use Rattle.cb_safety.specs.Signatures.{characters, gives_of, object, takes_of, throwables}
 use Rattle.cb_safety.specs.States.{AreRoots, IsTypedState}
 use Rattle.cb_safety.proofs.Altered.{altered, altered_good, altered_grows, kind_there}
@@ -44,11 +44,10 @@ use Rattle.cb_safety.proofs.Asking.{Found, found}
 use Rattle.cb_safety.proofs.Assigned.{never}
 use Rattle.cb_safety.proofs.Boxes.{last_kind}
 use Rattle.cb_safety.proofs.Changed.{heap_set, kinds_set, with_contents}
-use Rattle.cb_safety.proofs.Extended.{has_content_more}
+use Rattle.cb_safety.proofs.Extended.{has_content_more, is_object_more}
 use Rattle.cb_safety.proofs.Grown.{Grows, good_one, grows_first, grows_one}
-use Rattle.cb_safety.proofs.Growing.{is_object_more}
 use Rattle.cb_safety.proofs.Holding.{instance_goes}
-use Rattle.cb_safety.proofs.Natively.{HasArray, IsReference, array_elements, field_there, gives_changed, is_its_reference, object_typed, placed_typed, stops_typed, string_array}
+use Rattle.cb_safety.proofs.Natively.{HasWords, IsReference, field_there, gives_changed, is_its_reference, object_typed, placed_typed, stops_typed, string_array, words_there}
 use Rattle.cb_safety.proofs.Performed.{AreGiven, IsPerformed, given_advances}
 use Rattle.cb_safety.proofs.Returning.{no_answer}
 use Rattle.cb_safety.proofs.Rewritten.{all_joined, all_left, all_taken, array_rewritten, words_held}
@@ -163,20 +162,16 @@ module _ (machine : Machine) (state : State) (has : HasNatives machine.program) 
     go false = stopped (Some (basics.Reference object)) sites.clone_not_supported (8, omega arith, refl)
 
   -- the characters of a string
-  characters_given : (place : ℕ) (string : Object) → There kind_of_string place string → IsBuilt state string
+  characters_given : (place : ℕ) (string : Object) → There kind_of_string place string
       → Is (Some (basics.Reference (characters machine.program)))
-      (option_and_then (λ array. gives_new sites.made_characters (kind_of_site machine.program sites.made_characters) array.contents) (array_of state string))
-  characters_given place string there built =
-      let own : HasArray machine state has typed runs string = string_array machine state has typed runs string there.goes there.is built in
+      (option_and_then (gives_new sites.made_characters (kind_of_site machine.program sites.made_characters)) (array_words state string))
+  characters_given place string there =
+      let own : HasWords machine.program state string = words_there machine state has typed runs string (string_array machine state has typed runs string there.goes there.is) in
       let kind : ℕ = kind_of_site machine.program sites.made_characters in
-      let element = array_elements machine state has typed runs (characters machine.program) basics.Char own.array refl has.core.char_elements own.goes in
-      subst (Is (Some (basics.Reference (characters machine.program)))) (sym (ap (option_and_then (λ (array : Object). gives_new sites.made_characters kind array.contents))
-      (ap (option_and_then (object_at state)) own.names ∙ own.there)))
-      (new_typed (characters machine.program) sites.made_characters kind own.array.contents
-      (array_object machine.program (own_kinds ++ Some kind ∷ []) sites.made_characters kind (characters machine.program) basics.Char own.array.contents has.made
-      (words_more machine.program own_kinds (Some kind ∷ []) basics.Char own.array.contents
-      (words_held machine.program own_kinds basics.Char own.array.contents (λ place low. own.is.elements basics.Char place element low)))
-      (own.is.few basics.Char element)) has.made.array)
+      subst (Is (Some (basics.Reference (characters machine.program)))) (sym (ap (option_and_then (gives_new sites.made_characters kind)) own.is))
+      (new_typed (characters machine.program) sites.made_characters kind own.words
+      (array_object machine.program (own_kinds ++ Some kind ∷ []) sites.made_characters kind (characters machine.program) basics.Char own.words has.made
+      (words_more machine.program own_kinds (Some kind ∷ []) basics.Char own.words (words_held machine.program own_kinds basics.Char own.words own.each)) own.few) has.made.array)
 
   -- the exceptions that were suppressed
   abbrev contents_of : Option Object → List Content
@@ -406,6 +401,7 @@ module _ (machine : Machine) (state : State) (has : HasNatives machine.program) 
     copied_typed from contents all low = record {
       heap = heap_set machine.program state.objects at target (overwritten target.contents from contents) typed.heap there.there (copied_object from contents all low);
       roots = subst (λ (kinds : Kinds). AreRoots machine.program kinds state.roots) (sym (kinds_set state.objects (suc at) (overwritten target.contents from contents))) typed.roots;
+      input = typed.input;
     }
 
     abbrev copies_fitting : ℕ → List Content → List Content → Option Performed
@@ -418,7 +414,7 @@ module _ (machine : Machine) (state : State) (has : HasNatives machine.program) 
     fitting_copied from all fit held low = go (length fit == length all) where
       go : (test : Bool) → Is None (if test then Some (Gives (leaving (copied_to from fit)) []) else Some (Stops (throwing machine sites.array_store (leaving (copied_to from fit)))))
       go true =
-          gives_changed machine state has typed runs None state.input state.printed state.exit at target (overwritten target.contents from fit) [] there.there (copied_object from fit held low)
+          gives_changed machine state has typed runs None state.input state.printed state.exit at target (overwritten target.contents from fit) [] typed.input there.there (copied_object from fit held low)
           (no_answer machine.program (own_kinds ++ []))
       go false = IsPerformed.Stopped (throwing machine sites.array_store (leaving (copied_to from fit)))
           (throws_typed machine (copied_to from fit) sites.array_store (copied_typed from fit held low) (has.thrown sites.array_store (4, omega arith, refl)))
@@ -492,21 +488,21 @@ module _ (machine : Machine) (state : State) (has : HasNatives machine.program) 
           (alike one other own element (same_basic one other) refl)
 
   array_performed : (native : Native) (held : List Value) → AreGiven machine.program (own_kinds) (takes_of machine.program native) held
-      → AreBuilt machine.program state held → form_of native ≡ forms.Array → Is (gives_of machine.program native) (performed machine state native held)
-  array_performed natives.ObjectClone _ (AreGiven.AnObject _ serial _ _ refers AreGiven.Nothing) built form = on_own machine state has typed runs (Some (basics.Reference object)) object serial (λ serial own. if instance machine.program own.kind cloneable then gives_new own.site own.kind own.contents else stops call sites.clone_not_supported) refers
+      → form_of native ≡ forms.Array → Is (gives_of machine.program native) (performed machine state native held)
+  array_performed natives.ObjectClone _ (AreGiven.AnObject _ serial _ _ refers AreGiven.Nothing) form = on_own machine state has typed runs (Some (basics.Reference object)) object serial (λ serial own. if instance machine.program own.kind cloneable then gives_new own.site own.kind own.contents else stops call sites.clone_not_supported) refers
       (λ place own same there. cloned place own there)
-  array_performed natives.StringToCharArray _ (AreGiven.AnObject _ string _ _ refers AreGiven.Nothing) built form = on_own machine state has typed runs (Some (basics.Reference (characters machine.program))) kind_of_string string (λ serial own. option_and_then (λ array. gives_new sites.made_characters (kind_of_site machine.program sites.made_characters) array.contents) (array_of state own)) refers
-      (λ place own same there. characters_given place own there (built.strings string own (0, omega arith, refl) (ap (object_at state) same ∙ there.there) there.goes))
-  array_performed natives.SystemArraycopy _ (AreGiven.AnObject _ source _ _ refers (AreGiven.AnInt start _ _ _ (AreGiven.AnObject _ target _ _ given (AreGiven.AnInt to _ _ _ (AreGiven.AnInt count _ _ _ AreGiven.Nothing))))) built form = object_typed machine state has typed runs None object source _ refers
+  array_performed natives.StringToCharArray _ (AreGiven.AnObject _ string _ _ refers AreGiven.Nothing) form = on_own machine state has typed runs (Some (basics.Reference (characters machine.program))) kind_of_string string (λ serial own. option_and_then (gives_new sites.made_characters (kind_of_site machine.program sites.made_characters)) (array_words state own)) refers
+      (λ place own same there. characters_given place own there)
+  array_performed natives.SystemArraycopy _ (AreGiven.AnObject _ source _ _ refers (AreGiven.AnInt start _ _ _ (AreGiven.AnObject _ target _ _ given (AreGiven.AnInt to _ _ _ (AreGiven.AnInt count _ _ _ AreGiven.Nothing))))) form = object_typed machine state has typed runs None object source _ refers
       (λ place one same there is goes. on_own machine state has typed runs None object target (λ serial other. copies_between start to count one serial other) given
       (λ at other equal stands. between_copied start to count one at other is stands))
-  array_performed natives.ThrowableAddSuppressed _ (AreGiven.AnObject _ throwable _ _ refers (AreGiven.AnObject _ other _ _ given AreGiven.Nothing)) built form = object_typed machine state has typed runs None kind_of_throwable other _ given (λ place one same there is goes. suppressed_other throwable other refers given)
-  array_performed natives.ThrowableGetSuppressed _ (AreGiven.AnObject _ throwable _ _ refers AreGiven.Nothing) built form = on_own machine state has typed runs (Some (basics.Reference (throwables machine.program))) kind_of_throwable throwable (λ serial own. gives_new sites.suppressed kind_of_suppressed (suppressed_by own)) refers (λ place own same there. suppressed_given place own there)
-  array_performed other held given built form = absurd (cc form)
+  array_performed natives.ThrowableAddSuppressed _ (AreGiven.AnObject _ throwable _ _ refers (AreGiven.AnObject _ other _ _ given AreGiven.Nothing)) form = object_typed machine state has typed runs None kind_of_throwable other _ given (λ place one same there is goes. suppressed_other throwable other refers given)
+  array_performed natives.ThrowableGetSuppressed _ (AreGiven.AnObject _ throwable _ _ refers AreGiven.Nothing) form = on_own machine state has typed runs (Some (basics.Reference (throwables machine.program))) kind_of_throwable throwable (λ serial own. gives_new sites.suppressed kind_of_suppressed (suppressed_by own)) refers (λ place own same there. suppressed_given place own there)
+  array_performed other held given form = absurd (cc form)
 
 pub arrays_advance : (machine : Machine) (state : State) (frame : MethodFrame) (below : List Frame) → HasNatives machine.program → IsTyped machine.program → IsSpelled machine.program
     → HoldsOn machine.program → IsTypedState machine.program state → state.roots.pending ≡ 0 → state.roots.frames ≡ OfMethod frame ∷ below
-    → (calls : CallsNative machine state frame below) → AreBuilt machine.program state calls.arguments → form_of calls.native ≡ forms.Array → Advances machine state
-arrays_advance machine state frame below has fits spelled holds typed runs frames calls built form =
+    → (calls : CallsNative machine state frame below) → form_of calls.native ≡ forms.Array → Advances machine state
+arrays_advance machine state frame below has fits spelled holds typed runs frames calls form =
     given_advances machine state frame below has fits spelled holds typed runs frames calls
-    (λ given. array_performed machine state has typed runs calls.native calls.arguments given built form)
+    (λ given. array_performed machine state has typed runs calls.native calls.arguments given form)

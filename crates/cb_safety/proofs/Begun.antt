@@ -159,6 +159,7 @@ module _ (machine : Machine) (constants : HasConstants machine.program) where
           tables = typed.roots.tables;
           argument = typed.roots.argument;
         };
+        input = typed.input;
       };
       next = refl;
     }

@@ -33,7 +33,7 @@ use Rattle.cb_safety.specs.Heap.{IsObject}
 use Rattle.cb_safety.specs.Held.{HasContent}
 use Rattle.cb_safety.specs.Kinds.{IsOfKind, Kinds, Refers, kind_in, kinds_of}
 use Rattle.cb_safety.specs.Natives.{CallsNative}
-use Rattle.cb_safety.specs.Performing.{AreBoxes, AreBuilt, HasNatives}
+use Rattle.cb_safety.specs.Performing.{AreBoxes, HasNatives}
 use Rattle.cb_safety.specs.Signatures.{gives_of, object, takes_of}
 use Rattle.cb_safety.specs.States.{AreRoots, AreTables, IsTable, IsTypedState}
 use Rattle.cb_safety.proofs.ClassObjects.{HasClassObject, class_made}
@@ -214,17 +214,17 @@ module _ (machine : Machine) (state : State) (has : HasNatives machine.program) 
       placed_typed machine state has typed runs kind_of_class placed.serial placed.plan made.good made.grows made.is
 
   box_performed : (native : Native) (held : List Value) → AreGiven machine.program (kinds machine state has typed runs) (takes_of machine.program native) held
-      → AreBuilt machine.program state held → form_of native ≡ forms.Table → Is (gives_of machine.program native) (performed machine state native held)
-  box_performed natives.ObjectGetClass _ (AreGiven.AnObject _ serial _ _ refers AreGiven.Nothing) built form = object_typed machine state has typed runs (Some (basics.Reference kind_of_class)) object serial _ refers (λ place own same there is goes. class_typed own.kind is.kind)
-  box_performed natives.IntegerValueOf _ (AreGiven.AnInt number _ _ fits AreGiven.Nothing) built form = at_typed sites.integers library.integer basics.Int number has.int_boxes (λ kinds. HasContent.AnInt basics.Int number refl fits refl) tables.Integers small_numbers (number +ℤ offset) AreKept.Integers
-  box_performed natives.LongValueOf _ (AreGiven.ALong number _ _ fits AreGiven.Nothing) built form = at_typed sites.longs library.long basics.Long number has.long_boxes (λ kinds. HasContent.ALong number fits) tables.Longs small_numbers (number +ℤ offset) AreKept.Longs
-  box_performed natives.CharacterValueOf _ (AreGiven.AnInt unit _ _ fits AreGiven.Nothing) built form = at_typed sites.characters library.character basics.Char (pos (unit_of unit)) has.char_boxes (λ kinds. int_kept machine.program kinds basics.Char unit refl fits) tables.Characters small_chars (pos (unit_of unit)) AreKept.Characters
-  box_performed natives.BooleanValueOf _ (AreGiven.AnInt is _ _ fits AreGiven.Nothing) built form = at_typed sites.booleans library.boolean basics.Boolean (pos (low_bits 1 is)) has.boolean_boxes (λ kinds. int_kept machine.program kinds basics.Boolean is refl fits) tables.Booleans 2 (pos (low_bits 1 is)) AreKept.Booleans
-  box_performed other held given built form = absurd (cc form)
+      → form_of native ≡ forms.Table → Is (gives_of machine.program native) (performed machine state native held)
+  box_performed natives.ObjectGetClass _ (AreGiven.AnObject _ serial _ _ refers AreGiven.Nothing) form = object_typed machine state has typed runs (Some (basics.Reference kind_of_class)) object serial _ refers (λ place own same there is goes. class_typed own.kind is.kind)
+  box_performed natives.IntegerValueOf _ (AreGiven.AnInt number _ _ fits AreGiven.Nothing) form = at_typed sites.integers library.integer basics.Int number has.int_boxes (λ kinds. HasContent.AnInt basics.Int number refl fits refl) tables.Integers small_numbers (number +ℤ offset) AreKept.Integers
+  box_performed natives.LongValueOf _ (AreGiven.ALong number _ _ fits AreGiven.Nothing) form = at_typed sites.longs library.long basics.Long number has.long_boxes (λ kinds. HasContent.ALong number fits) tables.Longs small_numbers (number +ℤ offset) AreKept.Longs
+  box_performed natives.CharacterValueOf _ (AreGiven.AnInt unit _ _ fits AreGiven.Nothing) form = at_typed sites.characters library.character basics.Char (pos (unit_of unit)) has.char_boxes (λ kinds. int_kept machine.program kinds basics.Char unit refl fits) tables.Characters small_chars (pos (unit_of unit)) AreKept.Characters
+  box_performed natives.BooleanValueOf _ (AreGiven.AnInt is _ _ fits AreGiven.Nothing) form = at_typed sites.booleans library.boolean basics.Boolean (pos (low_bits 1 is)) has.boolean_boxes (λ kinds. int_kept machine.program kinds basics.Boolean is refl fits) tables.Booleans 2 (pos (low_bits 1 is)) AreKept.Booleans
+  box_performed other held given form = absurd (cc form)
 
 pub boxes_advance : (machine : Machine) (state : State) (frame : MethodFrame) (below : List Frame) → HasNatives machine.program → IsTyped machine.program → IsSpelled machine.program
     → HoldsOn machine.program → IsTypedState machine.program state → state.roots.pending ≡ 0 → state.roots.frames ≡ OfMethod frame ∷ below
-    → (calls : CallsNative machine state frame below) → AreBuilt machine.program state calls.arguments → form_of calls.native ≡ forms.Table → Advances machine state
-boxes_advance machine state frame below has fits spelled holds typed runs frames calls built form =
+    → (calls : CallsNative machine state frame below) → form_of calls.native ≡ forms.Table → Advances machine state
+boxes_advance machine state frame below has fits spelled holds typed runs frames calls form =
     given_advances machine state frame below has fits spelled holds typed runs frames calls
-    (λ given. box_performed machine state has typed runs calls.native calls.arguments given built form)
+    (λ given. box_performed machine state has typed runs calls.native calls.arguments given form)

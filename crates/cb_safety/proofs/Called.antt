@@ -53,7 +53,7 @@ use Rattle.cb_safety.proofs.Assigned.{never}
 use Rattle.cb_safety.proofs.Entering.{AreTold, basics_elsewhere, entry_of, entry_stands, have_reversed, map_reverse}
 use Rattle.cb_safety.proofs.Entries.{within_method}
 use Rattle.cb_safety.proofs.Going.{Planned, Topmost, spelled_rise, topmost, with_stack_is, with_topmost}
-use Rattle.cb_safety.proofs.Laws.{flows}
+use Rattle.cb_safety.proofs.Flowing.{flows}
 use Rattle.cb_safety.proofs.Lists.{all_at, all_given}
 use Rattle.cb_safety.proofs.Returning.{within_number}
 use Rattle.cb_safety.proofs.Throwing.{throws_typed}

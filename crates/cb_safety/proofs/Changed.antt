@@ -1,6 +1,5 @@
 -- A state in which one word of an object is another: it stays typed, and objects are of the kinds that they were of.
-use Rattle.std.proofs.Common.{◌≡◌, ◌∙◌, ap, arith, refl, sym, subst, ℕ, zero, suc, ◌<◌, true, List, [], ◌∷◌, length, Option, Some, None, is_some, option_map, slice_get, slice_set}
-use Rattle.std.specs.List.{list_all}
+use Rattle.std.proofs.Common.{◌≡◌, ◌∙◌, ap, arith, refl, sym, subst, ℕ, zero, suc, ◌<◌, List, [], ◌∷◌, length, Option, Some, None, option_map, slice_get, slice_set}
 use Rattle.std.proofs.lemmas.Option.{same_Some}
 use Rattle.cb_kinds.specs.declared.basic.Basic.{Basic}
 use Rattle.cb_link.specs.Calls.{class_of_kind}
@@ -80,14 +79,6 @@ changed_kinds (None ∷ objects) zero contents = refl
 changed_kinds (Some object ∷ objects) zero contents = refl
 changed_kinds (entry ∷ objects) (suc place) contents = kinds_behind entry _ _ (changed_kinds objects place contents)
 
-changed_all : (objects : List (Option Object)) (place : ℕ) (contents : List Content) → list_all is_some objects ≡ true
-    → list_all is_some (with_contents_in objects (suc place) contents) ≡ true
-changed_all [] place contents all = refl
-changed_all (None ∷ objects) zero contents all = all
-changed_all (Some object ∷ objects) zero contents all = all
-changed_all (None ∷ objects) (suc place) contents all = absurd (cc all)
-changed_all (Some object ∷ objects) (suc place) contents all = changed_all objects place contents all
-
 -- what is there was there, or is the object with its new contents
 changed_each : (P : Object → Type 0) (objects : List (Option Object)) (place : ℕ) (object : Object) (contents : List Content) → kept (slice_get objects place) ≡ Some object
     → P (with_contents object contents) → ((at : ℕ) (own : Object) → kept (slice_get objects at) ≡ Some own → P own)
@@ -108,7 +99,6 @@ kinds_set objects (suc place) contents = changed_kinds objects place contents
 pub heap_set : (program : Linked) (objects : List (Option Object)) (place : ℕ) (object : Object) (contents : List Content) → IsHeap program objects
     → object_in objects (suc place) ≡ Some object → IsObject program (kinds_of objects) (with_contents object contents) → IsHeap program (with_contents_in objects (suc place) contents)
 heap_set program objects place object contents heap there new = record {
-  all = changed_all objects place contents heap.all;
   each = λ serial own is. subst (λ (kinds : Kinds). IsObject program kinds own) (sym (changed_kinds objects place contents)) (by serial own is);
 }
   where
@@ -126,4 +116,5 @@ state_set program state (suc at) object place content basic typed there may fits
   heap = heap_set program state.objects at object (slice_set object.contents place content) typed.heap there
       (object_set program (kinds_of state.objects) object place content basic may fits (typed.heap.each (suc at) object there));
   roots = subst (λ (kinds : Kinds). AreRoots program kinds state.roots) (sym (changed_kinds state.objects at (slice_set object.contents place content))) typed.roots;
+  input = typed.input;
 }

@@ -69,6 +69,7 @@ told_typed machine site message plan good thrown takes refers =
         tables = more.typed.roots.tables;
         argument = more.typed.roots.argument;
       };
+      input = more.typed.input;
     }
   where
     own : ℕ

@@ -20,9 +20,9 @@ use Rattle.cb_safety.specs.Heap.{IsObject}
 use Rattle.cb_safety.specs.Held.{HaveTypes, IsStack}
 use Rattle.cb_safety.specs.Kinds.{Kinds, kinds_of}
 use Rattle.cb_safety.specs.States.{AreFrames, AreRoots, IsTypedState}
-use Rattle.cb_safety.proofs.Extended.{are_below_more, have_types_more, refers_more}
+use Rattle.cb_safety.proofs.Extended.{are_below_more, are_statics_more, are_tables_more, have_types_more, refers_more}
 use Rattle.cb_safety.proofs.Going.{Planned, Stage, arrived, now_at, with_stack_is}
-use Rattle.cb_safety.proofs.Growing.{are_statics_more, are_tables_more, heap_grown, kinds_grown, kinds_placed}
+use Rattle.cb_safety.proofs.Growing.{heap_grown, kinds_grown, kinds_placed}
 
 -- what placings put behind objects
 abbrev pub put : List (Option Object) → Placing → List (Option Object)
@@ -59,6 +59,7 @@ pub grown_typed : (program : Linked) (state : State) (roots : Roots) (more : Lis
 grown_typed program state roots more typed all are = record {
   heap = heap_grown program state.objects more typed.heap all;
   roots = subst (λ (kinds : Kinds). AreRoots program kinds roots) (sym (kinds_grown state.objects more)) are;
+  input = typed.input;
 }
 
 module _ (machine : Machine) (state : State) (frame : MethodFrame) (below : List Frame) (insn : Insn) (action : Action)

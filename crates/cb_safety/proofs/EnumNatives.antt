@@ -22,7 +22,6 @@ use Rattle.cb_machine.specs.Plans.{Plan}
 use Rattle.cb_machine.specs.Sites.{illegal_argument, no_class_definition}
 use Rattle.cb_machine.specs.Throwing.{throws}
 use Rattle.cb_plain.specs.State.{Frame, MethodFrame, Object, OfMethod, State}
-use Rattle.cb_plain.specs.Updates.{object_at}
 use Rattle.cb_plain.specs.declared.class_state.ClassState.{ClassState}
 use Rattle.cb_plain.specs.declared.class_state.ClassState.TheVariants.{Busy, Done, Failed, Untouched}
 use Rattle.cb_plain.specs.declared.value.Value.{Value}
@@ -33,7 +32,7 @@ use Rattle.cb_safety.specs.Advancing.{Advances, HoldsOn, IsSpelled}
 use Rattle.cb_safety.specs.Held.{HasBasic}
 use Rattle.cb_safety.specs.Kinds.{Kinds, Refers, holds_kind, kinds_of}
 use Rattle.cb_safety.specs.Natives.{CallsNative}
-use Rattle.cb_safety.specs.Performing.{AreBuilt, HasNatives, IsBuilt}
+use Rattle.cb_safety.specs.Performing.{HasNatives}
 use Rattle.cb_safety.specs.Ready.{BeginsTyped}
 use Rattle.cb_safety.specs.Signatures.{enum, gives_of, takes_of}
 use Rattle.cb_safety.specs.States.{IsTypedState}
@@ -127,19 +126,16 @@ module _ (machine : Machine) (state : State) (has : HasNatives machine.program) 
       by Busy = is
       by Done = is
 
-  abbrev Built : ℕ → Type 0
-  Built serial = (object : Object) → object_at state serial ≡ Some object → holds_kind machine.program object.kind kind_of_string ≡ true → IsBuilt state object
-
   abbrev of_class : ℕ → Option ℕ → Option Performed
   of_class name None = on_text call name (λ units. stops call illegal_argument)
   of_class name (Some class) = when_ready class (on_text call name (λ units. gives_static (constant_named machine.program class units))) (slice_get state.roots.classes class)
 
-  class_typed : (name : ℕ) (found : Option ℕ) → ((class : ℕ) → found ≡ Some class → class < length machine.program.classes) → Refers machine.program own_kinds kind_of_string name → Built name
+  class_typed : (name : ℕ) (found : Option ℕ) → ((class : ℕ) → found ≡ Some class → class < length machine.program.classes) → Refers machine.program own_kinds kind_of_string name
       → Is (of_class name found)
-  class_typed name None low refers built = text_typed machine state has typed runs Constant name (λ units. stops call illegal_argument) refers built (λ units text. unknown)
-  class_typed name (Some class) low refers built =
+  class_typed name None low refers = text_typed machine state has typed runs Constant name (λ units. stops call illegal_argument) refers (λ units text. unknown)
+  class_typed name (Some class) low refers =
       ready_typed class (on_text call name (λ units. gives_static (constant_named machine.program class units))) (low class refl)
-      (text_typed machine state has typed runs Constant name (λ units. gives_static (constant_named machine.program class units)) refers built (λ units text. static_given class units))
+      (text_typed machine state has typed runs Constant name (λ units. gives_static (constant_named machine.program class units)) refers (λ units text. static_given class units))
 
   abbrev kind_of_number : ℤ → Option ℕ
   kind_of_number (pos kind) = Some kind
@@ -148,23 +144,23 @@ module _ (machine : Machine) (state : State) (has : HasNatives machine.program) 
   abbrev of_object : ℕ → Object → Option Performed
   of_object name class = of_class name (option_and_then (class_of_kind machine.program) (option_and_then kind_of_number (number_at class value_slot)))
 
-  object_typed : (name : ℕ) (class : Object) → Refers machine.program own_kinds kind_of_string name → Built name → Is (of_object name class)
-  object_typed name class refers built =
+  object_typed : (name : ℕ) (class : Object) → Refers machine.program own_kinds kind_of_string name → Is (of_object name class)
+  object_typed name class refers =
       class_typed name (option_and_then (class_of_kind machine.program) (option_and_then kind_of_number (number_at class value_slot)))
       (λ number is. option_and_then_some (class_of_kind machine.program) (option_and_then kind_of_number (number_at class value_slot)) number is
-      (λ kind there classed. class_low machine.program kind number classed)) refers built
+      (λ kind there classed. class_low machine.program kind number classed)) refers
 
   constant_performed : (native : Native) (held : List Value) → AreGiven machine.program own_kinds (takes_of machine.program native) held
-      → AreBuilt machine.program state held → native ≡ natives.EnumValueOf → IsPerformed machine.program own_kinds (gives_of machine.program native) (performed machine state native held)
-  constant_performed natives.EnumValueOf _ (AreGiven.AnObject _ class _ _ refers (AreGiven.AnObject _ name _ _ given AreGiven.Nothing)) built same =
+      → native ≡ natives.EnumValueOf → IsPerformed machine.program own_kinds (gives_of machine.program native) (performed machine state native held)
+  constant_performed natives.EnumValueOf _ (AreGiven.AnObject _ class _ _ refers (AreGiven.AnObject _ name _ _ given AreGiven.Nothing)) same =
       on_own machine state has typed runs Constant kind_of_class class (λ serial object. of_object name object) refers
-      (λ place object same there. object_typed name object given (λ object there goes. built.strings name object (1, omega arith, refl) there goes))
-  constant_performed other held given built same = absurd (cc same)
+      (λ place object same there. object_typed name object given)
+  constant_performed other held given same = absurd (cc same)
 
 pub constants_advance : (machine : Machine) (state : State) (frame : MethodFrame) (below : List Frame) → HasNatives machine.program → IsTyped machine.program → IsSpelled machine.program
     → HoldsOn machine.program → IsTypedState machine.program state → state.roots.pending ≡ 0 → state.roots.frames ≡ OfMethod frame ∷ below
-    → (calls : CallsNative machine state frame below) → AreBuilt machine.program state calls.arguments → BeginsTyped machine state → calls.native ≡ natives.EnumValueOf
+    → (calls : CallsNative machine state frame below) → BeginsTyped machine state → calls.native ≡ natives.EnumValueOf
     → Advances machine state
-constants_advance machine state frame below has fits spelled holds typed runs frames calls built begins same =
+constants_advance machine state frame below has fits spelled holds typed runs frames calls begins same =
     given_advances machine state frame below has fits spelled holds typed runs frames calls
-    (λ given. constant_performed machine state has typed runs begins calls.native calls.arguments given built same)
+    (λ given. constant_performed machine state has typed runs begins calls.native calls.arguments given same)

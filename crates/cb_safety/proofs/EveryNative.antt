@@ -13,7 +13,7 @@ use Rattle.cb_verify.specs.Typed.{IsTyped}
 use Rattle.cb_safety.specs.Advancing.{Advances}
 use Rattle.cb_safety.specs.Linked.{IsLinked}
 use Rattle.cb_safety.specs.Natives.{CallsNative}
-use Rattle.cb_safety.specs.Performing.{AreBuilt, HasEnums, HasNatives, IsInput}
+use Rattle.cb_safety.specs.Performing.{HasNatives}
 use Rattle.cb_safety.specs.Ready.{BeginsTyped}
 use Rattle.cb_safety.specs.Signatures.{is_of_answers, is_of_numbers}
 use Rattle.cb_safety.specs.Sound.{IsSound}
@@ -92,12 +92,12 @@ is_answer natives.EnumCompareTo is = IsAnswer.OfAnswers refl
 is_answer natives.EnumValueOf is = IsAnswer.AConstant refl
 is_answer other is = absurd (cc is)
 
-pub natives_advance : (machine : Machine) (state : State) (frame : MethodFrame) (below : List Frame) → IsLinked machine.program → IsTyped machine.program → HasEnums machine.program
+pub natives_advance : (machine : Machine) (state : State) (frame : MethodFrame) (below : List Frame) → IsLinked machine.program → IsTyped machine.program
     → IsTypedState machine.program state → state.roots.pending ≡ 0 → state.roots.frames ≡ OfMethod frame ∷ below → (calls : CallsNative machine state frame below)
-    → AreBuilt machine.program state calls.arguments → IsInput state → Advances machine state
-natives_advance machine state frame below linked fits members typed runs frames calls built input = by (form_of calls.native) refl where
+    → Advances machine state
+natives_advance machine state frame below linked fits typed runs frames calls = by (form_of calls.native) refl where
   has : HasNatives machine.program
-  has = has_natives machine.program linked fits members
+  has = has_natives machine.program linked fits
 
   sound : IsSound machine.program
   sound = linked_sound machine.program linked fits
@@ -109,14 +109,14 @@ natives_advance machine state frame below linked fits members typed runs frames 
   begins = begins_typed machine sound.constants state typed runs sound.thrown
 
   answers : IsAnswer calls.native → Advances machine state
-  answers (IsAnswer.OfNumbers is) = numbers_advance machine state frame below has fits sound.spelled sound.holds_on typed runs frames calls built divides is
-  answers (IsAnswer.OfAnswers is) = answers_advance machine state frame below has fits sound.spelled sound.holds_on typed runs frames calls built divides is
-  answers (IsAnswer.AConstant same) = constants_advance machine state frame below has fits sound.spelled sound.holds_on typed runs frames calls built begins same
+  answers (IsAnswer.OfNumbers is) = numbers_advance machine state frame below has fits sound.spelled sound.holds_on typed runs frames calls divides is
+  answers (IsAnswer.OfAnswers is) = answers_advance machine state frame below has fits sound.spelled sound.holds_on typed runs frames calls divides is
+  answers (IsAnswer.AConstant same) = constants_advance machine state frame below has fits sound.spelled sound.holds_on typed runs frames calls begins same
 
   by : (form : NativeForm) → form_of calls.native ≡ form → Advances machine state
-  by forms.Text is = texts_advance machine state frame below has fits sound.spelled sound.holds_on typed runs frames calls built is
-  by forms.OwnFields is = own_fields_advance machine state frame below has fits sound.spelled sound.holds_on typed runs frames calls built is
-  by forms.Table is = boxes_advance machine state frame below has fits sound.spelled sound.holds_on typed runs frames calls built is
-  by forms.Array is = arrays_advance machine state frame below has fits sound.spelled sound.holds_on typed runs frames calls built is
-  by forms.Outside is = outside_advances machine state frame below has fits sound.spelled sound.holds_on typed runs frames calls built input is
+  by forms.Text is = texts_advance machine state frame below has fits sound.spelled sound.holds_on typed runs frames calls is
+  by forms.OwnFields is = own_fields_advance machine state frame below has fits sound.spelled sound.holds_on typed runs frames calls is
+  by forms.Table is = boxes_advance machine state frame below has fits sound.spelled sound.holds_on typed runs frames calls is
+  by forms.Array is = arrays_advance machine state frame below has fits sound.spelled sound.holds_on typed runs frames calls is
+  by forms.Outside is = outside_advances machine state frame below has fits sound.spelled sound.holds_on typed runs frames calls is
   by forms.Answer is = answers (is_answer calls.native is)

@@ -30,7 +30,7 @@ use Rattle.cb_safety.specs.Kinds.{IsOfKind, Kinds, kinds_of}
 use Rattle.cb_safety.specs.States.{AreFrames, IsTypedState}
 use Rattle.cb_safety.proofs.Assigned.{frame_assigned, when}
 use Rattle.cb_safety.proofs.Entries.{within_method}
-use Rattle.cb_safety.proofs.Laws.{flows}
+use Rattle.cb_safety.proofs.Flowing.{flows}
 use Rattle.cb_safety.proofs.Rising.{code_rises}
 
 -- ---- the frames of a state that runs
@@ -80,6 +80,7 @@ with_topmost program state frames typed zero standing = record {
     tables = typed.roots.tables;
     argument = typed.roots.argument;
   };
+  input = typed.input;
 }
 
 -- ---- what stands at an instruction

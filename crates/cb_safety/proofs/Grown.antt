@@ -122,6 +122,7 @@ module _ (machine : Machine) (state : State) (frame : MethodFrame) (below : List
           tables = good.typed.roots.tables;
           argument = good.typed.roots.argument;
         };
+        input = good.typed.input;
       }
 
   -- with the same local variables, where only the stack changes

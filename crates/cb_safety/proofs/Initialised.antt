@@ -76,6 +76,7 @@ module _ (machine : Machine) (state : State) (class place : ℕ) (below : List F
         tables = typed.roots.tables;
         argument = typed.roots.argument;
       };
+      input = typed.input;
     };
   }
 

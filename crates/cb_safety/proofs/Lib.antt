@@ -6,6 +6,7 @@ mod Entries
 mod Extended
 mod Going
 pub mod Laws
+mod Flowing
 mod Moving
 mod Numbers
 mod Placing
@@ -115,7 +116,9 @@ mod Sized
 mod Rooms
 mod OnStack
 mod ArrayWords
-mod There
+mod Closed
+mod KeptStates
+mod Staying
 mod StaticWords
 mod Pushes
 mod Arguments
@@ -137,6 +140,7 @@ mod Counting
 mod ClassKinds
 mod RowKinds
 mod FewKinds
+mod EnumConstants
 mod EnumNatives
 mod EveryNative
 mod LinkedNatives

@@ -34,13 +34,14 @@ use Rattle.cb_machine.specs.Sites as sites
 use Rattle.cb_verify.specs.Typed.{IsTyped}
 use Rattle.cb_verify.specs.Within.{kind_of_throwable}
 use Rattle.cb_safety.specs.Linked.{IsLinked}
-use Rattle.cb_safety.specs.Performing.{AreArrays, AreBoxes, HasEnums, HasNatives, native_sites}
+use Rattle.cb_safety.specs.Performing.{AreArrays, AreBoxes, HasNatives, native_sites}
 use Rattle.cb_safety.specs.Signatures.{bytes, characters, throwables}
 use Rattle.cb_safety.specs.Sound.{IsSound}
 use Rattle.cb_safety.specs.Throwing.{IsThrown}
 use Rattle.cb_safety.proofs.Assigned.{never}
 use Rattle.cb_safety.proofs.CoreFields.{SaysBasic, object_basic}
 use Rattle.cb_safety.proofs.CoreKinds.{IsArrayOf, IsCore, array_kind, char_kind, core_kind, of_class, site_kind, strings_at}
+use Rattle.cb_safety.proofs.EnumConstants.{has_enums}
 use Rattle.cb_safety.proofs.Exceptions.{IsRow, core_names, file_at, thrown_at, zipped_at}
 use Rattle.cb_safety.proofs.KindNames.{names_low}
 use Rattle.cb_safety.proofs.LibraryNatives.{have_signatures}
@@ -205,8 +206,8 @@ module _ (program : Linked) (is : IsLinked program) (typed : IsTyped program) wh
       ap (element_of program) (kind_number_of program.kinds (codes "[B") numbered.number numbered.is)
       ∙ ap (λ (found : Option (List ℕ)). component_of program.kinds (or_none found)) (text_numbered program.kinds (codes "[B") numbered.number numbered.is)
 
-  pub has_natives : HasEnums program → HasNatives program
-  has_natives has = record {
+  pub has_natives : HasNatives program
+  has_natives = record {
     signatures = have_signatures program is;
     core = record {
       elements = sound.holds_elements;
@@ -236,6 +237,6 @@ module _ (program : Linked) (is : IsLinked program) (typed : IsTyped program) wh
     long_boxes = long_boxes;
     char_boxes = char_boxes;
     boolean_boxes = boolean_boxes;
-    constants = has.constants;
+    constants = has_enums program is;
     names = names_low program is;
   }

@@ -99,6 +99,7 @@ module _ (machine : Machine) (state : State) (fits : IsTyped machine.program) (s
       tables = typed.roots.tables;
       argument = Refers.ToNull;
     };
+    input = typed.input;
   }
 
   entered_typed : (room : Bool)

@@ -1,5 +1,5 @@
 -- What natives read and leave: what is common to them.
-use Rattle.std.proofs.Common.{◌≡◌, ◌∙◌, ap, append-nil, arith, refl, sym, subst, ℕ, ℤ, pos, zero, suc, ◌<◌, ◌^◌, FitsSigned, Bool, true, false, List, [], ◌∷◌, ◌++◌, length, Option, Some, None, option_and_then, option_map, slice_get, take}
+use Rattle.std.proofs.Common.{◌≡◌, ◌∙◌, ap, append-nil, arith, refl, sym, subst, ℕ, ℤ, pos, negsuc, zero, suc, ◌<◌, ◌≤◌, ◌^◌, FitsSigned, Bool, true, false, List, [], ◌∷◌, ◌++◌, length, Option, Some, option_and_then, option_map, slice_get, take}
 use Rattle.std.specs.Prelude.{min}
 use Rattle.std.specs.Int.{w32, w64}
 use Rattle.std.specs.List.{AllByRecursion, Contains}
@@ -13,7 +13,7 @@ use Rattle.cb_kinds.specs.declared.basic.Basic.TheVariants as basics
 use Rattle.cb_link.specs.Program.{Linked}
 use Rattle.cb_machine.specs.Arrays.{element_of}
 use Rattle.cb_machine.specs.Machine.{Machine}
-use Rattle.cb_machine.specs.Performing.{Call, Performed, Gives, built_text, count_slot, gives, number_at, on_number, on_object, on_text, reference_at, stops, text_of, units_of, value_slot}
+use Rattle.cb_machine.specs.Performing.{Call, Performed, Gives, array_words, built_text, count_slot, gives, most_elements, number_at, on_number, on_object, on_text, reference_at, stops, text_of, units_of, value_slot, words_at}
 use Rattle.cb_machine.specs.Plans.{Plan, leaving}
 use Rattle.cb_machine.specs.Sites.{null_pointer}
 use Rattle.cb_machine.specs.Testing.{int_of}
@@ -31,9 +31,9 @@ use Rattle.cb_safety.specs.Heap.{Holds, IsObject}
 use Rattle.cb_safety.specs.Held.{HasContent, HasType, IsStack}
 use Rattle.cb_safety.specs.Kinds.{IsOfKind, Kinds, Refers, holds_kind, kinds_of}
 use Rattle.cb_safety.specs.Naming.{Components, HasElements, HasField}
-use Rattle.cb_safety.specs.Performing.{HasNatives, HaveField, IsBuilt, IsCounted, native_sites}
+use Rattle.cb_safety.specs.Performing.{HasNatives, HaveField, native_sites}
 use Rattle.cb_safety.specs.Signatures.{builder, characters}
-use Rattle.cb_safety.specs.States.{AreRoots, IsTypedState}
+use Rattle.cb_safety.specs.States.{AreRoots, IsInput, IsTypedState}
 use Rattle.cb_safety.specs.Strings.{IsText}
 use Rattle.cb_safety.proofs.Asking.{Found, found}
 use Rattle.cb_safety.proofs.Assigned.{never}
@@ -120,16 +120,37 @@ units_low program kinds (content ∷ contents) each =
           record { content = own.content; there = own.there; fits = own.fits }),
     )
 
-abbrev counted_of : List ℕ → ℤ → Option (List ℕ)
-counted_of units (pos count) = Some (take count units)
-counted_of units other = None
-
-abbrev with_count : Object → Object → Option (List ℕ)
-with_count built array = option_and_then (counted_of (units_of array)) (number_at built count_slot)
-
 units_count : (contents : List Content) → length (its_units contents) ≡ length contents
 units_count [] = refl
 units_count (content ∷ contents) = ap suc (units_count contents)
+
+-- the first of a text's units, as many as a builder counts
+abbrev counted_of : List ℕ → ℤ → List ℕ
+counted_of units (pos count) = take count units
+counted_of units other = []
+
+abbrev with_count : Object → List ℕ → Option (List ℕ)
+with_count built units = option_map (counted_of units) (number_at built count_slot)
+
+counted_text : (units : List ℕ) (count : ℤ) → IsText units → IsText (counted_of units count)
+counted_text units (pos count) text =
+    let few = text.few in
+    let size : length (take count units) ≡ min count (length units) = length-take count units in
+    record { each = all_taken (λ unit. unit < 2 ^ 16) count units text.each; few = omega (arith, few, size) }
+counted_text units (negsuc count) text = record { each = tt; few = omega arith }
+
+-- ---- the array of an object of a library's class, of a string or of a builder
+
+pub data HasArray (program : Linked) (state : State) (own : Object) : Type 0 where
+  NoArray : reference_at own value_slot ≡ Some 0 → HasArray program state own
+  AnArray : (place : ℕ) → (array : Object) → reference_at own value_slot ≡ Some (suc place) → object_at state (suc place) ≡ Some array →
+      holds_kind program array.kind (characters program) ≡ true → IsObject program (kinds_of state.objects) array → HasArray program state own
+
+pub record HasWords (program : Linked) (state : State) (own : Object) : Type 0 where
+  pub words : List Content
+  pub is : array_words state own ≡ Some words
+  pub each : (place : ℕ) → place < length words → Holds program (kinds_of state.objects) words place basics.Char
+  pub few : length words ≤ most_elements
 
 -- ---- a state in which a native is called
 
@@ -154,10 +175,10 @@ module _ (machine : Machine) (state : State) (natives : HasNatives machine.progr
   abbrev pub outside : List ℕ → List ℕ → Option ℤ → State
   outside input printed exit = record { roots = state.roots; objects = state.objects; input = input; printed = printed; exit = exit }
 
-  pub gives_outside : (result : Option Basic) (input printed : List ℕ) (exit : Option ℤ) (answer : List Value) → Answers machine.program (kinds ++ []) result answer
+  pub gives_outside : (result : Option Basic) (input printed : List ℕ) (exit : Option ℤ) (answer : List Value) → IsInput input → Answers machine.program (kinds ++ []) result answer
       → Is result (Some (Gives (leaving (outside input printed exit)) answer))
-  gives_outside result input printed exit answer answers = IsPerformed.Given (leaving (outside input printed exit)) answer (record {
-    typed = record { heap = typed.heap; roots = typed.roots };
+  gives_outside result input printed exit answer are answers = IsPerformed.Given (leaving (outside input printed exit)) answer (record {
+    typed = record { heap = typed.heap; roots = typed.roots; input = are };
     grows = record { more = []; is = sym (append-nil kinds); runs = runs };
     answers = answers;
   })
@@ -177,12 +198,13 @@ module _ (machine : Machine) (state : State) (natives : HasNatives machine.progr
 
   -- an answer, where an object has other contents
   pub gives_changed : (result : Option Basic) (input printed : List ℕ) (exit : Option ℤ) (place : ℕ) (object : Object) (contents : List Content) (answer : List Value)
-      → object_at state (suc place) ≡ Some object → IsObject machine.program kinds (with_contents object contents) → Answers machine.program (kinds ++ []) result answer
+      → IsInput input → object_at state (suc place) ≡ Some object → IsObject machine.program kinds (with_contents object contents) → Answers machine.program (kinds ++ []) result answer
       → Is result (Some (Gives (leaving (with_contents_at (outside input printed exit) (suc place) contents)) answer))
-  gives_changed result input printed exit place object contents answer there is answers = IsPerformed.Given (leaving (with_contents_at (outside input printed exit) (suc place) contents)) answer (record {
+  gives_changed result input printed exit place object contents answer are there is answers = IsPerformed.Given (leaving (with_contents_at (outside input printed exit) (suc place) contents)) answer (record {
     typed = record {
       heap = heap_set machine.program state.objects place object contents typed.heap there is;
       roots = subst (λ (kinds : Kinds). AreRoots machine.program kinds state.roots) (sym (kinds_set state.objects (suc place) contents)) typed.roots;
+      input = are;
     };
     grows = record { more = []; is = kinds_set state.objects (suc place) contents ∙ sym (append-nil kinds); runs = runs };
     answers = answers;
@@ -251,18 +273,10 @@ module _ (machine : Machine) (state : State) (natives : HasNatives machine.progr
         few = let few = is.few basics.Char element in omega (arith, few, units_count array.contents);
       }
 
-  -- the array of an object of a library's class that is built: of a string, and of a builder
-  pub record HasArray (own : Object) : Type 0 where
-    pub place : ℕ
-    pub array : Object
-    pub names : reference_at own value_slot ≡ Some (suc place)
-    pub there : object_at state (suc place) ≡ Some array
-    pub goes : holds_kind machine.program array.kind (characters machine.program) ≡ true
-    pub is : IsObject machine.program kinds array
-
-  pub array_there : (kind : ℕ) (own : Object) → HaveField machine.program kind 0 (basics.Reference (characters machine.program)) → holds_kind machine.program own.kind kind ≡ true
-      → IsObject machine.program kinds own → IsBuilt state own → HasArray own
-  array_there kind own have goes is built =
+  -- the array of a string, and of a builder
+  array_there : (kind : ℕ) (own : Object) → HaveField machine.program kind 0 (basics.Reference (characters machine.program)) → holds_kind machine.program own.kind kind ≡ true
+      → IsObject machine.program kinds own → HasArray machine.program state own
+  array_there kind own have goes is =
       let holds : Holds machine.program kinds own.contents 0 (basics.Reference (characters machine.program)) = field_there kind 0 (basics.Reference (characters machine.program)) own have goes is in
       let one = is_its_reference machine.program kinds (characters machine.program) holds.content holds.fits in
       by one.serial one.refers (reference_is holds.content one.serial holds.there one.is)
@@ -270,60 +284,74 @@ module _ (machine : Machine) (state : State) (natives : HasNatives machine.progr
       reference_is : (content : Content) (serial : ℕ) → slice_get own.contents 0 ≡ Some content → content ≡ Reference serial → reference_at own value_slot ≡ Some serial
       reference_is content serial there same = rw (there, same) refl
 
-      at_object : (serial : ℕ) → IsOfKind machine.program kinds (characters machine.program) serial → reference_at own value_slot ≡ Some serial → HasArray own
+      at_object : (serial : ℕ) → IsOfKind machine.program kinds (characters machine.program) serial → reference_at own value_slot ≡ Some serial → HasArray machine.program state own
       at_object zero of there = never of.there
       at_object (suc place) of there =
           let array : Found machine.program state.objects (characters machine.program) (suc place) = found machine.program state.objects (characters machine.program) (suc place) typed.heap of in
-          record { place = place; array = array.object; names = there; there = array.there; goes = array.goes; is = array.is }
+          HasArray.AnArray place array.object there array.there array.goes array.is
 
-      by : (serial : ℕ) → Refers machine.program kinds (characters machine.program) serial → reference_at own value_slot ≡ Some serial → HasArray own
-      by serial Refers.ToNull there = never (sym (ap (option_and_then (object_at state)) there) ∙ built.is)
+      by : (serial : ℕ) → Refers machine.program kinds (characters machine.program) serial → reference_at own value_slot ≡ Some serial → HasArray machine.program state own
+      by serial Refers.ToNull there = HasArray.NoArray there
       by serial (Refers.To other of) there = at_object other of there
 
-  -- the text of a string
-  pub string_array : (string : Object) → holds_kind machine.program string.kind kind_of_string ≡ true → IsObject machine.program kinds string → IsBuilt state string → HasArray string
-  string_array string goes is built = array_there kind_of_string string natives.core.strings goes is built
+  pub string_array : (string : Object) → holds_kind machine.program string.kind kind_of_string ≡ true → IsObject machine.program kinds string → HasArray machine.program state string
+  string_array string goes is = array_there kind_of_string string natives.core.strings goes is
 
-  text_there : (string : Object) → holds_kind machine.program string.kind kind_of_string ≡ true → IsObject machine.program kinds string → IsBuilt state string
-      → (units : List ℕ) × (text_of state string ≡ Some units) × IsText units
-  text_there string goes is built =
-      let own : HasArray string = string_array string goes is built in
-      (units_of own.array, ap (option_map units_of) (ap (option_and_then (object_at state)) own.names ∙ own.there), chars_text own.array own.goes own.is)
+  pub builder_array : (own : Object) → holds_kind machine.program own.kind builder ≡ true → IsObject machine.program kinds own → HasArray machine.program state own
+  builder_array own goes is = array_there builder own natives.core.builders goes is
+
+  -- its words, and what they say
+  pub words_there : (own : Object) → HasArray machine.program state own → HasWords machine.program state own
+  words_there own (HasArray.NoArray names) =
+      record { words = []; is = ap (option_and_then (words_at state)) names; each = λ place low. absurd (omega (arith, low)); few = omega arith }
+  words_there own (HasArray.AnArray place array names there goes is) =
+      let element = array_elements (characters machine.program) basics.Char array refl natives.core.char_elements goes in
+      record {
+        words = array.contents;
+        is = ap (option_and_then (words_at state)) names ∙ ap (option_map (λ (array : Object). array.contents)) there;
+        each = λ place low. is.elements basics.Char place element low;
+        few = is.few basics.Char element;
+      }
+
+  text_there : (own : Object) → HasArray machine.program state own → (units : List ℕ) × (text_of state own ≡ Some units) × IsText units
+  text_there own array =
+      let has : HasWords machine.program state own = words_there own array in
+      let few = has.few in
+      (its_units has.words, ap (option_map its_units) has.is, record { each = units_low machine.program kinds has.words has.each; few = omega (arith, few, units_count has.words) })
 
   pub text_typed : (result : Option Basic) (serial : ℕ) (go : List ℕ → Option Performed) → Refers machine.program kinds kind_of_string serial
-      → ((object : Object) → object_at state serial ≡ Some object → holds_kind machine.program object.kind kind_of_string ≡ true → IsBuilt state object)
       → ((units : List ℕ) → IsText units → Is result (go units)) → Is result (on_text call serial go)
-  text_typed result serial go refers built follows =
+  text_typed result serial go refers follows =
       object_typed result kind_of_string serial (λ string. option_and_then go (text_of state string)) refers
       (λ place object same there is goes.
-      let text = text_there object goes is (built object (ap (object_at state) same ∙ there) goes) in
+      let text = text_there object (string_array object goes is) in
       subst (Is result) (sym (ap (option_and_then go) text.1)) (follows text.0 text.2))
 
   -- the text of a builder
-  pub builder_array : (own : Object) → holds_kind machine.program own.kind builder ≡ true → IsObject machine.program kinds own → IsBuilt state own → HasArray own
-  builder_array own goes is built = array_there builder own natives.core.builders goes is built
+  count_there : (built : Object) → holds_kind machine.program built.kind builder ≡ true → IsObject machine.program kinds built → (count : ℤ) × (number_at built count_slot ≡ Some count)
+  count_there built goes is =
+      let holds : Holds machine.program kinds built.contents 1 basics.Int = field_there builder 1 basics.Int built natives.core.counts goes is in
+      let one = is_number machine.program kinds basics.Int holds.content refl holds.fits in
+      (one.0, by holds.content one.0 holds.there one.1)
+    where
+      by : (content : Content) (number : ℤ) → slice_get built.contents 1 ≡ Some content → content ≡ Number number → number_at built count_slot ≡ Some number
+      by content number there same = rw (there, same) refl
 
-  built_there : (built : Object) → holds_kind machine.program built.kind builder ≡ true → IsObject machine.program kinds built → IsCounted state built
+  built_there : (built : Object) → holds_kind machine.program built.kind builder ≡ true → IsObject machine.program kinds built
       → (units : List ℕ) × (built_text state built ≡ Some units) × IsText units
-  built_there built goes is counted =
-      let own : HasArray built = builder_array built goes is counted.built in
-      let text : IsText (units_of own.array) = chars_text own.array own.goes own.is in
-      let few = text.few in
-      let size : length (take counted.count (units_of own.array)) ≡ min counted.count (length (units_of own.array)) = length-take counted.count (units_of own.array) in (
-        take counted.count (units_of own.array),
-        ap (option_and_then (with_count built)) (ap (option_and_then (object_at state)) own.names ∙ own.there) ∙ ap (option_and_then (counted_of (units_of own.array))) counted.counts,
-        record { each = all_taken (λ unit. unit < 2 ^ 16) counted.count (units_of own.array) text.each; few = omega (arith, few, size) },
-      )
+  built_there built goes is =
+      let text = text_there built (builder_array built goes is) in
+      let count = count_there built goes is in
+      (counted_of text.0 count.0, ap (option_and_then (with_count built)) text.1 ∙ ap (option_map (counted_of text.0)) count.1, counted_text text.0 count.0 text.2)
 
   pub built_typed : (result : Option Basic) (serial : ℕ) (go : Object → List ℕ → Option Performed) → Refers machine.program kinds builder serial
-      → ((object : Object) → object_at state serial ≡ Some object → holds_kind machine.program object.kind builder ≡ true → IsCounted state object)
       → ((place : ℕ) (object : Object) (units : List ℕ) → serial ≡ suc place → object_at state (suc place) ≡ Some object → IsObject machine.program kinds object
       → holds_kind machine.program object.kind builder ≡ true → IsText units → Is result (go object units))
       → Is result (on_object call serial (λ object. option_and_then (go object) (built_text state object)))
-  built_typed result serial go refers counted follows =
+  built_typed result serial go refers follows =
       object_typed result builder serial (λ object. option_and_then (go object) (built_text state object)) refers
       (λ place object same there is goes.
-      let text = built_there object goes is (counted object (ap (object_at state) same ∙ there) goes) in
+      let text = built_there object goes is in
       subst (Is result) (sym (ap (option_and_then (go object)) text.1)) (follows place object text.0 same there is goes text.2))
 
   -- an object that is placed

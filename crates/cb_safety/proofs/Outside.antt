@@ -34,19 +34,19 @@ use Rattle.cb_verify.specs.Within.{kind_of_string}
 use Rattle.cb_safety.specs.Advancing.{Advances, HoldsOn, IsSpelled}
 use Rattle.cb_safety.specs.Heap.{IsObject}
 use Rattle.cb_safety.specs.Held.{HasContent}
-use Rattle.cb_safety.specs.Kinds.{Refers, holds_kind}
+use Rattle.cb_safety.specs.Kinds.{Refers}
 use Rattle.cb_safety.specs.Naming.{HasElements}
 use Rattle.cb_safety.specs.Natives.{CallsNative}
-use Rattle.cb_safety.specs.Performing.{AreBuilt, HasNatives, IsBuilt, IsInput}
+use Rattle.cb_safety.specs.Performing.{HasNatives}
 use Rattle.cb_safety.specs.Signatures.{bytes, gives_of, takes_of}
-use Rattle.cb_safety.specs.States.{IsTypedState}
+use Rattle.cb_safety.specs.States.{IsInput, IsTypedState}
 use Rattle.cb_safety.proofs.Elements.{length_fits}
-use Rattle.cb_safety.proofs.Rewritten.{array_rewritten}
+use Rattle.cb_safety.proofs.Rewritten.{all_left, array_rewritten}
 use Rattle.cb_safety.proofs.Natively.{array_elements, gives_changed, gives_number, gives_outside, gives_typed, int_answer, kinds, object_typed, stops_null, stops_typed, text_typed}
 use Rattle.cb_safety.proofs.Performed.{AreGiven, IsPerformed, given_advances}
 use Rattle.cb_safety.proofs.Returning.{no_answer}
 
-module _ (machine : Machine) (state : State) (has : HasNatives machine.program) (typed : IsTypedState machine.program state) (runs : state.roots.pending ≡ 0) (input : IsInput state) where
+module _ (machine : Machine) (state : State) (has : HasNatives machine.program) (typed : IsTypedState machine.program state) (runs : state.roots.pending ≡ 0) where
   abbrev Is : Option Basic → Option Performed → Type 0
   Is result found = IsPerformed machine.program (kinds machine state has typed runs) result found
 
@@ -55,17 +55,16 @@ module _ (machine : Machine) (state : State) (has : HasNatives machine.program) 
 
   printed : (units : List ℕ) → Is None (prints units)
   printed units =
-      gives_outside machine state has typed runs None state.input (state.printed ++ utf8 units) state.exit [] (no_answer machine.program (kinds machine state has typed runs ++ []))
+      gives_outside machine state has typed runs None state.input (state.printed ++ utf8 units) state.exit [] typed.input (no_answer machine.program (kinds machine state has typed runs ++ []))
 
   abbrev with_string : (List ℕ → Option Performed) → ℕ → Option Performed
   with_string print zero = print (codes "null")
   with_string print (suc place) = on_text (record { machine = machine; state = state }) (suc place) print
 
   text_printed : (print : List ℕ → Option Performed) → ((units : List ℕ) → Is None (print units)) → (serial : ℕ) → Refers machine.program (kinds machine state has typed runs) kind_of_string serial
-      → ((object : Object) → object_at state serial ≡ Some object → holds_kind machine.program object.kind kind_of_string ≡ true → IsBuilt state object)
       → Is None (with_string print serial)
-  text_printed print each zero refers built = each (codes "null")
-  text_printed print each (suc place) refers built = text_typed machine state has typed runs None (suc place) print refers built (λ units text. each units)
+  text_printed print each zero refers = each (codes "null")
+  text_printed print each (suc place) refers = text_typed machine state has typed runs None (suc place) print refers (λ units text. each units)
 
   abbrev reads : List ℕ → Option Performed
   reads [] = gives (record { machine = machine; state = state }) (values.Int (negsuc 0) ∷ [])
@@ -77,10 +76,10 @@ module _ (machine : Machine) (state : State) (has : HasNatives machine.program) 
   none_fits : FitsSigned w32 (negsuc 0)
   none_fits = record { sfits = omega arith }
 
-  byte_read : (bytes : List ℕ) → AllByRecursion (λ byte. byte < 2 ^ 8) bytes → Is (Some basics.Int) (reads bytes)
+  byte_read : (bytes : List ℕ) → IsInput bytes → Is (Some basics.Int) (reads bytes)
   byte_read [] all = gives_number machine state has typed runs basics.Int (negsuc 0) refl none_fits
   byte_read (byte ∷ rest) all =
-      gives_outside machine state has typed runs (Some basics.Int) rest state.printed state.exit (values.Int (pos byte) ∷ [])
+      gives_outside machine state has typed runs (Some basics.Int) rest state.printed state.exit (values.Int (pos byte) ∷ []) all.1
       (int_answer machine.program (kinds machine state has typed runs ++ []) basics.Int (pos byte) refl (byte_fits byte all.0))
 
   -- bytes into a range of an array
@@ -116,7 +115,8 @@ module _ (machine : Machine) (state : State) (has : HasNatives machine.program) 
       let most = is.few basics.Byte element in
       let size : length (map stored_byte (byte ∷ bytes)) ≡ length (byte ∷ bytes) = length-map (byte ∷ bytes) stored_byte in
       gives_changed machine state has typed runs (Some basics.Int) (drop (length (byte ∷ bytes)) state.input) state.printed state.exit place array
-      (overwritten array.contents from (map stored_byte (byte ∷ bytes))) (values.Int (pos (length (byte ∷ bytes))) ∷ []) there
+      (overwritten array.contents from (map stored_byte (byte ∷ bytes))) (values.Int (pos (length (byte ∷ bytes))) ∷ [])
+      (all_left (λ byte. byte < 2 ^ 8) (length (byte ∷ bytes)) state.input typed.input) there
       (array_rewritten machine.program (kinds machine state has typed runs) array basics.Byte from (map stored_byte (byte ∷ bytes)) element (λ class classed. none-some class (sym has_elements.no_class ∙ classed)) is (bytes_have (byte ∷ bytes)) (omega (arith, size, few, low)))
       (int_answer machine.program (kinds machine state has typed runs ++ []) basics.Int (pos (length (byte ∷ bytes))) refl (length_fits (length (byte ∷ bytes)) (omega (arith, few, low, most))))
 
@@ -149,35 +149,32 @@ module _ (machine : Machine) (state : State) (has : HasNatives machine.program) 
       (λ at array same there is goes. range_typed place array from count (ap (object_at state) same ∙ there) is (has.core.elements array.kind (bytes machine.program) basics.Byte goes has.core.byte_elements)
       (array_elements machine state has typed runs (bytes machine.program) basics.Byte array refl has.core.byte_elements goes))
 
-  abbrev Built : List Value → Type 0
-  Built held = AreBuilt machine.program state held
-
-  outside_performed : (native : Native) (held : List Value) → AreGiven machine.program (kinds machine state has typed runs) (takes_of machine.program native) held → Built held
+  outside_performed : (native : Native) (held : List Value) → AreGiven machine.program (kinds machine state has typed runs) (takes_of machine.program native) held
       → form_of native ≡ forms.Outside → Is (gives_of machine.program native) (performed machine state native held)
-  outside_performed natives.PrintBoolean held (AreGiven.AnObject kind serial others more refers (AreGiven.AnInt number last none fits AreGiven.Nothing)) built form = printed (truth number)
-  outside_performed natives.PrintChar held (AreGiven.AnObject kind serial others more refers (AreGiven.AnInt number last none fits AreGiven.Nothing)) built form = printed (unit_of number ∷ [])
-  outside_performed natives.PrintInt held (AreGiven.AnObject kind serial others more refers (AreGiven.AnInt number last none fits AreGiven.Nothing)) built form = printed (digits number)
-  outside_performed natives.PrintLong held (AreGiven.AnObject kind serial others more refers (AreGiven.ALong number last none fits AreGiven.Nothing)) built form = printed (digits number)
-  outside_performed natives.PrintString held (AreGiven.AnObject kind serial others more refers (AreGiven.AnObject of string last none given AreGiven.Nothing)) built form =
-      text_printed prints printed string given (λ object there goes. built.strings string object (1, omega arith, refl) there goes)
-  outside_performed natives.PrintlnBoolean held (AreGiven.AnObject kind serial others more refers (AreGiven.AnInt number last none fits AreGiven.Nothing)) built form = printed (truth number ++ codes "\n")
-  outside_performed natives.PrintlnChar held (AreGiven.AnObject kind serial others more refers (AreGiven.AnInt number last none fits AreGiven.Nothing)) built form = printed ((unit_of number ∷ []) ++ codes "\n")
-  outside_performed natives.PrintlnInt held (AreGiven.AnObject kind serial others more refers (AreGiven.AnInt number last none fits AreGiven.Nothing)) built form = printed (digits number ++ codes "\n")
-  outside_performed natives.PrintlnLong held (AreGiven.AnObject kind serial others more refers (AreGiven.ALong number last none fits AreGiven.Nothing)) built form = printed (digits number ++ codes "\n")
-  outside_performed natives.PrintlnString held (AreGiven.AnObject kind serial others more refers (AreGiven.AnObject of string last none given AreGiven.Nothing)) built form =
-      text_printed (λ units. prints (units ++ codes "\n")) (λ units. printed (units ++ codes "\n")) string given (λ object there goes. built.strings string object (1, omega arith, refl) there goes)
-  outside_performed natives.Println held (AreGiven.AnObject kind serial others more refers AreGiven.Nothing) built form = printed ([] ++ codes "\n")
-  outside_performed natives.ReadByte held (AreGiven.AnObject kind serial others more refers AreGiven.Nothing) built form = byte_read state.input input
-  outside_performed natives.ReadRange held (AreGiven.AnObject kind serial others more refers (AreGiven.AnObject of array two three given (AreGiven.AnInt from four five low (AreGiven.AnInt count last none fits AreGiven.Nothing)))) built form =
+  outside_performed natives.PrintBoolean held (AreGiven.AnObject kind serial others more refers (AreGiven.AnInt number last none fits AreGiven.Nothing)) form = printed (truth number)
+  outside_performed natives.PrintChar held (AreGiven.AnObject kind serial others more refers (AreGiven.AnInt number last none fits AreGiven.Nothing)) form = printed (unit_of number ∷ [])
+  outside_performed natives.PrintInt held (AreGiven.AnObject kind serial others more refers (AreGiven.AnInt number last none fits AreGiven.Nothing)) form = printed (digits number)
+  outside_performed natives.PrintLong held (AreGiven.AnObject kind serial others more refers (AreGiven.ALong number last none fits AreGiven.Nothing)) form = printed (digits number)
+  outside_performed natives.PrintString held (AreGiven.AnObject kind serial others more refers (AreGiven.AnObject of string last none given AreGiven.Nothing)) form =
+      text_printed prints printed string given
+  outside_performed natives.PrintlnBoolean held (AreGiven.AnObject kind serial others more refers (AreGiven.AnInt number last none fits AreGiven.Nothing)) form = printed (truth number ++ codes "\n")
+  outside_performed natives.PrintlnChar held (AreGiven.AnObject kind serial others more refers (AreGiven.AnInt number last none fits AreGiven.Nothing)) form = printed ((unit_of number ∷ []) ++ codes "\n")
+  outside_performed natives.PrintlnInt held (AreGiven.AnObject kind serial others more refers (AreGiven.AnInt number last none fits AreGiven.Nothing)) form = printed (digits number ++ codes "\n")
+  outside_performed natives.PrintlnLong held (AreGiven.AnObject kind serial others more refers (AreGiven.ALong number last none fits AreGiven.Nothing)) form = printed (digits number ++ codes "\n")
+  outside_performed natives.PrintlnString held (AreGiven.AnObject kind serial others more refers (AreGiven.AnObject of string last none given AreGiven.Nothing)) form =
+      text_printed (λ units. prints (units ++ codes "\n")) (λ units. printed (units ++ codes "\n")) string given
+  outside_performed natives.Println held (AreGiven.AnObject kind serial others more refers AreGiven.Nothing) form = printed ([] ++ codes "\n")
+  outside_performed natives.ReadByte held (AreGiven.AnObject kind serial others more refers AreGiven.Nothing) form = byte_read state.input typed.input
+  outside_performed natives.ReadRange held (AreGiven.AnObject kind serial others more refers (AreGiven.AnObject of array two three given (AreGiven.AnInt from four five low (AreGiven.AnInt count last none fits AreGiven.Nothing)))) form =
       range_read array from count given
-  outside_performed natives.SystemExit held (AreGiven.AnInt number last none fits AreGiven.Nothing) built form =
-      gives_outside machine state has typed runs None state.input state.printed (Some number) [] (no_answer machine.program (kinds machine state has typed runs ++ []))
-  outside_performed natives.SystemGc held AreGiven.Nothing built form = gives_typed machine state has typed runs None [] (no_answer machine.program (kinds machine state has typed runs ++ []))
-  outside_performed other held given built form = absurd (cc form)
+  outside_performed natives.SystemExit held (AreGiven.AnInt number last none fits AreGiven.Nothing) form =
+      gives_outside machine state has typed runs None state.input state.printed (Some number) [] typed.input (no_answer machine.program (kinds machine state has typed runs ++ []))
+  outside_performed natives.SystemGc held AreGiven.Nothing form = gives_typed machine state has typed runs None [] (no_answer machine.program (kinds machine state has typed runs ++ []))
+  outside_performed other held given form = absurd (cc form)
 
 pub outside_advances : (machine : Machine) (state : State) (frame : MethodFrame) (below : List Frame) → HasNatives machine.program → IsTyped machine.program → IsSpelled machine.program
     → HoldsOn machine.program → IsTypedState machine.program state → state.roots.pending ≡ 0 → state.roots.frames ≡ OfMethod frame ∷ below
-    → (calls : CallsNative machine state frame below) → AreBuilt machine.program state calls.arguments → IsInput state → form_of calls.native ≡ forms.Outside → Advances machine state
-outside_advances machine state frame below has fits spelled holds typed runs frames calls built input form =
+    → (calls : CallsNative machine state frame below) → form_of calls.native ≡ forms.Outside → Advances machine state
+outside_advances machine state frame below has fits spelled holds typed runs frames calls form =
     given_advances machine state frame below has fits spelled holds typed runs frames calls
-    (λ given. outside_performed machine state has typed runs input calls.native calls.arguments given built form)
+    (λ given. outside_performed machine state has typed runs calls.native calls.arguments given form)

@@ -42,7 +42,7 @@ use Rattle.cb_safety.specs.States.{IsTypedState}
 use Rattle.cb_safety.proofs.Assigned.{never, when}
 use Rattle.cb_safety.proofs.Entries.{within_method}
 use Rattle.cb_safety.proofs.Going.{Planned, Stage, advances_by, arrived, now_at, planned_by, running, spelled_rise, stage_of, with_topmost}
-use Rattle.cb_safety.proofs.Laws.{flows}
+use Rattle.cb_safety.proofs.Flowing.{flows}
 use Rattle.cb_safety.proofs.Taken.{basic_sized, popped_typed}
 
 -- ---- values of the types that descriptors have are so in each method

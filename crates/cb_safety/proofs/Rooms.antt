@@ -31,7 +31,7 @@ use Rattle.cb_safety.specs.States.{AreFrames, IsTypedState}
 use Rattle.cb_safety.proofs.Known.{stack_known}
 use Rattle.cb_safety.proofs.Going.{spelled_rise, topmost}
 use Rattle.cb_safety.proofs.Handled.{found_among, handled}
-use Rattle.cb_safety.proofs.Laws.{flows}
+use Rattle.cb_safety.proofs.Flowing.{flows}
 use Rattle.cb_safety.proofs.Searching.{found_passes}
 use Rattle.cb_safety.proofs.Sized.{IsSized, height_append, leaves_sized, typed_sized}
 use Rattle.cb_safety.proofs.Taken.{stack_height, words_on}

@@ -31,7 +31,7 @@ use Rattle.cb_safety.proofs.Constants.{constants_advance}
 use Rattle.cb_safety.proofs.Dividing.{division_typed}
 use Rattle.cb_safety.proofs.Going.{Topmost, spelled_rise, topmost}
 use Rattle.cb_safety.proofs.Initialised.{initialising_advances}
-use Rattle.cb_safety.proofs.Laws.{flows}
+use Rattle.cb_safety.proofs.Flowing.{flows}
 use Rattle.cb_safety.proofs.LinkedCalls.{linked_special_calls_advance}
 use Rattle.cb_safety.proofs.Linking.{linked_formed, linked_whole}
 use Rattle.cb_safety.proofs.Main.{beginning_advances}

@@ -38,7 +38,7 @@ use Rattle.cb_safety.specs.Held.{HasContent}
 use Rattle.cb_safety.specs.Kinds.{IsOfKind, Kinds, Refers, holds_kind, kind_in, kinds_of}
 use Rattle.cb_safety.specs.Naming.{HasElements, HasField}
 use Rattle.cb_safety.specs.Natives.{CallsNative}
-use Rattle.cb_safety.specs.Performing.{AreArrays, AreBuilt, HasNatives, HaveField, IsBuilt, IsCounted}
+use Rattle.cb_safety.specs.Performing.{AreArrays, HasNatives, HaveField}
 use Rattle.cb_safety.specs.Signatures.{builder, characters, gives_of, takes_of}
 use Rattle.cb_safety.specs.States.{AreRoots, IsTypedState}
 use Rattle.cb_safety.specs.Strings.{IsText}
@@ -47,9 +47,8 @@ use Rattle.cb_safety.proofs.Boxes.{last_kind}
 use Rattle.cb_safety.proofs.Changed.{MayHold, heap_set, kinds_set, object_set, with_contents}
 use Rattle.cb_safety.proofs.Contents.{int_kept}
 use Rattle.cb_safety.proofs.Elements.{length_fits}
-use Rattle.cb_safety.proofs.Extended.{refers_more}
+use Rattle.cb_safety.proofs.Extended.{is_object_more, refers_more}
 use Rattle.cb_safety.proofs.Grown.{Grows, good_one, grows_first, grows_one}
-use Rattle.cb_safety.proofs.Growing.{is_object_more}
 use Rattle.cb_safety.proofs.Known.{words_known}
 use Rattle.cb_safety.proofs.Natively.{HasArray, array_elements, builder_array, chars_text, gives_changed, kinds, built_typed, object_answer, object_typed, stops_null, stops_typed, text_typed}
 use Rattle.cb_safety.proofs.Performed.{AreGiven, IsPerformed, given_advances}
@@ -153,7 +152,7 @@ module _ (machine : Machine) (state : State) (has : HasNatives machine.program) 
       → HasContent machine.program (kinds machine state has typed runs) basic (Number number)
       → Is None (Some (Gives (leaving (with_word state (suc place) object value_slot (Number number))) []))
   number_set kind place basic object number have own fits =
-      gives_changed machine state has typed runs None state.input state.printed state.exit place object (slice_set object.contents 0 (Number number)) [] own.there
+      gives_changed machine state has typed runs None state.input state.printed state.exit place object (slice_set object.contents 0 (Number number)) [] typed.input own.there
       (field_set machine.program (kinds machine state has typed runs) kind 0 basic object (Number number) have own.goes fits own.is) (nothing [])
 
   -- a new array
@@ -321,6 +320,7 @@ module _ (machine : Machine) (state : State) (has : HasNatives machine.program) 
           typed = record {
             heap = heap_set machine.program state.objects at array contents typed.heap array_is_there.there new;
             roots = subst (λ (kinds : Kinds). AreRoots machine.program kinds state.roots) (sym same) typed.roots;
+            input = typed.input;
           };
           next = refl;
         };
@@ -337,40 +337,44 @@ module _ (machine : Machine) (state : State) (has : HasNatives machine.program) 
     go true fits = own_left place at own array units there array_is_there all (leb-true (length units) (length array.contents) fits)
     go false larger = array_left place own units (grown (length array.contents) (length units)) there all few (least_of (max (2 * length array.contents + 2) (length units)))
 
+  abbrev in_new_array : ℕ → Object → ℕ → List ℕ → Plan
+  in_new_array serial own room units = with_count serial (with_array builder_characters serial own units (grown room (length units))) (length units)
+
   abbrev holds_in : ℕ → Object → List ℕ → List Value → ℕ → Option Performed
-  holds_in serial own units answer at = option_map (λ array. Gives (holding serial own at array units) answer) (object_at state at)
+  holds_in serial own units answer zero = Some (Gives (in_new_array serial own 0 units) answer)
+  holds_in serial own units answer (suc at) = option_map (λ array. Gives (holding serial own (suc at) array units) answer) (object_at state (suc at))
 
   abbrev holds : ℕ → Object → List Value → List ℕ → Option Performed
   holds serial own answer units = if_short call (length units) (option_and_then (holds_in serial own units answer) (reference_at own value_slot))
 
   held_typed : (result : Option Basic) (answer : List Value) → ((more : Kinds) → Answers machine.program (kinds machine state has typed runs ++ more) result answer)
-      → (place : ℕ) (own : Object) (units : List ℕ) → IsThere builder place own → IsBuilt state own → Units units → Is result (holds (suc place) own answer units)
-  held_typed result answer answers place own units there built all = go (nat_le (length units) most_elements) refl where
-    array : HasArray machine state has typed runs own
-    array = builder_array machine state has typed runs own there.goes there.is built
+      → (place : ℕ) (own : Object) (units : List ℕ) → IsThere builder place own → Units units → Is result (holds (suc place) own answer units)
+  held_typed result answer answers place own units there all = go (nat_le (length units) most_elements) refl where
+    in_array : HasArray machine.program state own → length units ≤ most_elements → Is result (option_and_then (holds_in (suc place) own units answer) (reference_at own value_slot))
+    in_array (HasArray.NoArray names) few =
+        subst (Is result) (sym (ap (option_and_then (holds_in (suc place) own units answer)) names))
+        (left_typed result answer (in_new_array (suc place) own 0 units) answers
+        (array_left place own units (grown 0 (length units)) there all few (least_of (max (2 * 0 + 2) (length units)))))
+    in_array (HasArray.AnArray at array names present goes is) few =
+        subst (Is result) (sym (ap (option_and_then (holds_in (suc place) own units answer)) names ∙ ap (option_map (λ (array : Object). Gives (holding (suc place) own (suc at) array units) answer)) present))
+        (left_typed result answer (holding (suc place) own (suc at) array units) answers
+        (holding_left place at own array units there (record { there = present; is = is; goes = goes }) all few))
 
     go : (test : Bool) → nat_le (length units) most_elements ≡ test
         → Is result (if test then option_and_then (holds_in (suc place) own units answer) (reference_at own value_slot) else stops call negative_size)
-    go true few =
-        subst (Is result) (sym (ap (option_and_then (holds_in (suc place) own units answer)) array.names ∙ ap (option_map (λ (array : Object). Gives (holding (suc place) own (suc array_place) array units) answer)) array.there))
-        (left_typed result answer (holding (suc place) own (suc array_place) array.array units) answers
-        (holding_left place array_place own array.array units there (record { there = array.there; is = array.is; goes = array.goes }) all (leb-true (length units) most_elements few)))
-      where
-        array_place : ℕ
-        array_place = array.place
+    go true few = in_array (builder_array machine state has typed runs own there.goes there.is) (leb-true (length units) most_elements few)
     go false few = too_long result
 
   -- on what a builder has
   pub on_builder : (result : Option Basic) (go : ℕ → Object → List ℕ → Option Performed) (serial : ℕ) → Refer builder serial
-      → ((object : Object) → object_at state serial ≡ Some object → holds_kind machine.program object.kind builder ≡ true → IsCounted state object)
-      → ((place : ℕ) (own : Object) (units : List ℕ) → serial ≡ suc place → IsThere builder place own → IsBuilt state own → IsText units → Is result (go (suc place) own units))
+      → ((place : ℕ) (own : Object) (units : List ℕ) → serial ≡ suc place → IsThere builder place own → IsText units → Is result (go (suc place) own units))
       → Is result (on_object call serial (λ object. option_and_then (go serial object) (built_text state object)))
-  on_builder result go zero refers counts follows = stops_null machine state has typed runs result
-  on_builder result go (suc place) refers counts follows =
-      built_typed machine state has typed runs result (suc place) (go (suc place)) refers counts
+  on_builder result go zero refers follows = stops_null machine state has typed runs result
+  on_builder result go (suc place) refers follows =
+      built_typed machine state has typed runs result (suc place) (go (suc place)) refers
       (λ at own units same there is goes text.
       let here : object_at state (suc place) ≡ Some own = ap (object_at state) same ∙ there in
-      follows place own units refl (record { there = here; is = is; goes = goes }) (counts own here goes).built text)
+      follows place own units refl (record { there = here; is = is; goes = goes }) text)
 
   abbrev Builder : Option Basic
   Builder = Some (basics.Reference builder)
@@ -382,13 +386,10 @@ module _ (machine : Machine) (state : State) (has : HasNatives machine.program) 
   abbrev appends : ℕ → List ℕ → Option Performed
   appends serial units = on_object call serial (λ own. option_and_then (λ built. holds serial own (values.Ref serial ∷ []) (built ++ units)) (built_text state own))
 
-  abbrev Counts : ℕ → Type 0
-  Counts serial = (object : Object) → object_at state serial ≡ Some object → holds_kind machine.program object.kind builder ≡ true → IsCounted state object
-
-  appended : (serial : ℕ) (units : List ℕ) → Refer builder serial → Counts serial → Units units → Is Builder (appends serial units)
-  appended serial units refers counts all =
-      on_builder Builder (λ serial own built. holds serial own (values.Ref serial ∷ []) (built ++ units)) serial refers counts
-      (λ place own built same there is text. held_typed Builder (values.Ref (suc place) ∷ []) (itself (suc place) (subst (Refer builder) same refers)) place own (built ++ units) there is
+  appended : (serial : ℕ) (units : List ℕ) → Refer builder serial → Units units → Is Builder (appends serial units)
+  appended serial units refers all =
+      on_builder Builder (λ serial own built. holds serial own (values.Ref serial ∷ []) (built ++ units)) serial refers
+      (λ place own built same there text. held_typed Builder (values.Ref (suc place) ∷ []) (itself (suc place) (subst (Refer builder) same refers)) place own (built ++ units) there
       (all_joined (λ unit. unit < 2 ^ 16) built units text.each all))
 
   -- the unit at a place
@@ -397,12 +398,12 @@ module _ (machine : Machine) (state : State) (has : HasNatives machine.program) 
       if nat_lt place (length built) then holds serial own [] (take place built ++ unit ∷ drop (place + 1) built) else stops call string_index
   set_at serial unit place own built = stops call string_index
 
-  set_typed : (unit : ℕ) (index : ℤ) (place : ℕ) (own : Object) (built : List ℕ) → unit < 2 ^ 16 → IsThere builder place own → IsBuilt state own → IsText built
+  set_typed : (unit : ℕ) (index : ℤ) (place : ℕ) (own : Object) (built : List ℕ) → unit < 2 ^ 16 → IsThere builder place own → IsText built
       → Is None (set_at (suc place) unit index own built)
-  set_typed unit (negsuc index) place own built low there is text = out_of_range None
-  set_typed unit (pos index) place own built low there is text = go (nat_lt index (length built)) where
+  set_typed unit (negsuc index) place own built low there text = out_of_range None
+  set_typed unit (pos index) place own built low there text = go (nat_lt index (length built)) where
     go : (test : Bool) → Is None (if test then holds (suc place) own [] (take index built ++ unit ∷ drop (index + 1) built) else stops call string_index)
-    go true = held_typed None [] nothing place own (take index built ++ unit ∷ drop (index + 1) built) there is
+    go true = held_typed None [] nothing place own (take index built ++ unit ∷ drop (index + 1) built) there
         (all_joined (λ unit. unit < 2 ^ 16) (take index built) (unit ∷ drop (index + 1) built) (all_taken (λ unit. unit < 2 ^ 16) index built text.each)
         (low, all_left (λ unit. unit < 2 ^ 16) (index + 1) built text.each))
     go false = out_of_range None
@@ -412,12 +413,12 @@ module _ (machine : Machine) (state : State) (has : HasNatives machine.program) 
       if nat_lt place (length built) then holds serial own (values.Ref serial ∷ []) (take place built ++ drop (place + 1) built) else stops call string_index
   deleted_at serial place own built = stops call string_index
 
-  deleted_typed : (index : ℤ) (place : ℕ) (own : Object) (built : List ℕ) → Refer builder (suc place) → IsThere builder place own → IsBuilt state own → IsText built
+  deleted_typed : (index : ℤ) (place : ℕ) (own : Object) (built : List ℕ) → Refer builder (suc place) → IsThere builder place own → IsText built
       → Is Builder (deleted_at (suc place) index own built)
-  deleted_typed (negsuc index) place own built refers there is text = out_of_range Builder
-  deleted_typed (pos index) place own built refers there is text = go (nat_lt index (length built)) where
+  deleted_typed (negsuc index) place own built refers there text = out_of_range Builder
+  deleted_typed (pos index) place own built refers there text = go (nat_lt index (length built)) where
     go : (test : Bool) → Is Builder (if test then holds (suc place) own (values.Ref (suc place) ∷ []) (take index built ++ drop (index + 1) built) else stops call string_index)
-    go true = held_typed Builder (values.Ref (suc place) ∷ []) (itself (suc place) refers) place own (take index built ++ drop (index + 1) built) there is
+    go true = held_typed Builder (values.Ref (suc place) ∷ []) (itself (suc place) refers) place own (take index built ++ drop (index + 1) built) there
         (all_joined (λ unit. unit < 2 ^ 16) (take index built) (drop (index + 1) built) (all_taken (λ unit. unit < 2 ^ 16) index built text.each)
         (all_left (λ unit. unit < 2 ^ 16) (index + 1) built text.each))
     go false = out_of_range Builder
@@ -426,11 +427,11 @@ module _ (machine : Machine) (state : State) (has : HasNatives machine.program) 
   cut_at serial (pos count) own built = if_short call count (holds serial own [] (take count built ++ replicate (count - length built) 0))
   cut_at serial count own built = stops call string_index
 
-  cut_typed : (count : ℤ) (place : ℕ) (own : Object) (built : List ℕ) → IsThere builder place own → IsBuilt state own → IsText built → Is None (cut_at (suc place) count own built)
-  cut_typed (negsuc count) place own built there is text = out_of_range None
-  cut_typed (pos count) place own built there is text = go (nat_le count most_elements) where
+  cut_typed : (count : ℤ) (place : ℕ) (own : Object) (built : List ℕ) → IsThere builder place own → IsText built → Is None (cut_at (suc place) count own built)
+  cut_typed (negsuc count) place own built there text = out_of_range None
+  cut_typed (pos count) place own built there text = go (nat_le count most_elements) where
     go : (test : Bool) → Is None (if test then holds (suc place) own [] (take count built ++ replicate (count - length built) 0) else stops call negative_size)
-    go true = held_typed None [] nothing place own (take count built ++ replicate (count - length built) 0) there is
+    go true = held_typed None [] nothing place own (take count built ++ replicate (count - length built) 0) there
         (all_joined (λ unit. unit < 2 ^ 16) (take count built) (replicate (count - length built) 0) (all_taken (λ unit. unit < 2 ^ 16) count built text.each) (zeros_low (count - length built)))
     go false = too_long None
 
@@ -460,53 +461,50 @@ module _ (machine : Machine) (state : State) (has : HasNatives machine.program) 
     go true = texted place string (range_of units from (from + count)) own (range_text units from (from + count) text)
     go false = out_of_range None
 
-  abbrev Built : ℕ → Type 0
-  Built serial = (object : Object) → object_at state serial ≡ Some object → holds_kind machine.program object.kind kind_of_string ≡ true → IsBuilt state object
-
   -- `null` is appended as a word
   abbrev appends_string : ℕ → ℕ → Option Performed
   appends_string serial zero = appends serial (codes "null")
   appends_string serial (suc place) = on_text call (suc place) (appends serial)
 
-  string_appended : (serial string : ℕ) → Refer builder serial → Refer kind_of_string string → Counts serial → Built string → Is Builder (appends_string serial string)
-  string_appended serial zero refers given counts built = appended serial (codes "null") refers counts (literal_low (codes "null") refl)
-  string_appended serial (suc place) refers given counts built =
-      text_typed machine state has typed runs Builder (suc place) (appends serial) given built (λ units text. appended serial units refers counts text.each)
+  string_appended : (serial string : ℕ) → Refer builder serial → Refer kind_of_string string → Is Builder (appends_string serial string)
+  string_appended serial zero refers given = appended serial (codes "null") refers (literal_low (codes "null") refl)
+  string_appended serial (suc place) refers given =
+      text_typed machine state has typed runs Builder (suc place) (appends serial) given (λ units text. appended serial units refers text.each)
 
   own_performed : (native : Native) (held : List Value) → AreGiven machine.program (kinds machine state has typed runs) (takes_of machine.program native) held
-      → AreBuilt machine.program state held → form_of native ≡ forms.OwnFields → Is (gives_of machine.program native) (performed machine state native held)
-  own_performed natives.StringNew _ (AreGiven.AnObject _ string _ _ refers AreGiven.Nothing) built form = on_own None kind_of_string string (λ serial object. Some (Gives (with_array made_characters serial object [] 0) [])) refers (λ place own same there. texted place own [] there no_text)
-  own_performed natives.StringNewChars _ (AreGiven.AnObject _ string _ _ refers (AreGiven.AnObject _ array _ _ given AreGiven.Nothing)) built form = object_typed machine state has typed runs None (characters machine.program) array _ given
+      → form_of native ≡ forms.OwnFields → Is (gives_of machine.program native) (performed machine state native held)
+  own_performed natives.StringNew _ (AreGiven.AnObject _ string _ _ refers AreGiven.Nothing) form = on_own None kind_of_string string (λ serial object. Some (Gives (with_array made_characters serial object [] 0) [])) refers (λ place own same there. texted place own [] there no_text)
+  own_performed natives.StringNewChars _ (AreGiven.AnObject _ string _ _ refers (AreGiven.AnObject _ array _ _ given AreGiven.Nothing)) form = object_typed machine state has typed runs None (characters machine.program) array _ given
       (λ at array_object same there is goes. on_own None kind_of_string string (λ serial object. Some (Gives (with_array made_characters serial object (units_of array_object) (length (units_of array_object))) [])) refers (λ place own equal own_there. texted place own (units_of array_object) own_there (chars_text machine state has typed runs array_object goes is)))
-  own_performed natives.StringNewRange _ (AreGiven.AnObject _ string _ _ refers (AreGiven.AnObject _ array _ _ given (AreGiven.AnInt start _ _ _ (AreGiven.AnInt count _ _ _ AreGiven.Nothing)))) built form = object_typed machine state has typed runs None (characters machine.program) array _ given
+  own_performed natives.StringNewRange _ (AreGiven.AnObject _ string _ _ refers (AreGiven.AnObject _ array _ _ given (AreGiven.AnInt start _ _ _ (AreGiven.AnInt count _ _ _ AreGiven.Nothing)))) form = object_typed machine state has typed runs None (characters machine.program) array _ given
       (λ at array_object same there is goes. on_own None kind_of_string string (λ serial object. sets_range serial object (units_of array_object) start count) refers (λ place own equal own_there. ranged (units_of array_object) start count place own (chars_text machine state has typed runs array_object goes is) own_there))
-  own_performed natives.StringBuilderNew _ (AreGiven.AnObject _ serial _ _ refers AreGiven.Nothing) built form = on_own None builder serial (λ serial object. builds serial [] 16 object) refers (λ place own same there. built_new place own [] 16 there no_text)
-  own_performed natives.StringBuilderNewCapacity _ (AreGiven.AnObject _ serial _ _ refers (AreGiven.AnInt room _ _ _ AreGiven.Nothing)) built form = on_own None builder serial (λ serial. builds_sized serial room) refers (λ place own same there. built_sized place own room there)
-  own_performed natives.StringBuilderNewString _ (AreGiven.AnObject _ serial _ _ refers (AreGiven.AnObject _ string _ _ given AreGiven.Nothing)) built form = text_typed machine state has typed runs None string _ given (λ object there goes. built.strings string object (1, omega arith, refl) there goes)
+  own_performed natives.StringBuilderNew _ (AreGiven.AnObject _ serial _ _ refers AreGiven.Nothing) form = on_own None builder serial (λ serial object. builds serial [] 16 object) refers (λ place own same there. built_new place own [] 16 there no_text)
+  own_performed natives.StringBuilderNewCapacity _ (AreGiven.AnObject _ serial _ _ refers (AreGiven.AnInt room _ _ _ AreGiven.Nothing)) form = on_own None builder serial (λ serial. builds_sized serial room) refers (λ place own same there. built_sized place own room there)
+  own_performed natives.StringBuilderNewString _ (AreGiven.AnObject _ serial _ _ refers (AreGiven.AnObject _ string _ _ given AreGiven.Nothing)) form = text_typed machine state has typed runs None string _ given
       (λ units text. on_own None builder serial (λ serial object. builds serial units (min most_elements (length units + 16)) object) refers (λ place own same there. built_new place own units (min most_elements (length units + 16)) there text))
-  own_performed natives.StringBuilderAppendString _ (AreGiven.AnObject _ serial _ _ refers (AreGiven.AnObject _ string _ _ given AreGiven.Nothing)) built form = string_appended serial string refers given (λ object there goes. built.builders serial object (0, omega arith, refl) there goes) (λ object there goes. built.strings string object (1, omega arith, refl) there goes)
-  own_performed natives.StringBuilderAppendInt _ (AreGiven.AnObject _ serial _ _ refers (AreGiven.AnInt number _ _ _ AreGiven.Nothing)) built form = appended serial (digits number) refers (λ object there goes. built.builders serial object (0, omega arith, refl) there goes) (signed_low number)
-  own_performed natives.StringBuilderAppendLong _ (AreGiven.AnObject _ serial _ _ refers (AreGiven.ALong number _ _ _ AreGiven.Nothing)) built form = appended serial (digits number) refers (λ object there goes. built.builders serial object (0, omega arith, refl) there goes) (signed_low number)
-  own_performed natives.StringBuilderAppendChar _ (AreGiven.AnObject _ serial _ _ refers (AreGiven.AnInt unit _ _ _ AreGiven.Nothing)) built form = appended serial (unit_of unit ∷ []) refers (λ object there goes. built.builders serial object (0, omega arith, refl) there goes) (low_bits-lt 16 unit, tt)
-  own_performed natives.StringBuilderAppendBoolean _ (AreGiven.AnObject _ serial _ _ refers (AreGiven.AnInt is _ _ _ AreGiven.Nothing)) built form = appended serial (truth is) refers (λ object there goes. built.builders serial object (0, omega arith, refl) there goes) (truth_low is)
-  own_performed natives.StringBuilderAppendChars _ (AreGiven.AnObject _ serial _ _ refers (AreGiven.AnObject _ array _ _ given AreGiven.Nothing)) built form = object_typed machine state has typed runs Builder (characters machine.program) array _ given
-      (λ at array_object same there is goes. appended serial (units_of array_object) refers (λ object there goes. built.builders serial object (0, omega arith, refl) there goes) (chars_text machine state has typed runs array_object goes is).each)
-  own_performed natives.StringBuilderSetCharAt _ (AreGiven.AnObject _ serial _ _ refers (AreGiven.AnInt index _ _ _ (AreGiven.AnInt unit _ _ _ AreGiven.Nothing))) built form = on_builder None (λ serial. set_at serial (unit_of unit) index) serial refers (λ object there goes. built.builders serial object (0, omega arith, refl) there goes) (λ place own units same there is text. set_typed (unit_of unit) index place own units (low_bits-lt 16 unit) there is text)
-  own_performed natives.StringBuilderDeleteCharAt _ (AreGiven.AnObject _ serial _ _ refers (AreGiven.AnInt index _ _ _ AreGiven.Nothing)) built form = on_builder Builder (λ serial. deleted_at serial index) serial refers (λ object there goes. built.builders serial object (0, omega arith, refl) there goes) (λ place own units same there is text. deleted_typed index place own units (subst (Refer builder) same refers) there is text)
-  own_performed natives.StringBuilderSetLength _ (AreGiven.AnObject _ serial _ _ refers (AreGiven.AnInt count _ _ _ AreGiven.Nothing)) built form = on_builder None (λ serial. cut_at serial count) serial refers (λ object there goes. built.builders serial object (0, omega arith, refl) there goes) (λ place own units same there is text. cut_typed count place own units there is text)
-  own_performed natives.IntegerNew _ (AreGiven.AnObject _ box _ _ refers (AreGiven.AnInt number _ _ fits AreGiven.Nothing)) built form = on_own None library.integer box (λ serial object. Some (Gives (leaving (with_word state serial object value_slot (Number number))) [])) refers
+  own_performed natives.StringBuilderAppendString _ (AreGiven.AnObject _ serial _ _ refers (AreGiven.AnObject _ string _ _ given AreGiven.Nothing)) form = string_appended serial string refers given
+  own_performed natives.StringBuilderAppendInt _ (AreGiven.AnObject _ serial _ _ refers (AreGiven.AnInt number _ _ _ AreGiven.Nothing)) form = appended serial (digits number) refers (signed_low number)
+  own_performed natives.StringBuilderAppendLong _ (AreGiven.AnObject _ serial _ _ refers (AreGiven.ALong number _ _ _ AreGiven.Nothing)) form = appended serial (digits number) refers (signed_low number)
+  own_performed natives.StringBuilderAppendChar _ (AreGiven.AnObject _ serial _ _ refers (AreGiven.AnInt unit _ _ _ AreGiven.Nothing)) form = appended serial (unit_of unit ∷ []) refers (low_bits-lt 16 unit, tt)
+  own_performed natives.StringBuilderAppendBoolean _ (AreGiven.AnObject _ serial _ _ refers (AreGiven.AnInt is _ _ _ AreGiven.Nothing)) form = appended serial (truth is) refers (truth_low is)
+  own_performed natives.StringBuilderAppendChars _ (AreGiven.AnObject _ serial _ _ refers (AreGiven.AnObject _ array _ _ given AreGiven.Nothing)) form = object_typed machine state has typed runs Builder (characters machine.program) array _ given
+      (λ at array_object same there is goes. appended serial (units_of array_object) refers (chars_text machine state has typed runs array_object goes is).each)
+  own_performed natives.StringBuilderSetCharAt _ (AreGiven.AnObject _ serial _ _ refers (AreGiven.AnInt index _ _ _ (AreGiven.AnInt unit _ _ _ AreGiven.Nothing))) form = on_builder None (λ serial. set_at serial (unit_of unit) index) serial refers (λ place own units same there text. set_typed (unit_of unit) index place own units (low_bits-lt 16 unit) there text)
+  own_performed natives.StringBuilderDeleteCharAt _ (AreGiven.AnObject _ serial _ _ refers (AreGiven.AnInt index _ _ _ AreGiven.Nothing)) form = on_builder Builder (λ serial. deleted_at serial index) serial refers (λ place own units same there text. deleted_typed index place own units (subst (Refer builder) same refers) there text)
+  own_performed natives.StringBuilderSetLength _ (AreGiven.AnObject _ serial _ _ refers (AreGiven.AnInt count _ _ _ AreGiven.Nothing)) form = on_builder None (λ serial. cut_at serial count) serial refers (λ place own units same there text. cut_typed count place own units there text)
+  own_performed natives.IntegerNew _ (AreGiven.AnObject _ box _ _ refers (AreGiven.AnInt number _ _ fits AreGiven.Nothing)) form = on_own None library.integer box (λ serial object. Some (Gives (leaving (with_word state serial object value_slot (Number number))) [])) refers
       (λ place own same there. number_set library.integer place basics.Int own number has.core.integers there (HasContent.AnInt basics.Int number refl fits refl))
-  own_performed natives.LongNew _ (AreGiven.AnObject _ box _ _ refers (AreGiven.ALong number _ _ fits AreGiven.Nothing)) built form = on_own None library.long box (λ serial object. Some (Gives (leaving (with_word state serial object value_slot (Number number))) [])) refers
+  own_performed natives.LongNew _ (AreGiven.AnObject _ box _ _ refers (AreGiven.ALong number _ _ fits AreGiven.Nothing)) form = on_own None library.long box (λ serial object. Some (Gives (leaving (with_word state serial object value_slot (Number number))) [])) refers
       (λ place own same there. number_set library.long place basics.Long own number has.core.longs there (HasContent.ALong number fits))
-  own_performed natives.CharacterNew _ (AreGiven.AnObject _ box _ _ refers (AreGiven.AnInt unit _ _ fits AreGiven.Nothing)) built form = on_own None library.character box (λ serial object. Some (Gives (leaving (with_word state serial object value_slot (Number (pos (unit_of unit))))) [])) refers
+  own_performed natives.CharacterNew _ (AreGiven.AnObject _ box _ _ refers (AreGiven.AnInt unit _ _ fits AreGiven.Nothing)) form = on_own None library.character box (λ serial object. Some (Gives (leaving (with_word state serial object value_slot (Number (pos (unit_of unit))))) [])) refers
       (λ place own same there. number_set library.character place basics.Char own (pos (unit_of unit)) has.core.chars there (int_kept machine.program _ basics.Char unit refl fits))
-  own_performed natives.BooleanNew _ (AreGiven.AnObject _ box _ _ refers (AreGiven.AnInt is _ _ fits AreGiven.Nothing)) built form = on_own None library.boolean box (λ serial object. Some (Gives (leaving (with_word state serial object value_slot (Number (pos (low_bits 1 is))))) [])) refers
+  own_performed natives.BooleanNew _ (AreGiven.AnObject _ box _ _ refers (AreGiven.AnInt is _ _ fits AreGiven.Nothing)) form = on_own None library.boolean box (λ serial object. Some (Gives (leaving (with_word state serial object value_slot (Number (pos (low_bits 1 is))))) [])) refers
       (λ place own same there. number_set library.boolean place basics.Boolean own (pos (low_bits 1 is)) has.core.booleans there (int_kept machine.program _ basics.Boolean is refl fits))
-  own_performed other held given built form = absurd (cc form)
+  own_performed other held given form = absurd (cc form)
 
 pub own_fields_advance : (machine : Machine) (state : State) (frame : MethodFrame) (below : List Frame) → HasNatives machine.program → IsTyped machine.program → IsSpelled machine.program
     → HoldsOn machine.program → IsTypedState machine.program state → state.roots.pending ≡ 0 → state.roots.frames ≡ OfMethod frame ∷ below
-    → (calls : CallsNative machine state frame below) → AreBuilt machine.program state calls.arguments → form_of calls.native ≡ forms.OwnFields → Advances machine state
-own_fields_advance machine state frame below has fits spelled holds typed runs frames calls built form =
+    → (calls : CallsNative machine state frame below) → form_of calls.native ≡ forms.OwnFields → Advances machine state
+own_fields_advance machine state frame below has fits spelled holds typed runs frames calls form =
     given_advances machine state frame below has fits spelled holds typed runs frames calls
-    (λ given. own_performed machine state has typed runs calls.native calls.arguments given built form)
+    (λ given. own_performed machine state has typed runs calls.native calls.arguments given form)

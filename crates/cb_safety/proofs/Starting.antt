@@ -25,13 +25,13 @@ use Rattle.cb_safety.specs.Heap.{IsKnownWord, IsHeap, IsObject}
 use Rattle.cb_safety.specs.Held.{HasBasic, HasContent}
 use Rattle.cb_safety.specs.Kinds.{IsKnown, Kinds, Refers, kind_in, kinds_of}
 use Rattle.cb_safety.specs.Starting.{AreEmpty, HasStart, HoldsObjects}
-use Rattle.cb_safety.specs.States.{AreRoots, IsTypedState}
+use Rattle.cb_safety.specs.States.{AreRoots, IsInput, IsTypedState}
 use Rattle.cb_safety.specs.Strings.{IsText}
 use Rattle.cb_safety.proofs.Known.{all_ranged}
 use Rattle.cb_safety.proofs.AtFirst.{first_roots}
-use Rattle.cb_safety.proofs.Extended.{kind_in_more}
+use Rattle.cb_safety.proofs.Extended.{is_object_more, kind_in_more}
 use Rattle.cb_safety.proofs.Grown.{one_put}
-use Rattle.cb_safety.proofs.Growing.{heap_grown, is_object_more, kind_behind, kinds_grown, kinds_placed}
+use Rattle.cb_safety.proofs.Growing.{heap_grown, kind_behind, kinds_grown, kinds_placed}
 use Rattle.cb_safety.proofs.Lists.{all_both}
 use Rattle.cb_safety.proofs.NewArrays.{kinds_parts}
 use Rattle.cb_safety.proofs.Searching.{all_weaker, numbered}
@@ -191,7 +191,8 @@ module _ (machine : Machine) (input : List ℕ) (contents : List Content) (has :
   ended plan serial slots = let own = set_streams plan slots serial in with_left own (with_argument own.left 1)
 
   module _ (plan : Plan) (count : ℕ) (strung : Strung plan count)
-      (fits : (kinds : Kinds) → ((turn : ℕ) → turn < count → kind_in kinds (2 * turn + 3) ≡ Some string_kind) → IsObject machine.program kinds array) where
+      (fits : (kinds : Kinds) → ((turn : ℕ) → turn < count → kind_in kinds (2 * turn + 3) ≡ Some string_kind) → IsObject machine.program kinds array)
+      (bytes : IsInput input) where
     abbrev out_kind : ℕ
     out_kind = kind_of_site machine.program sites.system_out
 
@@ -252,7 +253,7 @@ module _ (machine : Machine) (input : List ℕ) (contents : List Content) (has :
 
     heap : IsHeap machine.program (map Some whole)
     heap =
-        heap_grown machine.program [] whole (record { all = refl; each = λ serial object is. absurd (none_in serial object is) }) (
+        heap_grown machine.program [] whole (record { each = λ serial object is. absurd (none_in serial object is) }) (
           array_is,
           all_more strung.list streams strung.all (
             empty_is (kinds_placed (array ∷ strung.list) ++ kinds_placed streams) sites.system_out out_kind has.out,
@@ -287,6 +288,7 @@ module _ (machine : Machine) (input : List ℕ) (contents : List Content) (has :
                 tables = roots.tables;
                 argument = Refers.To 1 (record { own = array_kind; there = refl; goes = has.array.own });
               });
+          input = subst (λ (state : State). IsInput state.input) (sym strung.left) bytes;
         })
 
 -- ---- the arguments
@@ -315,11 +317,11 @@ array_fits program has count few kinds there = record {
 }
 
 pub start_is_typed : (machine : Machine) (arguments : List (List ℕ)) (input : List ℕ) → HasStart machine.program → AllByRecursion IsText arguments
-    → length arguments ≤ most_elements → IsTypedState machine.program (start machine arguments input)
-start_is_typed machine arguments input has texts few =
+    → length arguments ≤ most_elements → IsInput input → IsTypedState machine.program (start machine arguments input)
+start_is_typed machine arguments input has texts few bytes =
     ended_typed machine input contents has (fold (with_argument_string machine input contents has) first arguments) (length arguments)
     (all_strung machine input contents has arguments first 0 (length arguments) (omega arith) texts (first_strung machine input contents has))
-    (array_fits machine.program has (length arguments) few)
+    (array_fits machine.program has (length arguments) few) bytes
   where
     contents : List Content
     contents = map string_behind (range_with_len 0 (length arguments))

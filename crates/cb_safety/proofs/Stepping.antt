@@ -14,10 +14,8 @@ use Rattle.cb_plain.specs.State.{Frame, Object, Roots, State}
 use Rattle.cb_plain.specs.Updates.{object_at}
 use Rattle.cb_verify.specs.Typed.{IsTyped}
 use Rattle.cb_safety.specs.Advancing.{Advances}
-use Rattle.cb_safety.specs.Given.{GivesNatives, IsGiven, RunGives}
 use Rattle.cb_safety.specs.Linked.{IsLinked}
-use Rattle.cb_safety.specs.Performing.{HasEnums}
-use Rattle.cb_safety.specs.States.{IsTypedState}
+use Rattle.cb_safety.specs.States.{IsInput, IsTypedState}
 use Rattle.cb_safety.specs.Strings.{IsText}
 use Rattle.cb_safety.proofs.Assigned.{never}
 use Rattle.cb_safety.proofs.EveryNative.{natives_advance}
@@ -108,35 +106,34 @@ abbrev or_same : State → Option State → State
 or_same state None = state
 or_same state (Some next) = next
 
--- where natives are given what is built
-module _ (machine : Machine) (linked : IsLinked machine.program) (fits : IsTyped machine.program) (has : HasEnums machine.program) where
-  goes_given : (state : State) → IsTypedState machine.program state → outcome state ≡ Running → GivesNatives machine state → Advances machine state
-  goes_given state typed goes given =
-      running_advances machine state linked fits typed goes
-      (λ frame below idle frames calls.
-      let own : IsGiven machine state frame below calls = given frame below calls in
-      natives_advance machine state frame below linked fits has typed idle frames calls own.built own.input)
+module _ (machine : Machine) (linked : IsLinked machine.program) (fits : IsTyped machine.program) where
+  goes_on : (state : State) → IsTypedState machine.program state → outcome state ≡ Running → Advances machine state
+  goes_on state typed goes =
+      running_advances machine state linked fits typed goes (λ frame below idle frames calls. natives_advance machine state frame below linked fits typed idle frames calls)
 
-  next_given : (state : State) → IsTypedState machine.program state → GivesNatives machine state → IsTypedState machine.program (next machine state)
-  next_given state typed given = go (plan machine state) refl where
+  next_typed : (state : State) → IsTypedState machine.program state → IsTypedState machine.program (next machine state)
+  next_typed state typed = go (plan machine state) refl where
     go : (found : Option Plan) → plan machine state ≡ found → IsTypedState machine.program (next machine state)
     go None is = subst (IsTypedState machine.program) (sym (ap (λ (found : Option Plan). or_same state (option_map made found)) is)) typed
     go (Some own) is =
-        let on : Advances machine state = goes_given state typed (planned_runs machine state own is) given in
+        let on : Advances machine state = goes_on state typed (planned_runs machine state own is) in
         subst (IsTypedState machine.program) (sym (ap (λ (found : Option Plan). or_same state (option_map made found)) on.is)) on.typed
 
-  after_given : (steps : ℕ) (state : State) → IsTypedState machine.program state → ((turn : ℕ) → GivesNatives machine (after machine turn state)) → IsTypedState machine.program (after machine steps state)
-  after_given zero state typed given = typed
-  after_given (suc steps) state typed given = after_given steps (next machine state) (next_given state typed (given 0)) (λ turn. given (suc turn))
+  after_typed : (steps : ℕ) (state : State) → IsTypedState machine.program state → IsTypedState machine.program (after machine steps state)
+  after_typed zero state typed = typed
+  after_typed (suc steps) state typed = after_typed steps (next machine state) (next_typed state typed)
 
-  pub run_given : (arguments : List (List ℕ)) (input : List ℕ) → AllByRecursion IsText arguments → length arguments ≤ most_elements → RunGives machine arguments input → (steps : ℕ)
+  pub run_typed : (arguments : List (List ℕ)) (input : List ℕ) → AllByRecursion IsText arguments → length arguments ≤ most_elements → IsInput input → (steps : ℕ)
       → IsTypedState machine.program (at machine arguments input steps)
-  run_given arguments input texts short given steps =
-      after_given steps (start machine arguments input) (start_is_typed machine arguments input (has_start machine.program linked) texts short) given
+  run_typed arguments input texts short bytes steps =
+      after_typed steps (start machine arguments input) (start_is_typed machine arguments input (has_start machine.program linked) texts short bytes)
 
-  pub run_goes : (arguments : List (List ℕ)) (input : List ℕ) → AllByRecursion IsText arguments → length arguments ≤ most_elements → RunGives machine arguments input → (steps : ℕ)
+  pub run_goes : (arguments : List (List ℕ)) (input : List ℕ) → AllByRecursion IsText arguments → length arguments ≤ most_elements → IsInput input → (steps : ℕ)
       → outcome (at machine arguments input steps) ≡ Running → (own : State) × (step machine (at machine arguments input steps) ≡ Some own)
-  run_goes arguments input texts short given steps goes =
-      let on : Advances machine (at machine arguments input steps) =
-      goes_given (at machine arguments input steps) (run_given arguments input texts short given steps) goes (given steps) in
+  run_goes arguments input texts short bytes steps goes =
+      let on : Advances machine (at machine arguments input steps) = goes_on (at machine arguments input steps) (run_typed arguments input texts short bytes steps) goes in
       (made on.plan, ap (option_map made) on.is)
+
+pub states_advance : (machine : Machine) (state : State) → IsLinked machine.program → IsTyped machine.program → IsTypedState machine.program state
+    → outcome state ≡ Running → Advances machine state
+states_advance machine state linked fits typed goes = goes_on machine linked fits state typed goes

@@ -27,8 +27,8 @@ use Rattle.cb_safety.specs.Strings.{AreStrings, HoldsCharacters, IsText}
 use Rattle.cb_safety.proofs.Known.{all_mapped}
 use Rattle.cb_safety.proofs.Assigned.{never}
 use Rattle.cb_safety.proofs.Enlarged.{grown_state, grown_typed, put}
-use Rattle.cb_safety.proofs.Extended.{are_covered_more, are_standing_more, is_of_kind_more, refers_more}
-use Rattle.cb_safety.proofs.Growing.{are_statics_more, are_tables_more, kind_behind, kinds_grown, kinds_placed}
+use Rattle.cb_safety.proofs.Extended.{are_covered_more, are_standing_more, are_statics_more, are_tables_more, is_of_kind_more, refers_more}
+use Rattle.cb_safety.proofs.Growing.{kind_behind, kinds_grown, kinds_placed}
 use Rattle.cb_safety.proofs.NewArrays.{kinds_parts}
 use Rattle.cb_safety.proofs.Throwing.{kind_low}
 
@@ -97,7 +97,7 @@ abbrev pub rooted : Plan → Roots → Plan
 rooted plan roots = record { placed = plan.placed; next = plan.next; left = with_roots plan.left roots }
 
 pub good_rooted : (program : Linked) (plan : Plan) (roots : Roots) → IsGood program plan → AreRoots program (kinds_of (objects_in plan)) roots → IsGood program (rooted plan roots)
-good_rooted program plan roots good are = record { typed = record { heap = good.typed.heap; roots = are }; next = good.next }
+good_rooted program plan roots good are = record { typed = record { heap = good.typed.heap; roots = are; input = good.typed.input }; next = good.next }
 
 -- with objects more
 abbrev more_placed : Plan → List Placing → ℕ → Plan

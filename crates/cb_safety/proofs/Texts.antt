@@ -22,15 +22,14 @@ use Rattle.cb_machine.specs.Texts.{class_name, digits, hex_digits, object_text, 
 use Rattle.cb_machine.specs.Values.{natural}
 use Rattle.cb_names.specs.Signs.{slash}
 use Rattle.cb_plain.specs.State.{Frame, MethodFrame, Object, OfMethod, State}
-use Rattle.cb_plain.specs.Updates.{object_at}
 use Rattle.cb_plain.specs.declared.value.Value.{Value}
 use Rattle.cb_plain.specs.declared.value.Value.TheVariants as values
 use Rattle.cb_verify.specs.Typed.{IsTyped}
 use Rattle.cb_verify.specs.Within.{kind_of_class, kind_of_string, kind_of_throwable}
 use Rattle.cb_safety.specs.Advancing.{Advances, HoldsOn, IsSpelled}
-use Rattle.cb_safety.specs.Kinds.{Refers, holds_kind}
+use Rattle.cb_safety.specs.Kinds.{Refers}
 use Rattle.cb_safety.specs.Natives.{CallsNative}
-use Rattle.cb_safety.specs.Performing.{AreBuilt, HasNatives, HaveField, IsBuilt}
+use Rattle.cb_safety.specs.Performing.{HasNatives, HaveField}
 use Rattle.cb_safety.specs.Signatures.{characters, gives_of, object, takes_of}
 use Rattle.cb_safety.specs.States.{IsTypedState}
 use Rattle.cb_safety.specs.Strings.{IsText}
@@ -92,7 +91,6 @@ module _ (machine : Machine) (state : State) (has : HasNatives machine.program) 
   Refer kind serial = Refers machine.program (kinds machine state has typed runs) kind serial
 
   text : (serial : ℕ) (go : List ℕ → Option Performed) → Refer kind_of_string serial
-      → ((object : Object) → object_at state serial ≡ Some object → holds_kind machine.program object.kind kind_of_string ≡ true → IsBuilt state object)
       → ((units : List ℕ) → IsText units → Is String (go units)) → Is String (on_text call serial go)
   text = text_typed machine state has typed runs String
 
@@ -151,47 +149,46 @@ module _ (machine : Machine) (state : State) (has : HasNatives machine.program) 
   says throwable (suc place) = on_text call (suc place) (λ message. gives_text call (class_name machine.program throwable.kind ++ codes ": " ++ message))
 
   said : (throwable : Object) (message : ℕ) → Refer kind_of_string message
-      → ((object : Object) → object_at state message ≡ Some object → holds_kind machine.program object.kind kind_of_string ≡ true → IsBuilt state object)
       → Is String (says throwable message)
-  said throwable zero refers built = texted (class_name machine.program throwable.kind) (named_low throwable.kind)
-  said throwable (suc place) refers built =
-      text (suc place) (λ message. gives_text call (class_name machine.program throwable.kind ++ codes ": " ++ message)) refers built
+  said throwable zero refers = texted (class_name machine.program throwable.kind) (named_low throwable.kind)
+  said throwable (suc place) refers =
+      text (suc place) (λ message. gives_text call (class_name machine.program throwable.kind ++ codes ": " ++ message)) refers
       (λ message is. texted (class_name machine.program throwable.kind ++ codes ": " ++ message)
       (joined_low (class_name machine.program throwable.kind ++ codes ": ") message (joined_low (class_name machine.program throwable.kind) (codes ": ") (named_low throwable.kind) (literal_low (codes ": ") refl)) is.each))
 
   text_performed : (native : Native) (held : List Value) → AreGiven machine.program (kinds machine state has typed runs) (takes_of machine.program native) held
-      → AreBuilt machine.program state held → form_of native ≡ forms.Text → Is (gives_of machine.program native) (performed machine state native held)
-  text_performed natives.ObjectSay _ (AreGiven.AnObject _ serial _ _ refers (AreGiven.AnInt hash _ _ _ AreGiven.Nothing)) built form = object_typed machine state has typed runs String object serial _ refers
+      → form_of native ≡ forms.Text → Is (gives_of machine.program native) (performed machine state native held)
+  text_performed natives.ObjectSay _ (AreGiven.AnObject _ serial _ _ refers (AreGiven.AnInt hash _ _ _ AreGiven.Nothing)) form = object_typed machine state has typed runs String object serial _ refers
       (λ place own same there is goes. texted (object_text call own hash) (joined_low (class_name machine.program own.kind ++ codes "@") (hex_digits hash)
       (joined_low (class_name machine.program own.kind) (codes "@") (named_low own.kind) (literal_low (codes "@") refl)) (hex_low (low_bits 32 hash))))
-  text_performed natives.StringConcat _ (AreGiven.AnObject _ string _ _ refers (AreGiven.AnObject _ other _ _ also AreGiven.Nothing)) built form = text string _ refers (λ object there goes. built.strings string object (0, omega arith, refl) there goes) (λ units is. text other _ also (λ object there goes. built.strings other object (1, omega arith, refl) there goes)
+  text_performed natives.StringConcat _ (AreGiven.AnObject _ string _ _ refers (AreGiven.AnObject _ other _ _ also AreGiven.Nothing)) form = text string _ refers (λ units is. text other _ also
       (λ others more. texted (units ++ others) (joined_low units others is.each more.each)))
-  text_performed natives.StringSubstringFrom _ (AreGiven.AnObject _ string _ _ refers (AreGiven.AnInt start _ _ _ AreGiven.Nothing)) built form = text string _ refers (λ object there goes. built.strings string object (0, omega arith, refl) there goes) (λ units is. ranged units start (pos (length units)) is.each)
-  text_performed natives.StringSubstring _ (AreGiven.AnObject _ string _ _ refers (AreGiven.AnInt start _ _ _ (AreGiven.AnInt end _ _ _ AreGiven.Nothing))) built form = text string _ refers (λ object there goes. built.strings string object (0, omega arith, refl) there goes) (λ units is. ranged units start end is.each)
-  text_performed natives.StringReplace _ (AreGiven.AnObject _ string _ _ refers (AreGiven.AnInt old _ _ _ (AreGiven.AnInt new _ _ _ AreGiven.Nothing))) built form = text string _ refers (λ object there goes. built.strings string object (0, omega arith, refl) there goes)
+  text_performed natives.StringSubstringFrom _ (AreGiven.AnObject _ string _ _ refers (AreGiven.AnInt start _ _ _ AreGiven.Nothing)) form = text string _ refers (λ units is. ranged units start (pos (length units)) is.each)
+  text_performed natives.StringSubstring _ (AreGiven.AnObject _ string _ _ refers (AreGiven.AnInt start _ _ _ (AreGiven.AnInt end _ _ _ AreGiven.Nothing))) form = text string _ refers (λ units is. ranged units start end is.each)
+  text_performed natives.StringReplace _ (AreGiven.AnObject _ string _ _ refers (AreGiven.AnInt old _ _ _ (AreGiven.AnInt new _ _ _ AreGiven.Nothing))) form = text string _ refers
       (λ units is. texted (map (replaced (unit_of old) (unit_of new)) units) (all_mapped (replaced (unit_of old) (unit_of new)) units (λ unit low. replaced_low (unit_of old) (unit_of new) unit (low_bits-lt 16 new) low) is.each))
-  text_performed natives.StringValueOfInt _ (AreGiven.AnInt number _ _ _ AreGiven.Nothing) built form = texted (digits number) (signed_low number)
-  text_performed natives.StringValueOfLong _ (AreGiven.ALong number _ _ _ AreGiven.Nothing) built form = texted (digits number) (signed_low number)
-  text_performed natives.StringValueOfChar _ (AreGiven.AnInt unit _ _ _ AreGiven.Nothing) built form = texted (unit_of unit ∷ []) (unit_low unit)
-  text_performed natives.StringValueOfBoolean _ (AreGiven.AnInt is _ _ _ AreGiven.Nothing) built form = texted (truth is) (truth_low is)
-  text_performed natives.StringValueOfChars _ (AreGiven.AnObject _ array _ _ refers AreGiven.Nothing) built form = object_typed machine state has typed runs String (characters machine.program) array _ refers (λ place own same there is goes. texted (units_of own) (chars_text machine state has typed runs own goes is).each)
-  text_performed natives.StringBuilderToString _ (AreGiven.AnObject _ own _ _ refers AreGiven.Nothing) built form = built_typed machine state has typed runs String own (λ object units. gives_text call units) refers (λ object there goes. built.builders own object (0, omega arith, refl) there goes) (λ place object units same there is goes fine. texted units fine.each)
-  text_performed natives.ClassGetName _ (AreGiven.AnObject _ class _ _ refers AreGiven.Nothing) built form = boxed kind_of_class class basics.Int _ has.core.numbers refl refers (λ kind is. texted (class_name machine.program (natural kind)) (named_low (natural kind)))
-  text_performed natives.IntegerTextOf _ (AreGiven.AnInt number _ _ _ AreGiven.Nothing) built form = texted (digits number) (signed_low number)
-  text_performed natives.LongTextOf _ (AreGiven.ALong number _ _ _ AreGiven.Nothing) built form = texted (digits number) (signed_low number)
-  text_performed natives.IntegerToString _ (AreGiven.AnObject _ box _ _ refers AreGiven.Nothing) built form = boxed library.integer box basics.Int _ has.core.integers refl refers (λ number is. texted (digits number) (signed_low number))
-  text_performed natives.LongToString _ (AreGiven.AnObject _ box _ _ refers AreGiven.Nothing) built form = boxed library.long box basics.Long _ has.core.longs refl refers (λ number is. texted (digits number) (signed_low number))
-  text_performed natives.IntegerToHexString _ (AreGiven.AnInt number _ _ _ AreGiven.Nothing) built form = texted (hex_digits number) (hex_low (low_bits 32 number))
-  text_performed natives.CharacterTextOf _ (AreGiven.AnInt unit _ _ _ AreGiven.Nothing) built form = texted (unit_of unit ∷ []) (unit_low unit)
-  text_performed natives.BooleanTextOf _ (AreGiven.AnInt is _ _ _ AreGiven.Nothing) built form = texted (truth is) (truth_low is)
-  text_performed natives.CharacterToString _ (AreGiven.AnObject _ box _ _ refers AreGiven.Nothing) built form = boxed library.character box basics.Char _ has.core.chars refl refers (λ unit own. texted (unit_of unit ∷ []) (unit_low unit))
-  text_performed natives.BooleanToString _ (AreGiven.AnObject _ box _ _ refers AreGiven.Nothing) built form = boxed library.boolean box basics.Boolean _ has.core.booleans refl refers (λ is own. texted (truth is) (truth_low is))
-  text_performed natives.ThrowableSay _ (AreGiven.AnObject _ throwable _ _ refers (AreGiven.AnObject _ message _ _ also AreGiven.Nothing)) built form = object_typed machine state has typed runs String kind_of_throwable throwable _ refers (λ place own same there is goes. said own message also (λ object there goes. built.strings message object (1, omega arith, refl) there goes))
-  text_performed other held given built form = absurd (cc form)
+  text_performed natives.StringValueOfInt _ (AreGiven.AnInt number _ _ _ AreGiven.Nothing) form = texted (digits number) (signed_low number)
+  text_performed natives.StringValueOfLong _ (AreGiven.ALong number _ _ _ AreGiven.Nothing) form = texted (digits number) (signed_low number)
+  text_performed natives.StringValueOfChar _ (AreGiven.AnInt unit _ _ _ AreGiven.Nothing) form = texted (unit_of unit ∷ []) (unit_low unit)
+  text_performed natives.StringValueOfBoolean _ (AreGiven.AnInt is _ _ _ AreGiven.Nothing) form = texted (truth is) (truth_low is)
+  text_performed natives.StringValueOfChars _ (AreGiven.AnObject _ array _ _ refers AreGiven.Nothing) form = object_typed machine state has typed runs String (characters machine.program) array _ refers (λ place own same there is goes. texted (units_of own) (chars_text machine state has typed runs own goes is).each)
+  text_performed natives.StringBuilderToString _ (AreGiven.AnObject _ own _ _ refers AreGiven.Nothing) form = built_typed machine state has typed runs String own (λ object units. gives_text call units) refers (λ place object units same there is goes fine. texted units fine.each)
+  text_performed natives.ClassGetName _ (AreGiven.AnObject _ class _ _ refers AreGiven.Nothing) form = boxed kind_of_class class basics.Int _ has.core.numbers refl refers (λ kind is. texted (class_name machine.program (natural kind)) (named_low (natural kind)))
+  text_performed natives.IntegerTextOf _ (AreGiven.AnInt number _ _ _ AreGiven.Nothing) form = texted (digits number) (signed_low number)
+  text_performed natives.LongTextOf _ (AreGiven.ALong number _ _ _ AreGiven.Nothing) form = texted (digits number) (signed_low number)
+  text_performed natives.IntegerToString _ (AreGiven.AnObject _ box _ _ refers AreGiven.Nothing) form = boxed library.integer box basics.Int _ has.core.integers refl refers (λ number is. texted (digits number) (signed_low number))
+  text_performed natives.LongToString _ (AreGiven.AnObject _ box _ _ refers AreGiven.Nothing) form = boxed library.long box basics.Long _ has.core.longs refl refers (λ number is. texted (digits number) (signed_low number))
+  text_performed natives.IntegerToHexString _ (AreGiven.AnInt number _ _ _ AreGiven.Nothing) form = texted (hex_digits number) (hex_low (low_bits 32 number))
+  text_performed natives.CharacterTextOf _ (AreGiven.AnInt unit _ _ _ AreGiven.Nothing) form = texted (unit_of unit ∷ []) (unit_low unit)
+  text_performed natives.BooleanTextOf _ (AreGiven.AnInt is _ _ _ AreGiven.Nothing) form = texted (truth is) (truth_low is)
+  text_performed natives.CharacterToString _ (AreGiven.AnObject _ box _ _ refers AreGiven.Nothing) form = boxed library.character box basics.Char _ has.core.chars refl refers (λ unit own. texted (unit_of unit ∷ []) (unit_low unit))
+  text_performed natives.BooleanToString _ (AreGiven.AnObject _ box _ _ refers AreGiven.Nothing) form = boxed library.boolean box basics.Boolean _ has.core.booleans refl refers (λ is own. texted (truth is) (truth_low is))
+  text_performed natives.ThrowableSay _ (AreGiven.AnObject _ throwable _ _ refers (AreGiven.AnObject _ message _ _ also AreGiven.Nothing)) form = object_typed machine state has typed runs String kind_of_throwable throwable _ refers (λ place own same there is goes. said own message also)
+  text_performed other held given form = absurd (cc form)
 
 pub texts_advance : (machine : Machine) (state : State) (frame : MethodFrame) (below : List Frame) → HasNatives machine.program → IsTyped machine.program → IsSpelled machine.program
     → HoldsOn machine.program → IsTypedState machine.program state → state.roots.pending ≡ 0 → state.roots.frames ≡ OfMethod frame ∷ below
-    → (calls : CallsNative machine state frame below) → AreBuilt machine.program state calls.arguments → form_of calls.native ≡ forms.Text → Advances machine state
-texts_advance machine state frame below has fits spelled holds typed runs frames calls built form =
+    → (calls : CallsNative machine state frame below) → form_of calls.native ≡ forms.Text → Advances machine state
+texts_advance machine state frame below has fits spelled holds typed runs frames calls form =
     given_advances machine state frame below has fits spelled holds typed runs frames calls
-    (λ given. text_performed machine state has typed runs calls.native calls.arguments given built form)
+    (λ given. text_performed machine state has typed runs calls.native calls.arguments given form)

@@ -20,8 +20,8 @@ use Rattle.cb_safety.specs.Kinds.{IsKnown, IsOfKind, Kinds, Refers, holds_kind, 
 use Rattle.cb_safety.specs.States.{AreFrames, AreRoots, IsTypedState}
 use Rattle.cb_safety.specs.Throwing.{IsThrown}
 use Rattle.cb_safety.proofs.Known.{stack_known}
-use Rattle.cb_safety.proofs.Extended.{are_covered_more, refers_more}
-use Rattle.cb_safety.proofs.Growing.{are_statics_more, are_tables_more, heap_grown, kind_behind, kinds_grown, kinds_placed}
+use Rattle.cb_safety.proofs.Extended.{are_covered_more, are_statics_more, are_tables_more, refers_more}
+use Rattle.cb_safety.proofs.Growing.{heap_grown, kind_behind, kinds_grown, kinds_placed}
 
 -- ---- frames that stand are covered
 
@@ -70,6 +70,7 @@ pub throws_typed : (machine : Machine) (state : State) (site : ℕ) → IsTypedS
 throws_typed machine state site typed thrown = record {
   heap = heap_grown machine.program state.objects (new ∷ []) typed.heap (thrown_object machine.program grown site own thrown, tt);
   roots = subst (λ (kinds : Kinds). AreRoots machine.program kinds (made (throws machine state site)).roots) (sym (kinds_grown state.objects (new ∷ []))) rooted;
+  input = typed.input;
 }
   where
     own : ℕ

@@ -49,6 +49,7 @@ now_pending program state serial typed is = record {
     tables = typed.roots.tables;
     argument = typed.roots.argument;
   };
+  input = typed.input;
 }
 
 module _ (machine : Machine) (state : State) (frame : MethodFrame) (below : List Frame) (insn : Insn) (thrown : AreThrown machine.program)

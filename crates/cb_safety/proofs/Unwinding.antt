@@ -36,7 +36,7 @@ use Rattle.cb_safety.proofs.Asking.{is_at}
 use Rattle.cb_safety.proofs.Entries.{within_method}
 use Rattle.cb_safety.proofs.Going.{arrived, spelled_rise}
 use Rattle.cb_safety.proofs.Handled.{IsTaken, found_among, goes_low, handled, taken}
-use Rattle.cb_safety.proofs.Laws.{flows}
+use Rattle.cb_safety.proofs.Flowing.{flows}
 use Rattle.cb_safety.proofs.Searching.{found_passes}
 use Rattle.cb_safety.proofs.Throwing.{kind_low, standing_covered}
 use Rattle.cb_safety.proofs.Wrapping.{wraps_typed}
@@ -86,6 +86,7 @@ still_pending program state frames typed is covered = record {
     tables = typed.roots.tables;
     argument = typed.roots.argument;
   };
+  input = typed.input;
 }
 
 has_failed : (program : Linked) (state : State) (class : ℕ) → IsTypedState program state → IsTypedState program (with_class state class Failed)
@@ -98,6 +99,7 @@ has_failed program state class typed = record {
     tables = typed.roots.tables;
     argument = typed.roots.argument;
   };
+  input = typed.input;
 }
 
 runs_again : (program : Linked) (state : State) (frames : List Frame) → IsTypedState program state → AreStanding program (kinds_of state.objects) frames
@@ -111,6 +113,7 @@ runs_again program state frames typed standing = record {
     tables = typed.roots.tables;
     argument = typed.roots.argument;
   };
+  input = typed.input;
 }
 
 -- ---- the frame of a method

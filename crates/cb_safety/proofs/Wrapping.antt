@@ -19,8 +19,8 @@ use Rattle.cb_safety.specs.Held.{HasContent}
 use Rattle.cb_safety.specs.Kinds.{IsKnown, IsOfKind, Kinds, Refers, kinds_of}
 use Rattle.cb_safety.specs.States.{AreFrames, AreRoots, IsTypedState}
 use Rattle.cb_safety.specs.Throwing.{IsThrown}
-use Rattle.cb_safety.proofs.Extended.{are_covered_more, is_of_kind_more, refers_more}
-use Rattle.cb_safety.proofs.Growing.{are_statics_more, are_tables_more, heap_grown, kind_behind, kinds_grown, kinds_placed}
+use Rattle.cb_safety.proofs.Extended.{are_covered_more, are_statics_more, are_tables_more, is_of_kind_more, refers_more}
+use Rattle.cb_safety.proofs.Growing.{heap_grown, kind_behind, kinds_grown, kinds_placed}
 use Rattle.cb_safety.proofs.Throwing.{frames_covered, kind_low, null_fits}
 
 -- ---- the new object
@@ -62,6 +62,7 @@ wraps_typed machine state cause typed thrown keeps is = record {
       (wrapped_object machine.program grown cause thrown keeps (is_of_kind_more machine.program kinds (kinds_placed (new ∷ [])) kind_of_throwable cause is), tt);
   roots = subst (λ (kinds : Kinds). AreRoots machine.program kinds (made (throwing_with machine sites.exception_in_initializer 0 cause (leaving state))).roots)
       (sym (kinds_grown state.objects (new ∷ []))) rooted;
+  input = typed.input;
 }
   where
     own : ℕ

@@ -1,6 +1,6 @@
 -- Objects that are as their kinds say.
-use Rattle.std.specs.Prelude.{◌≡◌, ◌<◌, ◌≤◌, ℕ, List, Option, Some, IsTrue, is_some, length, slice_get}
-use Rattle.std.specs.List.{AllByRecursion, list_all}
+use Rattle.std.specs.Prelude.{◌≡◌, ◌<◌, ◌≤◌, ℕ, List, Option, Some, length, slice_get}
+use Rattle.std.specs.List.{AllByRecursion}
 use Rattle.cb_kinds.specs.declared.basic.Basic.{Basic}
 use Rattle.cb_link.specs.Calls.{class_of_kind}
 use Rattle.cb_link.specs.Program.{Linked}
@@ -34,7 +34,6 @@ pub record IsObject (program : Linked) (kinds : Kinds) (object : Object) : Type 
   pub few : (basic : Basic) → element_of program object.kind ≡ Some basic → length object.contents ≤ most_elements
   pub words : AllByRecursion (IsKnownWord kinds) object.contents
 
--- all objects are there, and each is as it should be
+-- each object that is there is as it should be; of others nothing is asked
 pub record IsHeap (program : Linked) (objects : List (Option Object)) : Type 0 where
-  pub all : IsTrue (list_all is_some objects)
   pub each : (serial : ℕ) → (object : Object) → object_in objects serial ≡ Some object → IsObject program (kinds_of objects) object

@@ -27,5 +27,3 @@ pub mod Signatures
 pub mod Performing
 pub mod Room
 pub mod Words
-pub mod There
-pub mod Given

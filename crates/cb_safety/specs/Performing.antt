@@ -1,5 +1,5 @@
--- What a program has to say of the library's natives, and what is asked of the objects that they are given.
-use Rattle.std.specs.Prelude.{◌≡◌, ◌<◌, ◌^◌, ℕ, pos, true, List, [], ◌∷◌, ◌++◌, map, None, Some, slice_get}
+-- What a program has to say of the library's natives.
+use Rattle.std.specs.Prelude.{◌≡◌, ◌<◌, ◌^◌, ℕ, true, List, [], ◌∷◌, ◌++◌, map, None, Some, slice_get}
 use Rattle.std.specs.List.{AllByRecursion, Contains}
 use Rattle.cb_classfile.specs.Flags.{acc_static}
 use Rattle.cb_classfile.specs.declared.method.Method.{Method}
@@ -14,14 +14,9 @@ use Rattle.cb_machine.specs.Arrays.{element_of}
 use Rattle.cb_machine.specs.Library as library
 use Rattle.cb_machine.specs.Machine.{kind_of_site, method_numbered}
 use Rattle.cb_machine.specs.Natives.{native_of}
-use Rattle.cb_machine.specs.Performing.{array_of, count_slot, number_at}
 use Rattle.cb_link.specs.Slots.{enum_statics, field_basic, static_basic}
 use Rattle.cb_machine.specs.Sites as sites
 use Rattle.cb_machine.specs.Sites.{arithmetic, array_index, array_store, builder_characters, clone_not_supported, illegal_argument, index_out_of_bounds, made_characters, made_strings, negative_size, no_class_definition, null_pointer, number_format, string_index}
-use Rattle.cb_plain.specs.State.{Object, State}
-use Rattle.cb_plain.specs.Updates.{object_at}
-use Rattle.cb_plain.specs.declared.value.Value.{Value}
-use Rattle.cb_plain.specs.declared.value.Value.TheVariants as values
 use Rattle.cb_verify.specs.Types.{type_of}
 use Rattle.cb_verify.specs.Within.{kind_of_class, kind_of_string, kind_of_throwable}
 use Rattle.cb_safety.specs.Advancing.{HoldsOwn, HoldsThrough}
@@ -90,10 +85,6 @@ pub record IsConstant (program : Linked) (slot : ℕ) : Type 0 where
   pub declared : static_basic program slot ≡ Some (basics.Reference kind)
   pub goes : holds_kind program kind enum ≡ true
 
--- each constant of an enum of a program is one
-pub record HasEnums (program : Linked) : Type 0 where
-  pub constants : (class slot : ℕ) → Contains (enum_statics program.classes class) slot → IsConstant program slot
-
 -- what natives are, the strings that they make, and the names of kinds, of which they make some, are of units of two bytes
 pub record HasNatives (program : Linked) : Type 0 where
   pub signatures : HaveSignatures program
@@ -110,24 +101,3 @@ pub record HasNatives (program : Linked) : Type 0 where
   pub boolean_boxes : AreBoxes program (kind_of_site program sites.booleans) library.boolean basics.Boolean
   pub constants : (class slot : ℕ) → Contains (enum_statics program.classes class) slot → IsConstant program slot
   pub names : (kind : ℕ) (name : List ℕ) → slice_get program.kinds kind ≡ Some name → AllByRecursion (λ unit. unit < 2 ^ 16) name
-
--- a string has its array, and a builder has one and a count, which isn't negative. Their constructors set these, and natives that read
--- strings and builders are given no others
-pub record IsBuilt (state : State) (object : Object) : Type 0 where
-  pub array : Object
-  pub is : array_of state object ≡ Some array
-
-pub record IsCounted (state : State) (object : Object) : Type 0 where
-  pub built : IsBuilt state object
-  pub count : ℕ
-  pub counts : number_at object count_slot ≡ Some (pos count)
-
-pub record AreBuilt (program : Linked) (state : State) (held : List Value) : Type 0 where
-  pub strings : (serial : ℕ) (object : Object) → Contains held (values.Ref serial) → object_at state serial ≡ Some object
-      → holds_kind program object.kind kind_of_string ≡ true → IsBuilt state object
-  pub builders : (serial : ℕ) (object : Object) → Contains held (values.Ref serial) → object_at state serial ≡ Some object
-      → holds_kind program object.kind builder ≡ true → IsCounted state object
-
--- what is left of the input is bytes
-abbrev pub IsInput : State → Type 0
-IsInput state = AllByRecursion (λ byte. byte < 2 ^ 8) state.input

@@ -1,5 +1,6 @@
 -- States of a machine that are typed.
-use Rattle.std.specs.Prelude.{◌≡◌, ℕ, List, Some, length, slice_get}
+use Rattle.std.specs.Prelude.{◌≡◌, ◌<◌, ◌^◌, ℕ, List, Some, length, slice_get}
+use Rattle.std.specs.List.{AllByRecursion}
 use Rattle.cb_kinds.specs.declared.basic.Basic.{Basic}
 use Rattle.cb_link.specs.Program.{Linked}
 use Rattle.cb_link.specs.Slots.{static_basic}
@@ -49,6 +50,11 @@ pub record AreRoots (program : Linked) (kinds : Kinds) (roots : Roots) : Type 0 
   pub tables : AreTables program kinds roots.tables
   pub argument : Refers program kinds (kind_of_site program sites.arguments) roots.argument
 
+-- what is left of the input is bytes
+abbrev pub IsInput : List ℕ → Type 0
+IsInput input = AllByRecursion (λ byte. byte < 2 ^ 8) input
+
 pub record IsTypedState (program : Linked) (state : State) : Type 0 where
   pub heap : IsHeap program state.objects
   pub roots : AreRoots program (kinds_of state.objects) state.roots
+  pub input : IsInput state.input

@@ -1,29 +1,31 @@
-//! Laws over the definitions of the verifier and of the machine, by which it is to be shown that a program that was verified never gets
-//! stuck. There is no code.
+//! Laws over the definitions of the verifier and of the machine: a program that is linked and verified never gets stuck. There is no code.
 //!
 //! `specs/` says in this order: of which kinds objects are, and what a kind holds (`Kinds`, `Order`, `ClassNames`); values and words by the
-//! verifier's types (`Held`); objects (`Heap`); frames (`Frames`); states (`States`); what typing says of one instruction and of a method's
-//! beginning (`Flows`, `Beginning`); that a typed state has a next one, which is typed too (`Advancing`); and what is asked of a program for
-//! that: what the exceptions and strings of the machine are (`Throwing`, `Causes`, `Strings`), what instructions name and make (`Naming`,
-//! `Ready`, `Making`, `Calling`), what stands where a native is called (`Natives`), and what the initialisation of classes runs
-//! (`Initialisers`). `Loaded` and `Linked` say what loading and linking ensure of a program, and `Sound` all that then holds of one that is typed.
-//! What a program may ask of a typed state that runs the machine step by step is in `Room`, `Words` and `There`.
+//! verifier's types (`Held`); objects (`Heap`); frames (`Frames`); states, with an input of bytes (`States`); what typing says of one
+//! instruction and of a method's beginning (`Flows`, `Beginning`); that a typed state has a next one, which is typed too (`Advancing`); and
+//! what is asked of a program for that: what the exceptions and strings of the machine are (`Throwing`, `Causes`, `Strings`), what
+//! instructions name and make (`Naming`, `Ready`, `Making`, `Calling`), what stands where a native is called, what it takes and gives, and
+//! what it asks of the library (`Natives`, `Signatures`, `Performing`), and what the initialisation of classes runs (`Initialisers`).
+//! `Loaded` and `Linked` say what loading and linking ensure of a program, and `Sound` all that then holds of one that is typed. What a
+//! program may ask of a typed state that runs the machine step by step is in `Room` and `Words`.
 //!
 //! The laws on programs are in `src/programs.rt`, those on next states in `next_states.rt` and, at calls of natives, `natives.rt`, and what a
-//! program may ask in `room.rt` and `words.rt`.
+//! program may ask in `room.rt`, `words.rt` and `kept.rt`. The last says that typing asks nothing of objects that aren't kept: of a typed
+//! state what is kept is typed too, where it names nothing else (`kept_states_are_typed`).
 //!
 //! In a program that is linked and typed a typed state whose run goes on has a next state, which is typed too, if a native that it calls
-//! has one (`linked_programs_advance`). Natives have one (`natives_advance`) where the constants of enums are of kinds below Enum, the strings
-//! and builders that natives are given are built, and the input is bytes. The state with which a run begins is typed, so a run in which
-//! natives are given such (`Given`) never gets stuck (`runs_advance`).
+//! has one (`linked_programs_advance`), and natives have one (`natives_advance`). So each typed state whose run goes on has a next one
+//! (`states_advance`); and the state with which a run begins is typed, so a run never gets stuck (`runs_advance`).
 #![tactic(auto)]
 
+mod kept;
 mod natives;
 mod next_states;
 mod programs;
 mod room;
 mod words;
 
+pub use kept::{kept_states_are_typed, typed_states_are_closed, words_name_objects};
 pub use natives::{
     answer_natives_advance, array_natives_advance, box_natives_advance, enum_natives_advance,
     natives_advance, number_natives_advance, outside_natives_advance, own_field_natives_advance,
@@ -35,8 +37,8 @@ pub use next_states::{
     interface_calls_advance, linked_objects_advance, linked_programs_advance,
     linked_special_calls_advance, linked_static_calls_advance, linked_unwinding_advances,
     new_advances, objects_advance, returns_advance, runs_advance, special_calls_advance,
-    start_is_typed, static_calls_advance, statics_advance, throw_advances, throwing_keeps_types,
-    unwinding_advances, virtual_calls_advance,
+    start_is_typed, states_advance, static_calls_advance, statics_advance, throw_advances,
+    throwing_keeps_types, unwinding_advances, virtual_calls_advance,
 };
 pub use programs::{
     arrays_hold_elements, begins, causes_are_kept, classes_go_above, classes_own_kinds,
@@ -52,7 +54,6 @@ pub use room::{
 };
 pub use words::{
     arrays_measured, elements_read, elements_written, fields_read, fields_written,
-    frames_name_objects, references_are_asked, references_are_read, references_are_written,
-    statics_read, statics_written, tables_name_objects, typed_states_are_closed,
-    words_name_objects,
+    references_are_asked, references_are_read, references_are_written, statics_read,
+    statics_written,
 };

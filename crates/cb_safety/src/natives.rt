@@ -11,7 +11,7 @@ ghost use Rattle.cb_verify.specs.Typed.{IsTyped};
 ghost use Rattle.cb_safety.specs.Advancing.{Advances, HoldsOn, IsSpelled};
 ghost use Rattle.cb_safety.specs.Linked.{IsLinked};
 ghost use Rattle.cb_safety.specs.Natives.{CallsNative};
-ghost use Rattle.cb_safety.specs.Performing.{AreBuilt, HasEnums, HasNatives, IsInput};
+ghost use Rattle.cb_safety.specs.Performing.{HasNatives};
 ghost use Rattle.cb_safety.specs.Ready.{BeginsTyped};
 ghost use Rattle.cb_safety.specs.Signatures.{is_of_answers, is_of_numbers};
 ghost use Rattle.cb_safety.specs.States.{IsTypedState};
@@ -25,8 +25,7 @@ pub fn outside_natives_advance()
         → IsTypedState machine.program state
         → state.roots.pending ≡ 0 → state.roots.frames ≡ OfMethod frame ∷ below
         → (calls : CallsNative machine state frame below)
-        → AreBuilt machine.program state calls.arguments → IsInput state → form_of calls.native
-        ≡ Outside → Advances machine state }
+        → form_of calls.native ≡ Outside → Advances machine state }
 {}
 
 /// A typed state that calls a native on numbers alone has a next state, which is typed too, where what a division by zero leaves is typed
@@ -38,8 +37,7 @@ pub fn number_natives_advance()
         → IsTypedState machine.program state
         → state.roots.pending ≡ 0 → state.roots.frames ≡ OfMethod frame ∷ below
         → (calls : CallsNative machine state frame below)
-        → AreBuilt machine.program state calls.arguments → IsTypedState machine.program (made
-        (throws_by_zero machine state))
+        → IsTypedState machine.program (made (throws_by_zero machine state))
         → is_of_numbers calls.native ≡ true → Advances machine state }
 {}
 
@@ -52,8 +50,7 @@ pub fn answer_natives_advance()
         → IsTypedState machine.program state
         → state.roots.pending ≡ 0 → state.roots.frames ≡ OfMethod frame ∷ below
         → (calls : CallsNative machine state frame below)
-        → AreBuilt machine.program state calls.arguments → IsTypedState machine.program (made
-        (throws_by_zero machine state))
+        → IsTypedState machine.program (made (throws_by_zero machine state))
         → is_of_answers calls.native ≡ true → Advances machine state }
 {}
 
@@ -65,8 +62,7 @@ pub fn text_natives_advance()
         → IsTypedState machine.program state
         → state.roots.pending ≡ 0 → state.roots.frames ≡ OfMethod frame ∷ below
         → (calls : CallsNative machine state frame below)
-        → AreBuilt machine.program state calls.arguments → form_of calls.native ≡ Text
-        → Advances machine state }
+        → form_of calls.native ≡ Text → Advances machine state }
 {}
 
 /// A typed state that calls a native which gives an object from a table, a box or a class object, has a next state, which is typed too
@@ -78,8 +74,7 @@ pub fn box_natives_advance()
         → IsTypedState machine.program state
         → state.roots.pending ≡ 0 → state.roots.frames ≡ OfMethod frame ∷ below
         → (calls : CallsNative machine state frame below)
-        → AreBuilt machine.program state calls.arguments → form_of calls.native ≡ Table
-        → Advances machine state }
+        → form_of calls.native ≡ Table → Advances machine state }
 {}
 
 /// A typed state that calls a native which sets the fields of its own object, a constructor of the library or a method of StringBuilder, has
@@ -91,8 +86,7 @@ pub fn own_field_natives_advance()
         → IsTypedState machine.program state
         → state.roots.pending ≡ 0 → state.roots.frames ≡ OfMethod frame ∷ below
         → (calls : CallsNative machine state frame below)
-        → AreBuilt machine.program state calls.arguments → form_of calls.native ≡ OwnFields
-        → Advances machine state }
+        → form_of calls.native ≡ OwnFields → Advances machine state }
 {}
 
 /// A typed state that calls a native on arrays, or one that copies an object, has a next state, which is typed too (Java SE 8 API,
@@ -104,8 +98,7 @@ pub fn array_natives_advance()
         → IsTypedState machine.program state
         → state.roots.pending ≡ 0 → state.roots.frames ≡ OfMethod frame ∷ below
         → (calls : CallsNative machine state frame below)
-        → AreBuilt machine.program state calls.arguments → form_of calls.native ≡ Array
-        → Advances machine state }
+        → form_of calls.native ≡ Array → Advances machine state }
 {}
 
 /// A typed state that calls `Enum.valueOf` has a next state, which is typed too, where what begins the initialisation of a class is typed
@@ -117,18 +110,14 @@ pub fn enum_natives_advance()
         → IsTypedState machine.program state
         → state.roots.pending ≡ 0 → state.roots.frames ≡ OfMethod frame ∷ below
         → (calls : CallsNative machine state frame below)
-        → AreBuilt machine.program state calls.arguments → BeginsTyped machine state → calls.native
-        ≡ natives.EnumValueOf
-        → Advances machine state }
+        → BeginsTyped machine state → calls.native ≡ natives.EnumValueOf → Advances machine state }
 {}
 
-/// A typed state of a linked program that calls a native of the library has a next state, which is typed too, where the strings and
-/// builders that the native is given are built, and what is left of the input is bytes.
+/// A typed state of a linked program that calls a native of the library has a next state, which is typed too.
 pub fn natives_advance()
     ensures { (machine : Machine) (state : State) (frame : MethodFrame) (below : List StateFrame)
         → IsLinked machine.program
-        → IsTyped machine.program → HasEnums machine.program → IsTypedState machine.program state
+        → IsTyped machine.program → IsTypedState machine.program state
         → state.roots.pending ≡ 0 → state.roots.frames ≡ OfMethod frame ∷ below
-        → (calls : CallsNative machine state frame below)
-        → AreBuilt machine.program state calls.arguments → IsInput state → Advances machine state }
+        → CallsNative machine state frame below → Advances machine state }
 {}

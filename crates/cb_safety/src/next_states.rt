@@ -33,15 +33,13 @@ ghost use Rattle.cb_safety.specs.Causes.{KeepsCause};
 ghost use Rattle.cb_safety.specs.Constants.{HasClassObjects, HasMessage};
 ghost use Rattle.cb_safety.specs.Initialisers.{HasInitialisers};
 ghost use Rattle.cb_safety.specs.Making.{is_of_arrays};
-ghost use Rattle.cb_safety.specs.Given.{RunGives};
 ghost use Rattle.cb_safety.specs.Linked.{IsLinked};
 ghost use Rattle.cb_safety.specs.Main.{HasMain};
 ghost use Rattle.cb_safety.specs.Natives.{CallsNative};
 ghost use Rattle.cb_safety.specs.Naming.{HoldsElements, NamesFields, NamesKinds};
-ghost use Rattle.cb_safety.specs.Performing.{HasEnums};
 ghost use Rattle.cb_safety.specs.Ready.{NamesClasses, NamesStatics, is_of_statics};
 ghost use Rattle.cb_safety.specs.Starting.{HasStart};
-ghost use Rattle.cb_safety.specs.States.{IsTypedState};
+ghost use Rattle.cb_safety.specs.States.{IsInput, IsTypedState};
 ghost use Rattle.cb_safety.specs.Strings.{HasConstants, IsText};
 ghost use Rattle.cb_safety.specs.Throwing.{AreThrown, IsThrown};
 
@@ -286,12 +284,13 @@ pub fn throw_advances()
         ≡ Some Throw → Advances machine state }
 {}
 
-/// The state with which a run begins is typed, where each argument is a text and there are no more than an array has elements.
+/// The state with which a run begins is typed, where each argument is a text, there are no more than an array has elements, and the input is
+/// bytes.
 pub fn start_is_typed()
     ensures { (machine : Machine) (arguments : List (List ℕ)) (input : List ℕ)
         → HasStart machine.program → AllByRecursion IsText arguments
-        → length arguments ≤ most_elements → IsTypedState machine.program
-        (start machine arguments input) }
+        → length arguments ≤ most_elements → IsInput input
+        → IsTypedState machine.program (start machine arguments input) }
 {}
 
 /// A typed state of a linked program that runs at an invokestatic has a next state, which is typed too, if natives have (JVMS §6.5
@@ -356,18 +355,23 @@ pub fn linked_programs_advance()
         → Advances machine state }
 {}
 
-/// Each state of a run of a program that is linked and typed is typed, and where the run goes on it has a next one: it never gets stuck,
-/// if what natives are given in the run is built, and is bytes. A state whose run has ended has none.
+/// And natives have: a typed state of a program that is linked and typed, whose run goes on, has a next state, which is typed too.
+pub fn states_advance()
+    ensures { (machine : Machine) (state : State) → IsLinked machine.program
+        → IsTyped machine.program
+        → IsTypedState machine.program state → outcome state ≡ Running → Advances machine state }
+{}
+
+/// Each state of a run of a program that is linked and typed, on an input of bytes, is typed, and where the run goes on it has a next one: it
+/// never gets stuck. A state whose run has ended has none.
 pub fn runs_advance()
     ensures typed { (machine : Machine) → IsLinked machine.program → IsTyped machine.program
-        → HasEnums machine.program
         → (arguments : List (List ℕ)) (input : List ℕ) → AllByRecursion IsText arguments
-        → length arguments ≤ most_elements → RunGives machine arguments input → (steps : ℕ)
+        → length arguments ≤ most_elements → IsInput input → (steps : ℕ)
         → IsTypedState machine.program (at machine arguments input steps) }
     ensures goes_on { (machine : Machine) → IsLinked machine.program → IsTyped machine.program
-        → HasEnums machine.program
         → (arguments : List (List ℕ)) (input : List ℕ) → AllByRecursion IsText arguments
-        → length arguments ≤ most_elements → RunGives machine arguments input → (steps : ℕ)
+        → length arguments ≤ most_elements → IsInput input → (steps : ℕ)
         → outcome (at machine arguments input steps) ≡ Running
         → (next : State) × (step machine (at machine arguments input steps) ≡ Some next) }
     ensures ended { (machine : Machine) (state : State) → ¬ (outcome state ≡ Running)

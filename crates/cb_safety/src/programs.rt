@@ -27,7 +27,7 @@ ghost use Rattle.cb_safety.specs.Making.{HasSites};
 ghost use Rattle.cb_safety.specs.Linked.{IsLinked};
 ghost use Rattle.cb_safety.specs.Main.{HasMain};
 ghost use Rattle.cb_safety.specs.Naming.{HoldsElements, NamesFields, NamesKinds};
-ghost use Rattle.cb_safety.specs.Performing.{HasEnums, HasNatives};
+ghost use Rattle.cb_safety.specs.Performing.{HasNatives};
 ghost use Rattle.cb_safety.specs.Ready.{NamesClasses, NamesStatics};
 ghost use Rattle.cb_safety.specs.Sound.{IsSound};
 ghost use Rattle.cb_safety.specs.Starting.{HasStart};
@@ -198,9 +198,9 @@ pub fn linking_links()
         → IsLinked program }
 {}
 
-/// What natives ask of a program holds of each that is linked and typed, where the constants of enums are such: their parameters and
-/// results, what they throw and make, the fields that they look at, and the names of kinds.
+/// What natives ask of a program holds of each that is linked and typed: their parameters and results, what they throw and make, the fields
+/// that they look at, the names of kinds, and the constants of enums.
 pub fn linked_has_natives()
-    ensures { (program : Linked) → IsLinked program → IsTyped program → HasEnums program
+    ensures { (program : Linked) → IsLinked program → IsTyped program
         → HasNatives program }
 {}

@@ -1,15 +1,12 @@
-// What is on the stack and in the objects of typed states, and that references name objects.
-ghost use Rattle.std.specs.List.{flat_map};
-ghost use Rattle.std.specs.Prelude.{◌≡◌, ◌∷◌, ◌++◌, ℕ, List, Some, true, Option, ◌+◌};
+// What is on the stack and in the objects of typed states.
+ghost use Rattle.std.specs.Prelude.{◌≡◌, ◌∷◌, ℕ, List, Some, true};
 ghost use Rattle.cb_insn.specs.declared.insn.Insn.{Insn};
 ghost use Rattle.cb_kinds.specs.declared.basic.Basic.{Basic};
 ghost use Rattle.cb_link.specs.Named.{code_at, insn_in, named};
-ghost use Rattle.cb_link.specs.Program.{Linked};
 ghost use Rattle.cb_link.specs.Slots.{field_basic, static_basic};
 ghost use Rattle.cb_link.specs.declared.named.Named.TheVariants as meanings;
 ghost use Rattle.cb_machine.specs.Machine.{Machine};
-ghost use Rattle.cb_plain.specs.Reach.{frame_references, table_references, unless_null};
-ghost use Rattle.cb_plain.specs.State.{Content, Frame as StateFrame, MethodFrame, Object, OfMethod, State};
+ghost use Rattle.cb_plain.specs.State.{Frame as StateFrame, MethodFrame, OfMethod, State};
 ghost use Rattle.cb_shapes.specs.declared.action.Action.{Action};
 ghost use Rattle.cb_shapes.specs.declared.action.Action.TheVariants.{GetField, GetStatic, Length, LoadNumber, LoadReference, PutField, PutStatic, StoreNumber, StoreReference};
 ghost use Rattle.cb_shapes.specs.declared.elements.Elements.{Elements};
@@ -18,12 +15,9 @@ ghost use Rattle.cb_shapes.specs.Shapes.{action_of};
 ghost use Rattle.cb_shapes.specs.Sorts.{sort_of_elements};
 ghost use Rattle.cb_verify.specs.Typed.{IsTyped};
 ghost use Rattle.cb_safety.specs.Advancing.{HoldsOn, IsSpelled};
-ghost use Rattle.cb_safety.specs.Held.{HasContent};
-ghost use Rattle.cb_safety.specs.Kinds.{kinds_of};
 ghost use Rattle.cb_safety.specs.Naming.{HoldsElements, NamesFields};
 ghost use Rattle.cb_safety.specs.Ready.{NamesStatics};
 ghost use Rattle.cb_safety.specs.States.{IsTypedState};
-ghost use Rattle.cb_safety.specs.There.{AreThere, NamesWhatIsThere, reference_in_word};
 ghost use Rattle.cb_safety.specs.Words.{AsksObject, MeasuresArray, ReadsElement, ReadsField, ReadsStatic, WritesElement, WritesField, WritesStatic, asks_object};
 
 /// In a typed state that runs at a getfield a reference is on the stack, which is null or of an object that has the field (JVMS §6.5
@@ -163,33 +157,4 @@ pub fn statics_written()
         → named machine.program frame.method frame.pc ≡ meanings.Static class slot
         → static_basic machine.program slot ≡ Some basic
         → WritesStatic machine.program state frame class slot basic }
-{}
-
-/// Each reference in a frame of a typed state that runs is null or names an object that is there.
-pub fn frames_name_objects()
-    ensures { (program : Linked) (state : State) → IsTypedState program state → state.roots.pending
-        ≡ 0
-        → AreThere state.objects (flat_map frame_references state.roots.frames) }
-{}
-
-/// So is each in its tables, whether it runs or not, and so are a pending exception and the array of arguments that waits.
-pub fn tables_name_objects()
-    ensures { (program : Linked) (state : State) → IsTypedState program state
-        → AreThere state.objects
-        (table_references state.roots.tables ++ unless_null state.roots.pending ++ unless_null
-        state.roots.argument) }
-{}
-
-/// A reference in a word that is of its field's or element's type is null or names an object that is there.
-pub fn words_name_objects()
-    ensures { (program : Linked) (objects : List (Option Object)) (basic : Basic)
-        (content : Content)
-        → HasContent program (kinds_of objects) basic content
-        → AreThere objects (reference_in_word content) }
-{}
-
-/// So is each reference in the roots of a typed state, whether it runs or not, and in its objects.
-pub fn typed_states_are_closed()
-    ensures { (program : Linked) (state : State) → IsTypedState program state
-        → NamesWhatIsThere state }
 {}

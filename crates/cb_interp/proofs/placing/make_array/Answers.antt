@@ -1,4 +1,4 @@
-use Rattle.std.proofs.Common.{◌∙◌, ap, sym, ◌∷◌, drop, length, map, ◌+◌}
+use Rattle.std.proofs.Common.{◌∙◌, ap, sym, ◌∷◌, drop, length, ◌+◌}
 use Rattle.std.proofs.lemmas.List.{drop-map}
 use Rattle.cb_frames.specs.Tops.{top_stack}
 use Rattle.cb_heap.proofs.Laws.{reads_stack, roots_again}

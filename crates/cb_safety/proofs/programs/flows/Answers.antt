@@ -1,4 +1,4 @@
-use Rattle.cb_safety.proofs.Laws.{flows}
+use Rattle.cb_safety.proofs.Flowing.{flows}
 use Rattle.cb_safety.proofs.programs.flows.Goals as goal
 
 pub returns : goal.returns

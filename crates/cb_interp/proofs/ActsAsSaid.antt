@@ -1,0 +1,172 @@
+-- What is done of an instruction is the machine's step, by what the instruction does.
+use Rattle.std.proofs.Common.{◌≡◌, ◌∙◌, ap, refl, sym, ℕ, true, false, List, ◌∷◌, Option, Some, None}
+use Rattle.std.proofs.lemmas.Bool.{false≢true}
+use Rattle.std.specs.Prelude.{option_and_then}
+use Rattle.cb_hierarchy.specs.declared.selected.Selected.{Selected}
+use Rattle.cb_insn.specs.declared.insn.Insn.{Insn}
+use Rattle.cb_insn.specs.declared.insn.Operand.{Operand}
+use Rattle.cb_insn.specs.declared.insn.Operand.TheVariants as operands
+use Rattle.cb_link.specs.Calls.{select}
+use Rattle.cb_link.specs.Decoding.{decoded_as}
+use Rattle.cb_link.specs.declared.decoded.Decoded.{Decoded}
+use Rattle.cb_link.specs.declared.named.Named.{Named}
+use Rattle.cb_link.specs.declared.named.Named.TheVariants as meanings
+use Rattle.cb_machine.specs.Calling.{calls, invokes_special, invokes_virtual}
+use Rattle.cb_machine.specs.Computing.{loads_constant}
+use Rattle.cb_machine.specs.Machine.{Machine, or_zero}
+use Rattle.cb_machine.specs.Plans.{Plan}
+use Rattle.cb_machine.specs.Standing.{Now, named_here}
+use Rattle.cb_machine.specs.Steps.{done, plan}
+use Rattle.cb_plain.specs.State.{Frame, MethodFrame, OfMethod, State}
+use Rattle.cb_shapes.specs.Shapes.{action_of}
+use Rattle.cb_shapes.specs.Sorts.{sort_of_elements}
+use Rattle.cb_shapes.specs.Targets.{goes_on}
+use Rattle.cb_shapes.specs.declared.action.Action.{Action}
+use Rattle.cb_shapes.specs.declared.action.Action.TheVariants as actions
+use Rattle.cb_shapes.specs.declared.sort.Sort.TheVariants as sorts
+use Rattle.cb_shapes.specs.declared.test.Condition.{Condition}
+use Rattle.cb_shapes.specs.declared.test.Condition.TheVariants as conditions
+use Rattle.cb_interp.specs.Acting.{acted, acted_as, constant_deed, frame_deed, on_method, receiver_deed}
+use Rattle.cb_interp.specs.Framing.{is_plain}
+use Rattle.cb_interp.specs.Here.{GoesOn, HasElements, Here, LooksAtArrays, SelectsSpecial, array_depth, interface_in, invokes_interface, invokes_of_interface, planned_as}
+use Rattle.cb_interp.specs.Steps.{view_of}
+use Rattle.cb_interp.proofs.Acts.{always_so, asks_deed, casts_deed, constant_so, gets_field_so, here, loads_deed, measures_deed, now, plain_so, puts_field_so, returns_deed, same_so, stores_deed, stores_reference_deed, throws_deed}
+use Rattle.cb_interp.proofs.ActsOnClasses.{arrays_so, gets_static_deed, makes_deed, puts_static_deed, receiver_so, static_so}
+
+module _ (machine : Machine) (state : State) (frame : MethodFrame) (below : List Frame) (insn : Insn) (frames : state.roots.frames ≡ OfMethod frame ∷ below)
+    (selected : Selected) where
+  abbrev at_now : Now
+  at_now = now machine state frame below insn frames
+
+  abbrev decoded : Decoded
+  decoded = here machine state frame below insn frames
+
+  abbrev Said : Operand → Action → Type 0
+  Said operand action = done at_now operand action ≡ planned_as machine state (acted_as machine.program machine.frames selected decoded (view_of state) action)
+
+  abbrev Next : Action → Type 0
+  Next action = goes_on action ≡ true → (pc : ℕ) × (at_now.next ≡ Some pc)
+
+  -- a constant that is an object is loaded in its place
+  constant_said : (index : ℕ) (operand : Operand) → Next (actions.Constant index) → plan machine state ≡ loads_constant at_now
+      → Said operand (actions.Constant index)
+  constant_said index operand next whole = go (named_here at_now) refl where
+    go : (named : Named) → named_here at_now ≡ named → loads_constant at_now ≡ planned_as machine state (constant_deed decoded (view_of state) (named_here at_now))
+    go (meanings.Whole value) names = let (pc, after) = next refl in constant_so machine state frame below insn frames pc value after names ∙ rw names refl
+    go (meanings.Text text) names =
+        let same : planned_as machine state (constant_deed decoded (view_of state) (named_here at_now)) ≡ plan machine state = rw names refl in sym whole ∙ sym same
+    go (meanings.Kind kind) names =
+        let same : planned_as machine state (constant_deed decoded (view_of state) (named_here at_now)) ≡ plan machine state = rw names refl in sym whole ∙ sym same
+    go meanings.Nothing names = rw names refl
+    go (meanings.Static class slot) names = rw names refl
+    go (meanings.Field class slot) names = rw names refl
+    go (meanings.Method method) names = rw names refl
+
+  -- a branch has a target
+  branch_said : (condition : Condition) (operand : Operand) (p : Plan) → insn.operand ≡ operand → Next (actions.Branch condition)
+      → done at_now operand (actions.Branch condition) ≡ Some p → Said operand (actions.Branch condition)
+  branch_said condition operand p is next does = go operand is does where
+    by_condition : (condition : Condition) (target : ℕ) → insn.operand ≡ operands.Branch target → Next (actions.Branch condition) → Said (operands.Branch target) (actions.Branch condition)
+    by_condition conditions.Always target is next = always_so machine state frame below insn frames (or_zero decoded.next) target ∙ rw is refl
+    by_condition (conditions.WithZero test) target is next = let (pc, after) = next refl in plain_so machine state frame below insn frames pc target (actions.Branch (conditions.WithZero test)) after refl ∙ rw is refl
+    by_condition (conditions.OfInts test) target is next = let (pc, after) = next refl in plain_so machine state frame below insn frames pc target (actions.Branch (conditions.OfInts test)) after refl ∙ rw is refl
+    by_condition (conditions.IsNull same) target is next = let (pc, after) = next refl in plain_so machine state frame below insn frames pc target (actions.Branch (conditions.IsNull same)) after refl ∙ rw is refl
+    by_condition (conditions.AreSame are) target is next = let (pc, after) = next refl in same_so machine state frame below insn frames pc target are after ∙ rw is refl
+
+    go : (operand : Operand) → insn.operand ≡ operand → done at_now operand (actions.Branch condition) ≡ Some p → Said operand (actions.Branch condition)
+    go (operands.Branch target) is does = by_condition condition target is next
+    go other is does = absurd (cc does)
+
+  special_said : (index : ℕ) (operand : Operand) → plan machine state ≡ invokes_special at_now index
+      → ((method : ℕ) → named_here at_now ≡ meanings.Method method → invokes_special at_now index ≡ calls at_now (λ kind. selected) method)
+      → Said operand (actions.InvokeSpecial index)
+  special_said index operand whole selects = go (named_here at_now) refl where
+    go : (named : Named) → named_here at_now ≡ named
+        → invokes_special at_now index ≡ planned_as machine state (on_method (receiver_deed machine.program machine.frames (view_of state) (λ kind. selected)) (named_here at_now))
+    go (meanings.Method method) names =
+        selects method names ∙ receiver_so machine state frame below insn frames (λ kind. selected) method (whole ∙ selects method names) ∙ rw names refl
+    go (meanings.Whole value) names = rw names refl
+    go (meanings.Text text) names = rw names refl
+    go (meanings.Kind kind) names = rw names refl
+    go meanings.Nothing names = rw names refl
+    go (meanings.Static class slot) names = rw names refl
+    go (meanings.Field class slot) names = rw names refl
+
+  virtual_said : (index : ℕ) (operand : Operand) → plan machine state ≡ invokes_virtual at_now → Said operand (actions.InvokeVirtual index)
+  virtual_said index operand whole = go (named_here at_now) refl where
+    go : (named : Named) → named_here at_now ≡ named
+        → invokes_virtual at_now
+        ≡ planned_as machine state (on_method (λ method. receiver_deed machine.program machine.frames (view_of state) (λ kind. select machine.program kind method) method) (named_here at_now))
+    go (meanings.Method method) names =
+        let called : invokes_virtual at_now ≡ calls at_now (λ kind. select machine.program kind method) method = rw names refl in
+        called ∙ receiver_so machine state frame below insn frames (λ kind. select machine.program kind method) method (whole ∙ called) ∙ rw names refl
+    go (meanings.Whole value) names = rw names refl
+    go (meanings.Text text) names = rw names refl
+    go (meanings.Kind kind) names = rw names refl
+    go meanings.Nothing names = rw names refl
+    go (meanings.Static class slot) names = rw names refl
+    go (meanings.Field class slot) names = rw names refl
+
+  -- instructions on the topmost frame alone that aren't branches, whatever their target
+  plain : (action : Action) → goes_on action ≡ true → Next action → is_plain action ≡ true
+      → done at_now (operands.Branch (or_zero decoded.target)) action ≡ planned_as machine state (frame_deed decoded (view_of state) action)
+  plain action on next is = let (pc, after) = next on in plain_so machine state frame below insn frames pc (or_zero decoded.target) action after is
+
+  said : (action : Action) (p : Plan) → Next action → invokes_of_interface action ≡ false
+      → ((depth : ℕ) → array_depth action ≡ Some depth → HasElements machine.program (view_of state) depth)
+      → ((index method : ℕ) → action ≡ actions.InvokeSpecial index → named_here at_now ≡ meanings.Method method → invokes_special at_now index ≡ calls at_now (λ kind. selected) method)
+      → plan machine state ≡ done at_now insn.operand action → done at_now insn.operand action ≡ Some p → Said insn.operand action
+  said (actions.Compute computation) p next alone arrays selects whole does = plain (actions.Compute computation) refl next refl
+  said actions.Null p next alone arrays selects whole does = plain actions.Null refl next refl
+  said (actions.Load sort local) p next alone arrays selects whole does = plain (actions.Load sort local) refl next refl
+  said (actions.Store sort local) p next alone arrays selects whole does = plain (actions.Store sort local) refl next refl
+  said (actions.Increase local by) p next alone arrays selects whole does = plain (actions.Increase local by) refl next refl
+  said (actions.Shuffle shuffle) p next alone arrays selects whole does = plain (actions.Shuffle shuffle) refl next refl
+  said (actions.Constant index) p next alone arrays selects whole does = constant_said index insn.operand next whole
+  said (actions.Branch condition) p next alone arrays selects whole does = branch_said condition insn.operand p refl next does
+  said actions.Switch p next alone arrays selects whole does = sym whole
+  said (actions.LoadNumber elements) p next alone arrays selects whole does =
+      let (pc, after) = next refl in loads_deed machine state frame below insn frames pc (sort_of_elements elements) after (arrays 1 refl)
+  said (actions.StoreNumber elements) p next alone arrays selects whole does =
+      let (pc, after) = next refl in stores_deed machine state frame below insn frames pc elements after (arrays 2 refl)
+  said actions.Length p next alone arrays selects whole does = let (pc, after) = next refl in measures_deed machine state frame below insn frames pc after
+  said actions.LoadReference p next alone arrays selects whole does =
+      let (pc, after) = next refl in loads_deed machine state frame below insn frames pc sorts.Reference after (arrays 1 refl)
+  said actions.StoreReference p next alone arrays selects whole does = let (pc, after) = next refl in stores_reference_deed machine state frame below insn frames pc after
+  said (actions.GetField index) p next alone arrays selects whole does = let (pc, after) = next refl in gets_field_so machine state frame below insn frames pc after
+  said (actions.PutField index) p next alone arrays selects whole does = let (pc, after) = next refl in puts_field_so machine state frame below insn frames pc after
+  said (actions.GetStatic index) p next alone arrays selects whole does = let (pc, after) = next refl in gets_static_deed machine state frame below insn frames pc after
+  said (actions.PutStatic index) p next alone arrays selects whole does = let (pc, after) = next refl in puts_static_deed machine state frame below insn frames pc after
+  said (actions.New index) p next alone arrays selects whole does = makes_deed machine state frame below insn frames whole
+  said (actions.NewNumbers code) p next alone arrays selects whole does = arrays_so machine state frame below insn frames 1 whole
+  said (actions.NewReferences index) p next alone arrays selects whole does = arrays_so machine state frame below insn frames 1 whole
+  said (actions.NewArrays index dimensions) p next alone arrays selects whole does = arrays_so machine state frame below insn frames dimensions whole
+  said (actions.Cast index) p next alone arrays selects whole does = let (pc, after) = next refl in casts_deed machine state frame below insn frames pc after
+  said (actions.IsInstance index) p next alone arrays selects whole does = let (pc, after) = next refl in asks_deed machine state frame below insn frames pc after
+  said actions.Throw p next alone arrays selects whole does = throws_deed machine state frame below insn frames
+  said (actions.Return sort) p next alone arrays selects whole does = returns_deed machine state frame below insn frames sort
+  said (actions.InvokeStatic index) p next alone arrays selects whole does = static_so machine state frame below insn frames whole
+  said (actions.InvokeSpecial index) p next alone arrays selects whole does = special_said index insn.operand whole (λ method names. selects index method refl names)
+  said (actions.InvokeVirtual index) p next alone arrays selects whole does = virtual_said index insn.operand whole
+  said (actions.InvokeInterface index count) p next alone arrays selects whole does = absurd (false≢true (sym alone))
+
+-- the step of a machine that stands at an instruction is what is done of it
+pub acts_so : (machine : Machine) (state : State) (decoded : Decoded) (selected : Selected) (at : Here machine state decoded) (p : Plan)
+    → GoesOn decoded → LooksAtArrays machine.program (view_of state) decoded → SelectsSpecial machine state decoded at selected → invokes_interface decoded ≡ false
+    → plan machine state ≡ Some p → planned_as machine state (acted machine.program machine.frames selected decoded (view_of state)) ≡ Some p
+acts_so machine state decoded selected at p goes arrays selects alone is = go (action_of at.insn) refl where
+  go : (action : Option Action) → action_of at.insn ≡ action → planned_as machine state (acted machine.program machine.frames selected decoded (view_of state)) ≡ Some p
+  go None does =
+      let none : plan machine state ≡ None = rw (at.runs, at.quiet, at.frames, at.there, does) refl in
+      absurd (cc (sym none ∙ is))
+  go (Some action) does =
+      let whole : plan machine state ≡ done (now machine state at.frame at.below at.insn at.frames) at.insn.operand action = rw (at.runs, at.quiet, at.frames, at.there, does) refl in
+      let has : decoded.action ≡ Some action = ap (λ (decoded : Decoded). decoded.action) at.is ∙ does in
+      ap (λ (decoded : Decoded). planned_as machine state (acted machine.program machine.frames selected decoded (view_of state))) at.is
+      ∙ ap (λ action. planned_as machine state (option_and_then (acted_as machine.program machine.frames selected (decoded_as machine.program at.frame.method at.frame.pc at.insn) (view_of state)) action)) does
+      ∙ sym (said machine state at.frame at.below at.insn at.frames selected action p
+      (λ on. let (pc, next) = goes action has on in (pc, sym (ap (λ (decoded : Decoded). decoded.next) at.is) ∙ next))
+      (sym (ap (λ action. interface_in action) has) ∙ alone) (λ depth is. arrays action depth has is)
+      (λ index method is names. selects index method (has ∙ ap Some is) (ap (λ (decoded : Decoded). decoded.named) at.is ∙ names))
+      whole (sym whole ∙ is))
+      ∙ sym whole ∙ is

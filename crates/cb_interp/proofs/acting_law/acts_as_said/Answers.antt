@@ -1,0 +1,5 @@
+use Rattle.cb_interp.proofs.ActsAsSaid.{acts_so}
+use Rattle.cb_interp.proofs.acting_law.acts_as_said.Goals as goal
+
+pub returns : goal.returns
+returns c = λ machine state decoded selected at own goes arrays selects no is. acts_so machine state decoded selected at own goes arrays selects no is

@@ -1,4 +1,0 @@
-use Rattle.cb_interp.proofs.arrays.load_element.Given as goal
-
-abbrev pub ghost-value_at : goal.ghost-value_at
-ghost-value_at g a = g.basic

@@ -1,0 +1,11 @@
+mod BegunLaws
+mod HandlerLaws
+mod InitLaws
+mod NumberLaws
+mod OwnSlots
+mod Places
+mod StringLaws
+mod TurnLaws
+mod UnwoundLaws
+mod UnwoundSteps
+mod WrapLaws
