@@ -24,6 +24,10 @@ mod KeptObjects
 mod KeptStates
 mod KeptSteps
 pub mod Leaving
+mod LinkedFew
+mod LinkedFit
+mod LinkedMarks
+mod MakingSteps
 mod Moved
 mod NativesAnswers
 mod NativesArrays
@@ -50,9 +54,14 @@ mod SuitedCalls
 mod SuitedRoom
 mod SuitedWords
 mod Taken
+mod TurnsBegun
+mod TurnsInitial
 mod TurnsMade
+mod TurnsMaking
 mod TurnsStand
+mod TurnsSwitched
 mod TurnsThrown
+mod TurnsUnwound
 mod UnwoundSteps
 mod WithinBasics
 mod WithinCalls

@@ -2,10 +2,13 @@ pub mod Acting
 pub mod Changing
 pub mod Classes
 pub mod Effects
+pub mod Fit
 pub mod Framing
 pub mod Going
 pub mod Here
+pub mod Initials
 pub mod Keeping
+pub mod Making
 pub mod Objects
 pub mod Placing
 pub mod Steps

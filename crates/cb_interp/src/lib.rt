@@ -1,5 +1,5 @@
 //! The machine's run: so far what an instruction does, over the roots of a running machine and any store of objects, as a call that is a
-//! whole step, and the turn in which an exception of the machine is thrown. Nothing runs by it yet.
+//! whole step, and turns of a run. Nothing runs by it yet.
 //!
 //! `act` does an instruction, or tells what has to be done in its place (`Need`); `specs/Acting` says what it leaves, `Here` what that is as
 //! a step of the machine, and `Suited` what it asks of roots and objects, which typed states have. It is made of calls for each kind, and
@@ -8,7 +8,9 @@
 //! `Classes` (casts) and `Placing` (exceptions and new objects). `Steps` says what that has to do with the machine's step. No call takes
 //! memory, and each takes constant time where it doesn't say otherwise.
 //!
-//! A run goes by turns (`Turning`): room is made for what the next step places, by whatever rule the store has, and the step is made. That
+//! A run goes by turns (`Turning`): room is made for what the next step places, by whatever rule the store has, and the step is made. There
+//! are those in which an exception is thrown or unwinds, an object or an array is made (`Making`), a class begins or goes on to be initialised
+//! (`Initials`), and a switch is done; `Fit` says what a linked program says of what they place. That
 //! turns come to what is kept of the state of the machine that never frees is a law (`turns_stand`), which rests on what a step does to what
 //! is kept of a state (`Keeping`, `Changing`, `Within`), at every instruction and native.
 #![tactic(auto)]
@@ -19,12 +21,17 @@ mod acting_frames;
 mod acting_law;
 mod acting_objects;
 mod arrays;
+mod beginning;
 mod classes;
 mod computing;
 mod fields;
 mod framing;
+mod init_turns;
 mod keeping;
 mod law;
+mod linked;
+mod making;
+mod making_law;
 mod moving;
 mod natives;
 mod need;
@@ -35,19 +42,23 @@ mod returning;
 mod shuffling;
 mod sites;
 mod statics;
+mod switch_turns;
 mod switching;
 mod testing;
 mod throwing;
+mod unwind_turns;
 mod unwinding;
 mod words;
 
 pub use acting::act;
 pub use acting_law::{acts_as_said, typed_states_are_suited};
 pub use arrays::{array_length, load_element, store_element, store_reference};
+pub use beginning::begin_turn;
 pub use classes::{cast, fits, instance, throw_object};
 pub use computing::compute;
 pub use fields::{get_field, put_field};
 pub use framing::frame_step;
+pub use init_turns::{fails_next, init_turn};
 pub use keeping::{
     calls_are_kept, frames_are_kept, initialisations_are_kept, keeping_goes_on, makings_are_kept,
     next_states_are_kept, objects_are_kept, steps_are_kept, turns_stand,
@@ -56,6 +67,9 @@ pub use law::{
     classes_as_said, effects_are_read, effects_as_said, frames_as_said, going_as_said,
     going_is_read, objects_as_said, placing_as_said, unwinding_as_said,
 };
+pub use linked::linked_programs_fit;
+pub use making::{make_array_turn, make_object_turn};
+pub use making_law::making_as_said;
 pub use moving::{increase, load, store};
 pub use natives::{natives_change, natives_within};
 pub use need::Need;
@@ -64,7 +78,9 @@ pub use references::test_references;
 pub use returning::give_back;
 pub use shuffling::shuffle;
 pub use statics::{get_static, put_static};
+pub use switch_turns::switch_turn;
 pub use switching::switch;
 pub use testing::test;
 pub use throwing::throw_turn;
+pub use unwind_turns::unwind_turn;
 pub use unwinding::catch;

@@ -1,11 +1,12 @@
-mod BegunLaws
+pub mod BegunLaws
 mod HandlerLaws
-mod InitLaws
+pub mod InitLaws
+pub mod Laws
 mod NumberLaws
 mod OwnSlots
 mod Places
 mod StringLaws
 mod TurnLaws
 mod UnwoundLaws
-mod UnwoundSteps
+pub mod UnwoundSteps
 mod WrapLaws

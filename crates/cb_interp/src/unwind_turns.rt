@@ -1,0 +1,43 @@
+// Turns of a run in which a pending exception takes a step.
+ghost use Rattle.std.specs.Prelude.{◌≡◌, ◌<◌, false, is_some, length, true, IsTrue};
+ghost use Rattle.cb_heap.specs.Kept.{is_kept};
+ghost use Rattle.cb_heap.specs.Reading.{seen, serial_of};
+ghost use Rattle.cb_machine.specs.Library.{error};
+ghost use Rattle.cb_machine.specs.Steps.{plan};
+ghost use Rattle.cb_unwind.specs.Initialised.{ClassBelow};
+ghost use Rattle.cb_unwind.specs.Unwound.{HasPendingKind, MayCatch, MethodBelow, wraps};
+ghost use Rattle.cb_interp.specs.Turning.{Outside, TurnMade, machine_of, moment_of, state_of};
+
+use cb_frames::Roots;
+use cb_heap::Store;
+use cb_link::Program;
+use cb_unwind::unwind_step;
+
+/// A turn in which the pending exception takes a step and isn't wrapped: a handler of the topmost method takes it, or the topmost frame ends
+/// (JVMS §2.10, §5.5). Takes time in the slots of the frame and the handlers of its method.
+pub fn unwind_turn<S: Store>(program: &Program, store: &mut S, roots: &mut Roots)
+    ghost outside: { Outside }
+    requires steps { is_some (plan (machine_of program.now roots.old.limit) (state_of (seen
+        (S.index store.old) (S.kept store.old) roots.old.roots) outside)) ≡ true }
+    requires left { wraps program.now (seen (S.index store.old) (S.kept store.old) roots.old.roots)
+        ≡ false }
+    requires there { IsTrue (is_kept (S.kept store.old) (serial_of
+        (S.index store.old) roots.old.roots.pending)) }
+    requires kind { HasPendingKind program.now (seen (S.index store.old)
+        (S.kept store.old) roots.old.roots) }
+    requires error { error < length program.now.kinds }
+    requires method { MethodBelow (length program.now.methods) roots.old.roots }
+    requires catches { MayCatch program.now roots.old.roots }
+    requires class { ClassBelow (length roots.old.roots.classes) roots.old.roots }
+    ensures made { TurnMade S.rules (machine_of program.now roots.old.limit) (moment_of (seen
+        (S.index store.old) (S.kept store.old) roots.old.roots) outside (S.facts store.old))
+        (moment_of (seen (S.index store.new) (S.kept store.new) roots.new.roots) outside
+        (S.facts store.new)) }
+    ensures limit { roots.new.limit ≡ roots.old.limit }
+    ensures faults { S.faults store.new ≡ S.faults store.old }
+    ensures knows { S.knows store.new ≡ S.knows store.old }
+    ensures allows { S.allows store.new ≡ S.allows store.old }
+    ensures shapes { S.shapes store.new ≡ S.shapes store.old }
+{
+    unwind_step(program, store, roots);
+}
