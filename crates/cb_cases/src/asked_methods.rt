@@ -26,7 +26,7 @@ pub(crate) fn print_selected(
 }
 
 /// The words for what is selected.
-fn words_of_selected(
+pub(crate) fn words_of_selected(
     alloc: Global,
     program: &Program,
     selected: Selected,

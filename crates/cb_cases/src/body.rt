@@ -3,10 +3,8 @@ use crate::command::{Ran, add_words, run_words};
 use crate::content::assembled;
 use crate::setup::Setup;
 use crate::trouble::Trouble;
+use cb_runner::Cause;
 use std::alloc::Global;
-
-/// What the machine says of a class that is typed.
-const TYPED: &str = "cbvm: E4 unsupported not yet in class A\n";
 
 /// A method, by the words of a line.
 #[derive(Drop)]
@@ -85,7 +83,7 @@ fn print_verdict(
 ) -> Result<(), Trouble> {
     let told = str::from_utf8(ran.err.bytes()).unwrap_or("no text");
     let failing = format!(in alloc; "cbvm: E7 not verified A {}{} ", body.name, body.descriptor)?;
-    if told == TYPED {
+    if was_run(ran.ended.cause) {
         report.push_str("typed")?;
     } else if let Some(place) = told.strip_prefix(failing.as_str()) {
         write!(report, "fails at {}", place.trim_end())?;
@@ -93,4 +91,12 @@ fn print_verdict(
         write!(report, "{:?} {}", ran.ended.cause, told.trim_end())?;
     }
     Ok(())
+}
+
+/// Whether a program was run, which is so only where it is typed.
+fn was_run(cause: Cause) -> bool {
+    matches!(
+        cause,
+        Cause::Returned | Cause::Uncaught(_) | Cause::BudgetSpent | Cause::HeapFull | Cause::NotYet
+    )
 }

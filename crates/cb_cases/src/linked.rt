@@ -1,6 +1,7 @@
 // A linked program, and what the lines of a case ask it.
 use crate::asked_classes::{print_classes, print_initial, print_main, print_pool};
 use crate::asked_code::print_method;
+use crate::asked_decoded::print_decoded;
 use crate::asked_fields::{print_enum, print_fields, print_statics};
 use crate::asked_frames::{print_frames, print_typed};
 use crate::asked_kinds::{print_kinds, print_relations};
@@ -55,6 +56,7 @@ impl LinkedProgram {
             "instance" | "assignable" => print_relations(alloc, report, program, what, words),
             "select" => print_selected(alloc, report, program, words),
             "method" => print_method(alloc, report, program, words),
+            "decoded" => print_decoded(alloc, report, program, words),
             "frames" => print_frames(alloc, report, program, words),
             _ => self.answer_of_class(alloc, report, what, words),
         }

@@ -6,6 +6,7 @@
 
 mod asked_classes;
 mod asked_code;
+mod asked_decoded;
 mod asked_fields;
 mod asked_frames;
 mod asked_kinds;

@@ -1,13 +1,13 @@
 -- Reading goes through every change of the roots.
-use Rattle.std.proofs.Common.{◌≡◌, ◌∙◌, ap, sym, refl, ℕ, ◌+◌, List, [], ◌∷◌, ◌++◌, length, map, pos, replicate, ◌-◌, take, reverse, zero, suc}
-use Rattle.std.specs.List.{flat_map}
+use Rattle.std.proofs.Common.{◌≡◌, ◌∙◌, ap, ap₂, sym, refl, ℕ, ◌+◌, ◌*◌, ◌&&◌, nat_le, nat_lt, List, [], ◌∷◌, ◌++◌, length, map, pos, replicate, ◌-◌, take, reverse, zero, suc}
+use Rattle.std.specs.List.{flat_map, fold}
 use Rattle.std.proofs.lemmas.List.{drop-map, length-map, map-append, map-set, reverse-append, take-map}
 use Rattle.cb_plain.specs.declared.class_state.ClassState.{ClassState}
 use Rattle.cb_plain.specs.declared.table.Table.{Table}
 use Rattle.cb_plain.specs.declared.table.Table.TheVariants as tables
 use Rattle.cb_plain.specs.declared.value.Value.{Value}
 use Rattle.cb_plain.specs.declared.value.Value.TheVariants as values
-use Rattle.cb_plain.specs.Depth.{frame_of, locals_of, slots_of}
+use Rattle.cb_plain.specs.Depth.{frame_of, has_room, locals_of, slots_each, slots_in, slots_of}
 use Rattle.cb_plain.specs.Roots as roots
 use Rattle.cb_plain.specs.State.{Frame, Initialising, OfMethod, Roots}
 use Rattle.cb_frames.specs.Tops as tops
@@ -156,3 +156,14 @@ reads_entered index held method arguments locals stack =
     ap (λ held_locals. roots.with_frames (read_roots index held) (OfMethod (record { method = method; pc = 0; slots = locals + stack; locals = held_locals; stack = [] }) ∷ map (read_frame index) (tops.without held arguments).frames))
     (reads_locals_of index locals (tops.arguments_of held arguments) ∙ ap (locals_of locals) (reads_arguments index held arguments))
     ∙ ap (λ below. roots.with_frames (read_roots index held) (frame_of method locals stack (tops.arguments_of (read_roots index held) arguments) ∷ below)) (ap (λ left. left.frames) (reads_without index held arguments))
+
+-- frames that are read take as many slots, so that another has room upon them where it had
+reads_taken : (index : ℕ → ℕ) (frames : List Frame) (sum : ℕ) →
+    fold (λ sum frame. sum + slots_in frame) sum (map (read_frame index) frames) ≡ fold (λ sum frame. sum + slots_in frame) sum frames
+reads_taken index [] sum = refl
+reads_taken index (OfMethod frame ∷ below) sum = reads_taken index below (sum + frame.slots)
+reads_taken index (Initialising class place ∷ below) sum = reads_taken index below (sum + 0)
+
+pub reads_room : (index : ℕ → ℕ) (held : Roots) (limit slots : ℕ) → has_room limit (read_roots index held).frames slots ≡ has_room limit held.frames slots
+reads_room index held limit slots =
+    ap₂ (λ (count taken : ℕ). nat_lt count limit && nat_le (taken + slots) (slots_each * limit)) (length-map held.frames (read_frame index)) (reads_taken index held.frames 0)

@@ -1,16 +1,16 @@
 -- An array of chars that is filled word by word, and a string that refers to it.
-use Rattle.std.proofs.Common.{◌≡◌, ◌∙◌, ap, add-one, arith, append_assoc, refl, sym, ℕ, pos, ◌+◌, ◌<◌, Bool, false, true, List, [], ◌∷◌, ◌++◌, Option, Some, None, get_or, is_some, length, replicate, slice_get, slice_set, zero, suc, IsTrue}
+use Rattle.std.proofs.Common.{◌≡◌, ◌∙◌, ap, add-one, arith, append_assoc, refl, sym, ℕ, pos, ◌+◌, ◌<◌, Bool, true, List, [], ◌∷◌, ◌++◌, Option, Some, None, get_or, is_some, length, replicate, slice_get, slice_set, zero, suc, IsTrue}
 use Rattle.std.proofs.lemmas.Bool.{false≢true}
 use Rattle.cb_plain.specs.declared.shape.Shape.{Shape}
-use Rattle.cb_plain.specs.declared.shape.Shape.TheVariants.{Elements, Fields}
+use Rattle.cb_plain.specs.declared.shape.Shape.TheVariants.{Fields}
 use Rattle.cb_plain.specs.State.{Content, Number, Object, Reference}
 use Rattle.cb_plain.specs.Updates.{object_in, with_contents_in}
-use Rattle.cb_heap.specs.Kept.{content_at, contents_at, is_held, is_kept, is_number, is_reference, with_content}
+use Rattle.cb_heap.specs.Kept.{content_at, contents_at, is_held, is_kept, is_number, with_content}
 use Rattle.cb_heap.specs.Reading.{serial_of}
-use Rattle.cb_heap.specs.Shaped.{has_size, new_object}
+use Rattle.cb_heap.specs.Shaped.{new_object}
 use Rattle.cb_heap.specs.Store.{ReadsAsBefore, may_point}
 use Rattle.cb_heap.specs.Text.{unit_contents}
-use Rattle.cb_heap.proofs.PlacedLaws.{content_of_object, may_point_there, placed_there, there_before}
+use Rattle.cb_heap.proofs.PlacedLaws.{may_point_there, placed_there, there_before}
 
 -- objects with other contents in one
 same_at : (objects : List (Option Object)) (place : ℕ) → with_contents_in objects (suc place) (contents_at objects (suc place)) ≡ objects
@@ -100,28 +100,15 @@ pub with_last : (objects : List (Option Object)) (object : Object) (contents : L
 with_last objects object contents =
     ap (λ (serial : ℕ). with_contents_in (objects ++ Some object ∷ []) serial contents) (add-one (length objects)) ∙ last_at objects object contents
 
-pub last_contents : (objects : List (Option Object)) (object : Object) → contents_at (objects ++ Some object ∷ []) (length objects + 1) ≡ object.contents
+last_contents : (objects : List (Option Object)) (object : Object) → contents_at (objects ++ Some object ∷ []) (length objects + 1) ≡ object.contents
 last_contents objects object = rw (placed_there objects object) refl
 
-pub last_kept : (objects : List (Option Object)) (object : Object) → IsTrue (is_kept (objects ++ Some object ∷ []) (length objects + 1))
-last_kept objects object = ap is_some (placed_there objects object)
-
-pub last_held : (objects : List (Option Object)) (object : Object) → IsTrue (is_held (objects ++ Some object ∷ []) (length objects + 1))
+last_held : (objects : List (Option Object)) (object : Object) → IsTrue (is_held (objects ++ Some object ∷ []) (length objects + 1))
 last_held objects object =
     ap (is_held (objects ++ Some object ∷ [])) (add-one (length objects))
-    ∙ ap (is_kept (objects ++ Some object ∷ [])) (sym (add-one (length objects))) ∙ last_kept objects object
+    ∙ ap (is_kept (objects ++ Some object ∷ [])) (sym (add-one (length objects))) ∙ ap is_some (placed_there objects object)
 
--- new arrays of numbers, and new objects of one reference
-pub array_size : (shapes : List Shape) (kind size : ℕ) → slice_get shapes kind ≡ Some (Elements false) → has_size shapes kind size ≡ true
-array_size shapes kind size is = rw is refl
-
-pub array_blank : (shapes : List Shape) (site kind size : ℕ) → slice_get shapes kind ≡ Some (Elements false)
-    → (new_object shapes site kind size).contents ≡ replicate size (Number (pos 0))
-array_blank shapes site kind size is = rw is refl
-
-pub string_size : (shapes : List Shape) (kind : ℕ) → slice_get shapes kind ≡ Some (Fields (true ∷ [])) → has_size shapes kind 1 ≡ true
-string_size shapes kind is = rw is refl
-
+-- a new object of one reference
 pub string_blank : (shapes : List Shape) (site kind : ℕ) → slice_get shapes kind ≡ Some (Fields (true ∷ [])) → (new_object shapes site kind 1).contents ≡ Reference 0 ∷ []
 string_blank shapes site kind is = rw is refl
 
@@ -138,18 +125,8 @@ module _ (objects : List (Option Object)) (first second : Object) (between after
   array_so : serial_of after array ≡ length objects + 1
   array_so = again array (ap (is_held front) one ∙ last_held objects first) ∙ one
 
-  pub word_so : is_reference (content_at both (serial_of after at) 0) ≡ true
-  word_so =
-      ap (λ (serial : ℕ). is_reference (content_at both serial 0)) two
-      ∙ ap is_reference (content_of_object both (length front + 1) 0 second (placed_there front second))
-      ∙ ap (λ (contents : List Content). is_reference (slice_get contents 0)) blank
-
   first_there : object_in both (length objects + 1) ≡ Some first
   first_there = there_before front second (length objects + 1) first (placed_there objects first)
-
-  pub held_so : IsTrue (is_held both (serial_of after array))
-  held_so =
-      ap (is_held both) (array_so ∙ add-one (length objects)) ∙ ap (λ (serial : ℕ). is_some (object_in both serial)) (sym (add-one (length objects))) ∙ ap is_some first_there
 
   pub allowed_so : (allows : ℕ → ℕ → Bool) → allows second.site first.site ≡ true → IsTrue (may_point allows both (serial_of after at) (serial_of after array))
   allowed_so allows allowed =

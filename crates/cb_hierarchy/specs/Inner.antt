@@ -1,9 +1,11 @@
 -- What this crate's own functions and proofs cite, and no public clause.
-use Rattle.std.specs.Prelude.{◌≡◌, ℕ, ◌<◌, Bool, false, ◌||◌, ◌==◌, List, [], length, take, slice_get, get_or, Some}
+use Rattle.std.specs.Prelude.{◌≡◌, ℕ, ◌<◌, Bool, false, ◌||◌, ◌==◌, not, if◌then◌else◌, List, [], length, take, slice_get, get_or, Option, Some, None}
 use Rattle.std.specs.List.{Contains, list_any}
 use Rattle.cb_hierarchy.specs.declared.class.Class.{Class}
+use Rattle.cb_hierarchy.specs.declared.member.Method.{Method}
 use Rattle.cb_hierarchy.specs.Classes.{parents}
 use Rattle.cb_hierarchy.specs.Orders.{distinct}
+use Rattle.cb_hierarchy.specs.Resolution.{method_is}
 
 -- the list of a number, or none
 abbrev pub list_at : List (List ℕ) → ℕ → List ℕ
@@ -41,3 +43,8 @@ AreWith before added marks = (number : ℕ) → has marks number ≡ (has before
 pub record AreDistinct (taken numbers : List ℕ) (marks : List Bool) : Type 0 where
   pub once : numbers ≡ distinct taken
   pub marked : MarksList numbers marks
+
+-- a method, unless it is static
+abbrev pub of_objects : List Method → Option ℕ → Option ℕ
+of_objects methods None = None
+of_objects methods (Some method) = if method_is methods (λ own. not own.is_static) method then Some method else None

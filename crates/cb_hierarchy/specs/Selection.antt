@@ -10,7 +10,7 @@ use Rattle.cb_hierarchy.specs.declared.selected.Selected.TheVariants as chosen
 use Rattle.cb_hierarchy.specs.Classes.{is_interface, listed}
 use Rattle.cb_hierarchy.specs.Members.{method_of}
 use Rattle.cb_hierarchy.specs.Orders.{upwards}
-use Rattle.cb_hierarchy.specs.Resolution.{is_private, method_is, most_specific}
+use Rattle.cb_hierarchy.specs.Resolution.{first_of, is_private, method_is, most_specific}
 
 -- whether two classes are of one run-time package
 abbrev pub packages : Option Class → Option Class → Bool
@@ -79,6 +79,12 @@ found_among (method ∷ others) = chosen.Several
 abbrev pub first_or : List Method → Option ℕ → List ℕ → Selected
 first_or methods (Some method) others = found methods method
 first_or methods None others = found_among others
+
+-- the method of a signature that is selected from a class upwards, the nearest first, where a private one counts too, and else of the
+-- superinterfaces (§6.5 invokespecial)
+abbrev pub selected_from : List Class → List Method → ℕ → ℕ → Selected
+selected_from classes methods class signature =
+    first_or methods (first_of (declared_upwards classes methods class signature)) (most_specific classes methods class signature)
 
 -- the method that is selected on an object of a class, where this method was resolved
 abbrev pub of_method : List Class → List Method → ℕ → ℕ → Option Method → Selected

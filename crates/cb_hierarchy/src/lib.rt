@@ -33,6 +33,7 @@ mod specific;
 mod tables;
 #[cfg(test)]
 mod tests;
+mod upward;
 
 pub use bad::first_bad;
 pub use class::{Class, Classes};
@@ -45,3 +46,4 @@ pub use resolution::{resolved_field, resolved_method};
 pub use selected::Selected;
 pub use selection::Selection;
 pub use tables::{FieldTable, MethodTable};
+pub use upward::{as_selected, selected_among, selected_from};

@@ -22,7 +22,7 @@ pub(crate) fn entry_of(methods: &MethodTable, reached: Option<Reached>, among: E
 }
 
 /// Whether a method is abstract.
-fn is_abstract(methods: &MethodTable, method: u32) -> bool
+pub(crate) fn is_abstract(methods: &MethodTable, method: u32) -> bool
     ensures { result ≡ method_is methods.now (λ own. own.is_abstract) method }
 {
     match methods.get(method) {
@@ -54,7 +54,7 @@ pub(crate) fn reach_own(
 }
 
 /// Whether a method isn't static.
-fn is_instance(methods: &MethodTable, method: u32) -> bool
+pub(crate) fn is_instance(methods: &MethodTable, method: u32) -> bool
     ensures { result ≡ method_is methods.now (λ own. not own.is_static) method }
 {
     match methods.get(method) {

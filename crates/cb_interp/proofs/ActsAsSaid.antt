@@ -2,12 +2,12 @@
 use Rattle.std.proofs.Common.{◌≡◌, ◌∙◌, ap, refl, sym, ℕ, true, false, List, ◌∷◌, Option, Some, None}
 use Rattle.std.proofs.lemmas.Bool.{false≢true}
 use Rattle.std.specs.Prelude.{option_and_then}
-use Rattle.cb_hierarchy.specs.declared.selected.Selected.{Selected}
 use Rattle.cb_insn.specs.declared.insn.Insn.{Insn}
 use Rattle.cb_insn.specs.declared.insn.Operand.{Operand}
 use Rattle.cb_insn.specs.declared.insn.Operand.TheVariants as operands
 use Rattle.cb_link.specs.Calls.{select}
 use Rattle.cb_link.specs.Decoding.{decoded_as}
+use Rattle.cb_link.specs.Named.{code_at, insn_in}
 use Rattle.cb_link.specs.declared.decoded.Decoded.{Decoded}
 use Rattle.cb_link.specs.declared.named.Named.{Named}
 use Rattle.cb_link.specs.declared.named.Named.TheVariants as meanings
@@ -28,13 +28,12 @@ use Rattle.cb_shapes.specs.declared.test.Condition.{Condition}
 use Rattle.cb_shapes.specs.declared.test.Condition.TheVariants as conditions
 use Rattle.cb_interp.specs.Acting.{acted, acted_as, constant_deed, frame_deed, on_method, receiver_deed}
 use Rattle.cb_interp.specs.Framing.{is_plain}
-use Rattle.cb_interp.specs.Here.{GoesOn, HasElements, Here, LooksAtArrays, SelectsSpecial, array_depth, interface_in, invokes_interface, invokes_of_interface, planned_as}
+use Rattle.cb_interp.specs.Here.{GoesOn, HasElements, Here, LooksAtArrays, array_depth, interface_in, invokes_interface, invokes_of_interface, planned_as}
 use Rattle.cb_interp.specs.Steps.{view_of}
 use Rattle.cb_interp.proofs.Acts.{always_so, asks_deed, casts_deed, constant_so, gets_field_so, here, loads_deed, measures_deed, now, plain_so, puts_field_so, returns_deed, same_so, stores_deed, stores_reference_deed, throws_deed}
 use Rattle.cb_interp.proofs.ActsOnClasses.{arrays_so, gets_static_deed, makes_deed, puts_static_deed, receiver_so, static_so}
 
-module _ (machine : Machine) (state : State) (frame : MethodFrame) (below : List Frame) (insn : Insn) (frames : state.roots.frames ≡ OfMethod frame ∷ below)
-    (selected : Selected) where
+module _ (machine : Machine) (state : State) (frame : MethodFrame) (below : List Frame) (insn : Insn) (frames : state.roots.frames ≡ OfMethod frame ∷ below) where
   abbrev at_now : Now
   at_now = now machine state frame below insn frames
 
@@ -42,7 +41,7 @@ module _ (machine : Machine) (state : State) (frame : MethodFrame) (below : List
   decoded = here machine state frame below insn frames
 
   abbrev Said : Operand → Action → Type 0
-  Said operand action = done at_now operand action ≡ planned_as machine state (acted_as machine.program machine.frames selected decoded (view_of state) action)
+  Said operand action = done at_now operand action ≡ planned_as machine state (acted_as machine.program machine.frames decoded (view_of state) action)
 
   abbrev Next : Action → Type 0
   Next action = goes_on action ≡ true → (pc : ℕ) × (at_now.next ≡ Some pc)
@@ -77,14 +76,16 @@ module _ (machine : Machine) (state : State) (frame : MethodFrame) (below : List
     go (operands.Branch target) is does = by_condition condition target is next
     go other is does = absurd (cc does)
 
-  special_said : (index : ℕ) (operand : Operand) → plan machine state ≡ invokes_special at_now index
-      → ((method : ℕ) → named_here at_now ≡ meanings.Method method → invokes_special at_now index ≡ calls at_now (λ kind. selected) method)
-      → Said operand (actions.InvokeSpecial index)
-  special_said index operand whole selects = go (named_here at_now) refl where
+  special_said : (index : ℕ) (operand : Operand) → plan machine state ≡ invokes_special at_now index → action_of insn ≡ Some (actions.InvokeSpecial index)
+      → insn_in (code_at machine.program frame.method) frame.pc ≡ Some insn → Said operand (actions.InvokeSpecial index)
+  special_said index operand whole so there = go (named_here at_now) refl where
+    selects : (method : ℕ) → named_here at_now ≡ meanings.Method method → invokes_special at_now index ≡ calls at_now (λ kind. decoded.selected) method
+    selects method names = rw (names, there, so) refl
+
     go : (named : Named) → named_here at_now ≡ named
-        → invokes_special at_now index ≡ planned_as machine state (on_method (receiver_deed machine.program machine.frames (view_of state) (λ kind. selected)) (named_here at_now))
+        → invokes_special at_now index ≡ planned_as machine state (on_method (receiver_deed machine.program machine.frames (view_of state) (λ kind. decoded.selected)) (named_here at_now))
     go (meanings.Method method) names =
-        selects method names ∙ receiver_so machine state frame below insn frames (λ kind. selected) method (whole ∙ selects method names) ∙ rw names refl
+        selects method names ∙ receiver_so machine state frame below insn frames (λ kind. decoded.selected) method (whole ∙ selects method names) ∙ rw names refl
     go (meanings.Whole value) names = rw names refl
     go (meanings.Text text) names = rw names refl
     go (meanings.Kind kind) names = rw names refl
@@ -114,59 +115,59 @@ module _ (machine : Machine) (state : State) (frame : MethodFrame) (below : List
 
   said : (action : Action) (p : Plan) → Next action → invokes_of_interface action ≡ false
       → ((depth : ℕ) → array_depth action ≡ Some depth → HasElements machine.program (view_of state) depth)
-      → ((index method : ℕ) → action ≡ actions.InvokeSpecial index → named_here at_now ≡ meanings.Method method → invokes_special at_now index ≡ calls at_now (λ kind. selected) method)
+      → action_of insn ≡ Some action → insn_in (code_at machine.program frame.method) frame.pc ≡ Some insn
       → plan machine state ≡ done at_now insn.operand action → done at_now insn.operand action ≡ Some p → Said insn.operand action
-  said (actions.Compute computation) p next alone arrays selects whole does = plain (actions.Compute computation) refl next refl
-  said actions.Null p next alone arrays selects whole does = plain actions.Null refl next refl
-  said (actions.Load sort local) p next alone arrays selects whole does = plain (actions.Load sort local) refl next refl
-  said (actions.Store sort local) p next alone arrays selects whole does = plain (actions.Store sort local) refl next refl
-  said (actions.Increase local by) p next alone arrays selects whole does = plain (actions.Increase local by) refl next refl
-  said (actions.Shuffle shuffle) p next alone arrays selects whole does = plain (actions.Shuffle shuffle) refl next refl
-  said (actions.Constant index) p next alone arrays selects whole does = constant_said index insn.operand next whole
-  said (actions.Branch condition) p next alone arrays selects whole does = branch_said condition insn.operand p refl next does
-  said actions.Switch p next alone arrays selects whole does = sym whole
-  said (actions.LoadNumber elements) p next alone arrays selects whole does =
+  said (actions.Compute computation) p next alone arrays so there whole does = plain (actions.Compute computation) refl next refl
+  said actions.Null p next alone arrays so there whole does = plain actions.Null refl next refl
+  said (actions.Load sort local) p next alone arrays so there whole does = plain (actions.Load sort local) refl next refl
+  said (actions.Store sort local) p next alone arrays so there whole does = plain (actions.Store sort local) refl next refl
+  said (actions.Increase local by) p next alone arrays so there whole does = plain (actions.Increase local by) refl next refl
+  said (actions.Shuffle shuffle) p next alone arrays so there whole does = plain (actions.Shuffle shuffle) refl next refl
+  said (actions.Constant index) p next alone arrays so there whole does = constant_said index insn.operand next whole
+  said (actions.Branch condition) p next alone arrays so there whole does = branch_said condition insn.operand p refl next does
+  said actions.Switch p next alone arrays so there whole does = sym whole
+  said (actions.LoadNumber elements) p next alone arrays so there whole does =
       let (pc, after) = next refl in loads_deed machine state frame below insn frames pc (sort_of_elements elements) after (arrays 1 refl)
-  said (actions.StoreNumber elements) p next alone arrays selects whole does =
+  said (actions.StoreNumber elements) p next alone arrays so there whole does =
       let (pc, after) = next refl in stores_deed machine state frame below insn frames pc elements after (arrays 2 refl)
-  said actions.Length p next alone arrays selects whole does = let (pc, after) = next refl in measures_deed machine state frame below insn frames pc after
-  said actions.LoadReference p next alone arrays selects whole does =
+  said actions.Length p next alone arrays so there whole does = let (pc, after) = next refl in measures_deed machine state frame below insn frames pc after
+  said actions.LoadReference p next alone arrays so there whole does =
       let (pc, after) = next refl in loads_deed machine state frame below insn frames pc sorts.Reference after (arrays 1 refl)
-  said actions.StoreReference p next alone arrays selects whole does = let (pc, after) = next refl in stores_reference_deed machine state frame below insn frames pc after
-  said (actions.GetField index) p next alone arrays selects whole does = let (pc, after) = next refl in gets_field_so machine state frame below insn frames pc after
-  said (actions.PutField index) p next alone arrays selects whole does = let (pc, after) = next refl in puts_field_so machine state frame below insn frames pc after
-  said (actions.GetStatic index) p next alone arrays selects whole does = let (pc, after) = next refl in gets_static_deed machine state frame below insn frames pc after
-  said (actions.PutStatic index) p next alone arrays selects whole does = let (pc, after) = next refl in puts_static_deed machine state frame below insn frames pc after
-  said (actions.New index) p next alone arrays selects whole does = makes_deed machine state frame below insn frames whole
-  said (actions.NewNumbers code) p next alone arrays selects whole does = arrays_so machine state frame below insn frames 1 whole
-  said (actions.NewReferences index) p next alone arrays selects whole does = arrays_so machine state frame below insn frames 1 whole
-  said (actions.NewArrays index dimensions) p next alone arrays selects whole does = arrays_so machine state frame below insn frames dimensions whole
-  said (actions.Cast index) p next alone arrays selects whole does = let (pc, after) = next refl in casts_deed machine state frame below insn frames pc after
-  said (actions.IsInstance index) p next alone arrays selects whole does = let (pc, after) = next refl in asks_deed machine state frame below insn frames pc after
-  said actions.Throw p next alone arrays selects whole does = throws_deed machine state frame below insn frames
-  said (actions.Return sort) p next alone arrays selects whole does = returns_deed machine state frame below insn frames sort
-  said (actions.InvokeStatic index) p next alone arrays selects whole does = static_so machine state frame below insn frames whole
-  said (actions.InvokeSpecial index) p next alone arrays selects whole does = special_said index insn.operand whole (λ method names. selects index method refl names)
-  said (actions.InvokeVirtual index) p next alone arrays selects whole does = virtual_said index insn.operand whole
-  said (actions.InvokeInterface index count) p next alone arrays selects whole does = absurd (false≢true (sym alone))
+  said actions.StoreReference p next alone arrays so there whole does = let (pc, after) = next refl in stores_reference_deed machine state frame below insn frames pc after
+  said (actions.GetField index) p next alone arrays so there whole does = let (pc, after) = next refl in gets_field_so machine state frame below insn frames pc after
+  said (actions.PutField index) p next alone arrays so there whole does = let (pc, after) = next refl in puts_field_so machine state frame below insn frames pc after
+  said (actions.GetStatic index) p next alone arrays so there whole does = let (pc, after) = next refl in gets_static_deed machine state frame below insn frames pc after
+  said (actions.PutStatic index) p next alone arrays so there whole does = let (pc, after) = next refl in puts_static_deed machine state frame below insn frames pc after
+  said (actions.New index) p next alone arrays so there whole does = makes_deed machine state frame below insn frames whole
+  said (actions.NewNumbers code) p next alone arrays so there whole does = arrays_so machine state frame below insn frames 1 whole
+  said (actions.NewReferences index) p next alone arrays so there whole does = arrays_so machine state frame below insn frames 1 whole
+  said (actions.NewArrays index dimensions) p next alone arrays so there whole does = arrays_so machine state frame below insn frames dimensions whole
+  said (actions.Cast index) p next alone arrays so there whole does = let (pc, after) = next refl in casts_deed machine state frame below insn frames pc after
+  said (actions.IsInstance index) p next alone arrays so there whole does = let (pc, after) = next refl in asks_deed machine state frame below insn frames pc after
+  said actions.Throw p next alone arrays so there whole does = throws_deed machine state frame below insn frames
+  said (actions.Return sort) p next alone arrays so there whole does = returns_deed machine state frame below insn frames sort
+  said (actions.InvokeStatic index) p next alone arrays so there whole does = static_so machine state frame below insn frames whole
+  said (actions.InvokeSpecial index) p next alone arrays so there whole does = special_said index insn.operand whole so there
+  said (actions.InvokeVirtual index) p next alone arrays so there whole does = virtual_said index insn.operand whole
+  said (actions.InvokeInterface index count) p next alone arrays so there whole does = absurd (false≢true (sym alone))
 
 -- the step of a machine that stands at an instruction is what is done of it
-pub acts_so : (machine : Machine) (state : State) (decoded : Decoded) (selected : Selected) (at : Here machine state decoded) (p : Plan)
-    → GoesOn decoded → LooksAtArrays machine.program (view_of state) decoded → SelectsSpecial machine state decoded at selected → invokes_interface decoded ≡ false
-    → plan machine state ≡ Some p → planned_as machine state (acted machine.program machine.frames selected decoded (view_of state)) ≡ Some p
-acts_so machine state decoded selected at p goes arrays selects alone is = go (action_of at.insn) refl where
-  go : (action : Option Action) → action_of at.insn ≡ action → planned_as machine state (acted machine.program machine.frames selected decoded (view_of state)) ≡ Some p
+pub acts_so : (machine : Machine) (state : State) (decoded : Decoded) (at : Here machine state decoded) (p : Plan)
+    → GoesOn decoded → LooksAtArrays machine.program (view_of state) decoded → invokes_interface decoded ≡ false
+    → plan machine state ≡ Some p → planned_as machine state (acted machine.program machine.frames decoded (view_of state)) ≡ Some p
+acts_so machine state decoded at p goes arrays alone is = go (action_of at.insn) refl where
+  go : (action : Option Action) → action_of at.insn ≡ action → planned_as machine state (acted machine.program machine.frames decoded (view_of state)) ≡ Some p
   go None does =
       let none : plan machine state ≡ None = rw (at.runs, at.quiet, at.frames, at.there, does) refl in
       absurd (cc (sym none ∙ is))
   go (Some action) does =
       let whole : plan machine state ≡ done (now machine state at.frame at.below at.insn at.frames) at.insn.operand action = rw (at.runs, at.quiet, at.frames, at.there, does) refl in
       let has : decoded.action ≡ Some action = ap (λ (decoded : Decoded). decoded.action) at.is ∙ does in
-      ap (λ (decoded : Decoded). planned_as machine state (acted machine.program machine.frames selected decoded (view_of state))) at.is
-      ∙ ap (λ action. planned_as machine state (option_and_then (acted_as machine.program machine.frames selected (decoded_as machine.program at.frame.method at.frame.pc at.insn) (view_of state)) action)) does
-      ∙ sym (said machine state at.frame at.below at.insn at.frames selected action p
+      ap (λ (decoded : Decoded). planned_as machine state (acted machine.program machine.frames decoded (view_of state))) at.is
+      ∙ ap (λ action. planned_as machine state (option_and_then (acted_as machine.program machine.frames (decoded_as machine.program at.frame.method at.frame.pc at.insn) (view_of state)) action)) does
+      ∙ sym (said machine state at.frame at.below at.insn at.frames action p
       (λ on. let (pc, next) = goes action has on in (pc, sym (ap (λ (decoded : Decoded). decoded.next) at.is) ∙ next))
       (sym (ap (λ action. interface_in action) has) ∙ alone) (λ depth is. arrays action depth has is)
-      (λ index method is names. selects index method (has ∙ ap Some is) (ap (λ (decoded : Decoded). decoded.named) at.is ∙ names))
+      does at.there
       whole (sym whole ∙ is))
       ∙ sym whole ∙ is

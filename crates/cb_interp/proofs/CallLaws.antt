@@ -170,7 +170,7 @@ taken_read index [] sum = refl
 taken_read index (OfMethod frame ∷ below) sum = taken_read index below (sum + frame.slots)
 taken_read index (Initialising class place ∷ below) sum = taken_read index below (sum + 0)
 
-pub room_read : (index : ℕ → ℕ) (held : Roots) (limit slots : ℕ) → has_room limit (read_roots index held).frames slots ≡ has_room limit held.frames slots
+room_read : (index : ℕ → ℕ) (held : Roots) (limit slots : ℕ) → has_room limit (read_roots index held).frames slots ≡ has_room limit held.frames slots
 room_read index held limit slots =
     ap₂ (λ (count taken : ℕ). nat_lt count limit && nat_le (taken + slots) (slots_each * limit)) (length-map held.frames (read_frame index)) (taken_read index held.frames 0)
 

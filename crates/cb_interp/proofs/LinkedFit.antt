@@ -57,7 +57,7 @@ all_in : {Item Part : Type 0} (P : Part → Type 0) (parts : Item → List Part)
 all_in P parts [] each = tt
 all_in P parts (item ∷ items) each = all_joined P (parts item) (flat_map parts items) (each item) (all_in P parts items each)
 
-numbers_low : {Item : Type 0} (test : ℕ × Item → Bool) (count from : ℕ) (items : List Item) → from + length items ≡ count
+pub numbers_low : {Item : Type 0} (test : ℕ × Item → Bool) (count from : ℕ) (items : List Item) → from + length items ≡ count
     → AllByRecursion (λ number. number < count) (map (λ (entry : ℕ × Item). entry.0) (filter test (enumerate_from from items)))
 numbers_low test count from [] is = tt
 numbers_low {Item} test count from (first ∷ items) is = go (test (from, first)) (numbers_low test count (from + 1) items (omega (arith, is))) where
@@ -74,7 +74,7 @@ layout_low classes fields (suc turns) class =
     (all_in (λ number. number < length fields) (in_turns (layout_by classes fields) turns) (superclass classes class) (layout_low classes fields turns))
     (numbers_low (λ entry. (entry.1.declared.class == class) && not entry.1.is_static) (length fields) 0 fields (omega arith))
 
-there_at : {Item : Type 0} (items : List Item) (place : ℕ) → place < length items → (item : Item) × (slice_get items place ≡ Some item)
+pub there_at : {Item : Type 0} (items : List Item) (place : ℕ) → place < length items → (item : Item) × (slice_get items place ≡ Some item)
 there_at [] place low = absurd (omega (arith, low))
 there_at (item ∷ items) zero low = (item, refl)
 there_at (item ∷ items) (suc place) low = there_at items place (omega (arith, low))
@@ -138,7 +138,7 @@ module _ (program : Linked) (whole : IsWhole program) (all : List Shape) (are : 
       by (Some file) there is =
           subst (λ (name : List ℕ). is_array name ≡ false) (same_Some (name_of file) name is) (all_at HasOwnName program.classes class file whole.named there)
 
-  fields_shape : (kind class : ℕ) → class_of_kind program kind ≡ Some class → shape program kind ≡ shapes.Fields (field_marks program (Some class))
+  pub fields_shape : (kind class : ℕ) → class_of_kind program kind ≡ Some class → shape program kind ≡ shapes.Fields (field_marks program (Some class))
   fields_shape kind class is =
       let own = classed_as kind class is in
       ap₂ (λ (name : List ℕ) (component : Option Basic). shape_with program name component) (ap or_none own.named)
@@ -159,7 +159,7 @@ module _ (program : Linked) (whole : IsWhole program) (all : List Shape) (are : 
       subst (λ (contents : List Content). IsPlacedAs all site kind (length contents) contents) (sym blanks) (fields_placed site kind class is)
 
   -- of an exception
-  field_there : (class slot number : ℕ) → slice_get (object_fields program.classes class) slot ≡ Some number → (basic : Basic) × (basic_of_field program number ≡ Some basic)
+  pub field_there : (class slot number : ℕ) → slice_get (object_fields program.classes class) slot ≡ Some number → (basic : Basic) × (basic_of_field program number ≡ Some basic)
   field_there class slot number is =
       let low : number < length (ranked_fields program.classes) =
       all_at (λ number. number < length (ranked_fields program.classes)) (object_fields program.classes class) slot number
@@ -180,7 +180,7 @@ module _ (program : Linked) (whole : IsWhole program) (all : List Shape) (are : 
       let fits = thrown.fields has.class slot basic has.classed (ap (option_and_then (basic_of_field program)) there ∙ own) in
       (fits.0, ap is_some_reference own ∙ fits.1))
 
-  sites_there : (site : ℕ) → site < 32 → site < length (site_kinds program)
+  pub sites_there : (site : ℕ) → site < 32 → site < length (site_kinds program)
   sites_there site low =
       let fixed : length program.fixed ≡ 32 = ap (λ (fixed : List ℕ). length fixed) whole.fixed in
       let both : length (site_kinds program) ≡ length program.fixed + length (map (λ (site : Site). site.kind) program.sites) =

@@ -5,7 +5,6 @@ use Rattle.std.specs.Prelude.{slice_get}
 use Rattle.cb_classfile.specs.declared.body.Body.{Body}
 use Rattle.cb_frames.specs.Tops.{arguments_of, changed_in, with_stack, without}
 use Rattle.cb_heap.specs.Closed.{IsClosed}
-use Rattle.cb_hierarchy.specs.declared.selected.Selected.{Selected}
 use Rattle.cb_link.specs.declared.decoded.Decoded.{Decoded}
 use Rattle.cb_link.specs.declared.linked.LinkedMethod.{LinkedMethod}
 use Rattle.cb_machine.specs.Entering.{entered_upon}
@@ -27,7 +26,7 @@ use Rattle.cb_shapes.specs.Sorts.{sort_of_elements}
 use Rattle.cb_shapes.specs.declared.sort.Sort.TheVariants as sorts
 use Rattle.cb_safety.proofs.Laws.{Stage, arguments_fit, stage_of}
 use Rattle.cb_interp.specs.Acting.{ArgumentsFit, acted, enter_deed}
-use Rattle.cb_interp.specs.Here.{GoesOn, HasElements, Here, LooksAtArrays, SelectsAlways, array_depth, deed_plan, here_within, invokes_interface, planned_as}
+use Rattle.cb_interp.specs.Here.{GoesOn, HasElements, Here, LooksAtArrays, array_depth, deed_plan, here_within, invokes_interface, planned_as}
 use Rattle.cb_interp.specs.Steps.{view_of}
 use Rattle.cb_interp.specs.Suited.{HasRoom, HasWords, Suited}
 use Rattle.cb_interp.proofs.ActsAsSaid.{acts_so}
@@ -55,14 +54,14 @@ enters_upon machine state method count body =
       go true is = rw (is, room_without machine.frames (body.max_locals + body.max_stack) count state.roots.frames, is) refl
       go false is = rw (is, room_without machine.frames (body.max_locals + body.max_stack) count state.roots.frames, is) refl
 
-module _ (machine : Machine) (state : State) (decoded : Decoded) (selected : Selected) (at : Here machine state decoded)
-    (goes : GoesOn decoded) (arrays : LooksAtArrays machine.program (view_of state) decoded) (selects : SelectsAlways machine state decoded at selected)
+module _ (machine : Machine) (state : State) (decoded : Decoded) (at : Here machine state decoded)
+    (goes : GoesOn decoded) (arrays : LooksAtArrays machine.program (view_of state) decoded)
     (alone : invokes_interface decoded ≡ false) (advances : (limit : ℕ) → Advances (with_limit machine limit) state) where
-  plans : (limit method count : ℕ) (body : Body) → acted machine.program limit selected decoded (view_of state) ≡ Some (enter_deed limit (view_of state) method count body)
+  plans : (limit method count : ℕ) (body : Body) → acted machine.program limit decoded (view_of state) ≡ Some (enter_deed limit (view_of state) method count body)
       → plan (with_limit machine limit) state ≡ Some (entered_upon (with_limit machine limit) state (without state.roots count).frames method (arguments_of state.roots count) body)
   plans limit method count body enters =
       (advances limit).is
-      ∙ sym (acts_so (with_limit machine limit) state decoded selected (here_within machine state decoded limit at) (advances limit).plan goes arrays (selects limit) alone (advances limit).is)
+      ∙ sym (acts_so (with_limit machine limit) state decoded (here_within machine state decoded limit at) (advances limit).plan goes arrays alone (advances limit).is)
       ∙ ap (planned_as (with_limit machine limit) state) enters
       ∙ enters_upon (with_limit machine limit) state method count body
 
@@ -73,7 +72,7 @@ module _ (machine : Machine) (state : State) (decoded : Decoded) (selected : Sel
   body_in body None = body
   body_in body (Some callee) = callee.body
 
-  pub arguments_suit : ArgumentsFit machine.program (view_of state) (λ limit. acted machine.program limit selected decoded (view_of state))
+  pub arguments_suit : ArgumentsFit machine.program (view_of state) (λ limit. acted machine.program limit decoded (view_of state))
   arguments_suit method count numbered body low is has enters = go (slice_get machine.program.methods method) refl where
     of_callee : (linked : LinkedMethod) → slice_get machine.program.methods method ≡ Some linked → (found : Option Within) → within machine.program method ≡ found → Fit count body
     of_callee linked there None among =
@@ -92,16 +91,16 @@ module _ (machine : Machine) (state : State) (decoded : Decoded) (selected : Sel
     go (Some linked) there = of_callee linked there (within machine.program method) refl
 
 -- all that is asked for
-pub suits : (allows : ℕ → ℕ → Bool) (machine : Machine) (state : State) (decoded : Decoded) (selected : Selected) (at : Here machine state decoded)
+pub suits : (allows : ℕ → ℕ → Bool) (machine : Machine) (state : State) (decoded : Decoded) (at : Here machine state decoded)
     → ((one other : ℕ) → allows one other ≡ true) → IsTyped machine.program → IsSound machine.program → IsTypedState machine.program state → IsClosed (view_of state)
-    → GoesOn decoded → LooksAtArrays machine.program (view_of state) decoded → SelectsAlways machine state decoded at selected → invokes_interface decoded ≡ false
-    → ((limit : ℕ) → Advances (with_limit machine limit) state) → Suited allows machine.program selected decoded (view_of state)
-suits allows machine state decoded selected at all fits sound typed closed goes arrays selects alone advances = record {
+    → GoesOn decoded → LooksAtArrays machine.program (view_of state) decoded → invokes_interface decoded ≡ false
+    → ((limit : ℕ) → Advances (with_limit machine limit) state) → Suited allows machine.program decoded (view_of state)
+suits allows machine state decoded at all fits sound typed closed goes arrays alone advances = record {
   room = subst (λ (decoded : Decoded). HasRoom decoded (view_of state)) (sym at.is)
       (has_room_on machine state at.frame at.below at.insn fits sound typed at.quiet at.frames at.there);
   words = subst (λ (decoded : Decoded). HasWords allows machine.program decoded (view_of state)) (sym at.is)
       (has_words machine state at.frame at.below at.insn fits sound typed at.quiet at.frames at.there allows all closed);
-  arguments = arguments_suit machine state decoded selected at goes arrays selects alone advances;
+  arguments = arguments_suit machine state decoded at goes arrays alone advances;
 }
 
 -- and what typing says of the place: there is a next instruction, where it may be reached, and arrays are arrays

@@ -4,6 +4,7 @@ use Rattle.std.specs.Prelude.{OnErr, OnOk, is_ok, if◌then◌else◌}
 use Rattle.std.specs.declared.result.Result.{Result}
 use Rattle.std.specs.declared.result.Result.TheVariants.{Err, Ok}
 use Rattle.cb_frames.specs.Limited.{Limited, with_roots as with_held}
+use Rattle.cb_heap.proofs.Laws.{reads_room}
 use Rattle.cb_heap.specs.Reading.{seen}
 use Rattle.cb_heap.specs.Rules.{Rules}
 use Rattle.cb_link.specs.Program.{Linked}
@@ -18,7 +19,6 @@ use Rattle.cb_plain.specs.Updates.{with_roots}
 use Rattle.cb_unwind.specs.Begun.{NumbersOnly, begun}
 use Rattle.cb_unwind.proofs.Laws.{begun_on, begun_read}
 use Rattle.cb_interp.specs.Turning.{Outside, TurnMade, machine_of, moment_of, state_of}
-use Rattle.cb_interp.proofs.CallLaws.{room_read}
 use Rattle.cb_interp.proofs.TurnsMade.{quiet_turn}
 
 module _ (program : Linked) (index : ℕ → ℕ) (objects : List (Option Object)) (before : Limited) (outside : Outside) (class : ℕ) where
@@ -36,7 +36,7 @@ module _ (program : Linked) (index : ℕ → ℕ) (objects : List (Option Object
       → plan (machine_of program before.limit) state ≡ Some (chosen room)
   begins_by room is numbers begins =
       begins ∙ ap Some (begun_on (machine_of program before.limit) state state.roots.frames class numbers)
-      ∙ ap (λ room. Some (chosen room)) (room_read index before.roots before.limit 0 ∙ sym is)
+      ∙ ap (λ room. Some (chosen room)) (reads_room index before.roots before.limit 0 ∙ sym is)
 
   pub begun_turn : {Facts : Type 0} {E : Type 0} (rules : Rules Facts) (facts : Facts) (result : Result (Unit {0}) E) (after : Limited) → NumbersOnly program class → Begins
       → is_ok result ≡ has_room before.limit before.roots.frames 0 → OnOk result (after ≡ with_held before (begun program class before.roots))

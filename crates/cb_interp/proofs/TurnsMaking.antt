@@ -57,7 +57,7 @@ words_so all site kind size contents sized shaped =
 stack_read : (index : ℕ → ℕ) (held : Roots) → length (top_stack (read_roots index held)) ≡ length (top_stack held)
 stack_read index held = ap length (reads_stack index held) ∙ length-map (top_stack held) (read_value index)
 
-room_read : (index : ℕ → ℕ) (held : Roots) → top_room (read_roots index held) ≡ top_room held
+pub room_read : (index : ℕ → ℕ) (held : Roots) → top_room (read_roots index held) ≡ top_room held
 room_read index held = go held.frames refl where
   go : (frames : List Frame) → held.frames ≡ frames → top_room (read_roots index held) ≡ top_room held
   go [] is = rw is refl

@@ -53,7 +53,7 @@ module _ {Facts : Type 0} (rules : Rules Facts) (machine : Machine) where
   kept_plan_so kept full keeping = plan_kept machine (keep kept) (is_held (keep kept full.objects)) full (keep_unseen kept full keeping) (natives_keep machine kept full keeping)
 
   -- the plan of a moment is what is kept of the plan of the state for which it stands
-  planned : (moment : Moment Facts) (full : State) (own : Plan) → (stands : StandsAt moment full) → plan machine moment.state ≡ Some own
+  pub planned : (moment : Moment Facts) (full : State) (own : Plan) → (stands : StandsAt moment full) → plan machine moment.state ≡ Some own
       → (whole : Plan) × (plan machine full ≡ Some whole) × (own ≡ kept_plan stands.kept whole)
   planned moment full own stands is = go (plan machine full) refl where
     keeps : KeepsPlan machine stands.kept full
@@ -91,7 +91,7 @@ module _ {Facts : Type 0} (rules : Rules Facts) (machine : Machine) where
       step_stands turn.middle last full turn.own (room_stands before turn.middle (request machine before.state) full turn.room stands) turn.plans turn.steps closed
 
   -- and so many turns
-  after_one_more : (count : ℕ) (full : State) → after machine (suc count) full ≡ next machine (after machine count full)
+  pub after_one_more : (count : ℕ) (full : State) → after machine (suc count) full ≡ next machine (after machine count full)
   after_one_more zero full = refl
   after_one_more (suc count) full = after_one_more count (next machine full)
 

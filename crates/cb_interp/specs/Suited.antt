@@ -3,7 +3,6 @@ use Rattle.std.specs.Prelude.{◌≡◌, ◌<◌, ◌≤◌, ◌^◌, ℕ, Bool,
 use Rattle.cb_frames.specs.Tops.{left, runs_method, top_room}
 use Rattle.cb_heap.specs.Kept.{contents_at, is_held}
 use Rattle.cb_heap.specs.Reading.{View, read_value}
-use Rattle.cb_hierarchy.specs.declared.selected.Selected.{Selected}
 use Rattle.cb_kinds.specs.declared.basic.Basic.{Basic}
 use Rattle.cb_kinds.specs.declared.basic.Basic.TheVariants as basics
 use Rattle.cb_link.specs.Program.{Linked}
@@ -56,7 +55,7 @@ pub record HasWords (allows : ℕ → ℕ → Bool) (program : Linked) (decoded 
   pub allowed : (depth : ℕ) → MayPut allows depth view
 
 -- all of that; and the arguments of a call fit
-pub record Suited (allows : ℕ → ℕ → Bool) (program : Linked) (special : Selected) (decoded : Decoded) (view : View) : Type 0 where
+pub record Suited (allows : ℕ → ℕ → Bool) (program : Linked) (decoded : Decoded) (view : View) : Type 0 where
   pub room : HasRoom decoded view
   pub words : HasWords allows program decoded view
-  pub arguments : ArgumentsFit program view (λ limit. acted program limit special decoded view)
+  pub arguments : ArgumentsFit program view (λ limit. acted program limit decoded view)

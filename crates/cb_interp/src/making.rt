@@ -1,5 +1,5 @@
 // Turns of a run in which an instruction makes an object or an array.
-ghost use Rattle.std.specs.Prelude.{◌≡◌, ◌+◌, ◌<◌, ◌^◌, false, length, replicate, IfErr, IsTrue, OnOk, Some};
+ghost use Rattle.std.specs.Prelude.{◌≡◌, ◌+◌, ◌<◌, ◌^◌, false, length, replicate, true, IfErr, IsTrue, OnOk, Some};
 ghost use Rattle.cb_frames.specs.Tops.{top_room, top_stack};
 ghost use Rattle.cb_heap.specs.Closed.{IsClosed};
 ghost use Rattle.cb_heap.specs.Reading.{seen};
@@ -45,7 +45,7 @@ pub fn make_object_turn<S: Store>(
         (kind_of_site program.now site)) }
     requires sized { IsTrue (has_size (S.shapes store.old) (kind_of_site program.now site) size) }
     requires knows { IsTrue (S.knows store.old site) }
-    requires serials { length (S.kept store.old) + 1 < 2 ^ 63 }
+    requires serials { S.FIXED ≡ true → length (S.kept store.old) + 1 < 2 ^ 63 }
     requires closed { IsClosed (seen (S.index store.old) (S.kept store.old) roots.old.roots) }
     requires room { 0 < top_room roots.old.roots }
     ensures made { OnOk result (TurnMade S.rules (machine_of program.now roots.old.limit) (moment_of
@@ -92,7 +92,7 @@ pub fn make_array_turn<S: Store>(
         (kind_of_site program.now site))) }
     requires sized { IsTrue (has_size (S.shapes store.old) (kind_of_site program.now site) size) }
     requires knows { IsTrue (S.knows store.old site) }
-    requires serials { length (S.kept store.old) + 1 < 2 ^ 63 }
+    requires serials { S.FIXED ≡ true → length (S.kept store.old) + 1 < 2 ^ 63 }
     requires closed { IsClosed (seen (S.index store.old) (S.kept store.old) roots.old.roots) }
     requires there { 0 < length (top_stack roots.old.roots) }
     ensures made { OnOk result (TurnMade S.rules (machine_of program.now roots.old.limit) (moment_of

@@ -1,5 +1,5 @@
 // Turns of a run in which an exception of the machine is thrown.
-ghost use Rattle.std.specs.Prelude.{◌≡◌, ◌+◌, ◌<◌, ◌^◌, false, length, IfErr, IsTrue, OnOk, Some};
+ghost use Rattle.std.specs.Prelude.{◌≡◌, ◌+◌, ◌<◌, ◌^◌, false, length, true, IfErr, IsTrue, OnOk, Some};
 ghost use Rattle.cb_heap.specs.Closed.{IsClosed};
 ghost use Rattle.cb_heap.specs.Reading.{seen};
 ghost use Rattle.cb_heap.specs.Shaped.{has_size, new_object};
@@ -42,7 +42,7 @@ pub fn throw_turn<S: Store>(
     requires sized { IsTrue (has_size (S.shapes store.old)
         (kind_of_site program.now site) exception_size) }
     requires knows { IsTrue (S.knows store.old site) }
-    requires serials { length (S.kept store.old) + 2 ^ 28 < 2 ^ 63 }
+    requires serials { S.FIXED ≡ true → length (S.kept store.old) + 2 ^ 28 < 2 ^ 63 }
     requires closed { IsClosed (seen (S.index store.old) (S.kept store.old) roots.old.roots) }
     ensures made { OnOk result (TurnMade S.rules (machine_of program.now roots.old.limit) (moment_of
         (seen (S.index store.old) (S.kept store.old) roots.old.roots) outside (S.facts store.old))

@@ -13,7 +13,7 @@ use Rattle.cb_hierarchy.specs.Classes.{is_interface, listed}
 use Rattle.cb_hierarchy.specs.Members.{method_of, place_of}
 use Rattle.cb_hierarchy.specs.Orders.{upwards}
 use Rattle.cb_hierarchy.specs.Resolution.{all_superinterfaces, among_superinterfaces, first_of, first_some, is_declared_below, is_inherited, is_private, is_public, method_is, method_of_class, method_of_interface, method_of_object, most_specific, most_specific_of, only_one, resolved_method, superinterface_methods}
-use Rattle.cb_hierarchy.specs.Selection.{declared_upwards, first_or, found, found_among, implementing, of_method, overrides, overriding, selected}
+use Rattle.cb_hierarchy.specs.Selection.{declared_upwards, first_or, found, found_among, implementing, of_method, overrides, overriding, selected, selected_from}
 use Rattle.cb_link.specs.Calls.{IsOneOf}
 use Rattle.cb_link.proofs.Ranged.{all_lists}
 use Rattle.cb_link.proofs.SitePlaces.{below_length}
@@ -87,7 +87,7 @@ module _ (classes : List Class) (methods : List Method) where
   inherited_low : (class signature : ℕ) → AllByRecursion Low (superinterface_methods classes methods class signature)
   inherited_low class signature = declared_low (method_is methods is_inherited) (all_superinterfaces classes class) signature
 
-  specific_low : (class signature : ℕ) → AllByRecursion Low (most_specific classes methods class signature)
+  pub specific_low : (class signature : ℕ) → AllByRecursion Low (most_specific classes methods class signature)
   specific_low class signature =
       let candidates = superinterface_methods classes methods class signature in
       kept Low (method_is methods (λ method. not method.is_abstract)) (most_specific_of classes methods candidates)
@@ -133,13 +133,13 @@ module _ (classes : List Class) (methods : List Method) where
   overriding_low resolved (method ∷ above) all =
       tested Low (overrides classes methods method above resolved) method (overriding classes methods resolved above) all.0 (overriding_low resolved above all.1)
 
-  found_low : (method : ℕ) → Low method → IsOneOf (length methods) (found methods method)
+  pub found_low : (method : ℕ) → Low method → IsOneOf (length methods) (found methods method)
   found_low method low = go (method_is methods (λ own. own.is_abstract) method) where
     go : (test : Bool) → IsOneOf (length methods) (if test then chosen.Abstract else chosen.Method method)
     go true = tt
     go false = low
 
-  found_among_low : (others : List ℕ) → AllByRecursion Low others → IsOneOf (length methods) (found_among others)
+  pub found_among_low : (others : List ℕ) → AllByRecursion Low others → IsOneOf (length methods) (found_among others)
   found_among_low [] all = tt
   found_among_low (method ∷ []) all = all.0
   found_among_low (method ∷ other ∷ others) all = tt
@@ -147,6 +147,13 @@ module _ (classes : List Class) (methods : List Method) where
   first_low : (some : Option ℕ) (others : List ℕ) → IfSome some Low → AllByRecursion Low others → IsOneOf (length methods) (first_or methods some others)
   first_low None others low all = found_among_low others all
   first_low (Some method) others low all = found_low method low
+
+  pub from_low : (class signature : ℕ) → IsOneOf (length methods) (selected_from classes methods class signature)
+  from_low class signature =
+      let upward : List ℕ = declared_upwards classes methods class signature in
+      first_low (first_of upward) (most_specific classes methods class signature)
+      (head_is Low upward (declared_low (method_is methods (λ own. not own.is_static)) (upwards classes class) signature))
+      (specific_low class signature)
 
   implementing_low : (numbers : List ℕ) → AllByRecursion Low numbers → IfSome (implementing methods numbers) Low
   implementing_low [] all = tt

@@ -8,3 +8,5 @@ pub use Rattle.cb_link.proofs.NumbersLow.{initial_within}
 pub use Rattle.cb_link.proofs.NamedThere.{insn_there}
 pub use Rattle.cb_link.proofs.KindsAmong.{all_named, element_low}
 pub use Rattle.cb_link.proofs.FoundLow.{chained, either, mapped, whenever}
+pub use Rattle.cb_link.proofs.SpecialLaws.{special_is, special_one_of}
+pub use Rattle.cb_link.proofs.SitePlaces.{below_length}

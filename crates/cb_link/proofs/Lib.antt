@@ -38,3 +38,7 @@ pub mod NamedThere
 pub mod PlacedLaws
 pub mod PlacesLaws
 pub mod WholeLaws
+pub mod MeaningRows
+pub mod SpecialIndex
+pub mod SpecialLaws
+pub mod SpecialNames

@@ -10,6 +10,8 @@ use Rattle.cb_link.specs.declared.call_tables.CallTables.{CallTables}
 use Rattle.cb_link.specs.declared.constant_table.ConstantTable.{ConstantTable}
 use Rattle.cb_link.specs.declared.field_tables.FieldTables.{FieldTables}
 use Rattle.cb_link.specs.declared.kind_table.KindTable.{KindTable}
+use Rattle.cb_link.specs.declared.meanings.Meaning.{Meaning}
+use Rattle.cb_link.specs.declared.meanings.MeaningTable.{MeaningTable}
 use Rattle.cb_link.specs.declared.place_tables.PlaceTables.{PlaceTables}
 use Rattle.cb_link.specs.declared.places.Places.{Places}
 use Rattle.cb_link.specs.Calls.{initial_parents, initialiser}
@@ -18,7 +20,7 @@ use Rattle.cb_link.specs.Having.{IsWhole}
 use Rattle.cb_link.specs.Numbers.{hierarchy, name_of, ranked_fields, ranked_methods}
 use Rattle.cb_link.specs.Program.{Linked}
 use Rattle.cb_link.specs.Slots.{enum_statics, object_fields, shape, slot_of, statics}
-use Rattle.cb_link.specs.InnerPlaces.{HasPlaces, constants_of, sites_before}
+use Rattle.cb_link.specs.InnerPlaces.{HasMeanings, HasPlaces, constants_of, sites_before}
 
 -- a list has so many entries, and each is what is said of its place
 pub record AreAll {A : Type 0} (count : ℕ) (said : ℕ → A) (entries : List A) : Type 0 where
@@ -46,6 +48,10 @@ pub record IsCallTables (program : Linked) (tables : CallTables) : Type 0 where
 
 pub record IsConstantTable (program : Linked) (table : ConstantTable) : Type 0 where
   pub rows : table.rows ≡ map (constants_of program) program.classes
+
+pub record IsMeaningTable (program : Linked) (table : MeaningTable) : Type 0 where
+  pub as_many : length table.rows ≡ length program.classes
+  pub each : (number : ℕ) (row : List Meaning) → slice_get table.rows number ≡ Some row → HasMeanings program number row
 
 pub record IsPlaceTables (program : Linked) (tables : PlaceTables) : Type 0 where
   pub as_many : length tables.rows ≡ length program.methods

@@ -21,4 +21,5 @@ pub mod Places
 pub mod Program
 pub mod Resolving
 pub mod Slots
+pub mod Special
 pub mod Subtypes

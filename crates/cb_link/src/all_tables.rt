@@ -7,6 +7,7 @@ use crate::call_tables::CallTables;
 use crate::constant_table::ConstantTable;
 use crate::field_tables::FieldTables;
 use crate::kind_table::KindTable;
+use crate::meanings::MeaningTable;
 use crate::place_tables::PlaceTables;
 use cb_plain::OutOfMemory;
 use std::alloc::Global;
@@ -64,7 +65,8 @@ impl CodeTables {
         ensures { IfOk result (AreCodeTables base.now) }
     {
         let constants = ConstantTable::of(alloc, base, fields)?;
-        let places = PlaceTables::of(alloc, base, &constants)?;
+        let meanings = MeaningTable::of(alloc, base, fields, &constants)?;
+        let places = PlaceTables::of(alloc, base, &meanings)?;
         Ok(CodeTables { constants, places })
     }
 }

@@ -1,8 +1,6 @@
 // The constants of enums.
-ghost use Rattle.std.specs.Prelude.{◌≡◌, ◌+◌, ◌<◌, ◌==◌, ◌&&◌, ℕ, drop, [], length, replicate, slice_get, IfOk, OnOk, Some};
-ghost use Rattle.std.specs.List.{list_any};
+ghost use Rattle.std.specs.Prelude.{◌≡◌, ◌+◌, ◌<◌, ◌&&◌, ℕ, [], length, replicate, slice_get, IfOk, OnOk, Some};
 ghost use Rattle.cb_classfile.specs.Pool.{text_at};
-ghost use Rattle.cb_hierarchy.specs.Orders.{upwards};
 ghost use Rattle.cb_kinds.specs.Kinds.{type_of_name};
 ghost use Rattle.cb_kinds.specs.Texts.{same_text};
 ghost use Rattle.cb_link.specs.InnerCounts.{AreEnums};
@@ -12,11 +10,11 @@ ghost use Rattle.cb_link.specs.Slots.{enum_name, enum_statics, is_enum, is_enum_
 ghost use Rattle.cb_link.specs.InnerTables.{AreAll};
 
 use crate::base::Base;
+use crate::class_order::is_above;
 use crate::descriptors::text_or_none;
 use crate::ranked::name_of;
 use crate::resolver::Resolver;
 use cb_classfile::{ClassFile, Field, FieldFlags};
-use cb_hierarchy::Hierarchy;
 use cb_kinds::array_of;
 use cb_plain::{Numbers, OutOfMemory, number_of};
 use std::alloc::Global;
@@ -68,17 +66,6 @@ fn is_enum(resolver: &Resolver, class: u32) -> bool
         return false;
     };
     is_above(resolver.hierarchy(), class, wanted)
-}
-
-/// Whether a class is the superclass of another one, or that one's superclass, and so on.
-fn is_above(hierarchy: &Hierarchy, class: u32, wanted: u32) -> bool
-    requires { class < length hierarchy.now }
-    ensures { result ≡ list_any (λ number. number == wanted) (drop 1 (upwards hierarchy.now class)) }
-{
-    match hierarchy.upwards(class).split_first() {
-        Some((_, above)) => above.iter().any(|number| *number == wanted),
-        None => false,
-    }
 }
 
 /// Whether a field of the class of a number is an enum's constant.

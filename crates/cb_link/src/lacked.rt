@@ -103,7 +103,7 @@ fn suits_method(code: u8, named: Option<u32>, is_init: bool, method: Option<&Met
 }
 
 /// Whether a name is that of a constructor.
-fn is_init(name: &[u16]) -> bool
+pub(crate) fn is_init(name: &[u16]) -> bool
     ensures { result ≡ same_name name.now name_init }
 {
     name == INIT.as_slice()

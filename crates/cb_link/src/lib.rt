@@ -32,6 +32,7 @@ mod law;
 mod linked;
 mod loaded_texts;
 mod making;
+mod meanings;
 mod members;
 mod named;
 mod named_kinds;
@@ -49,6 +50,7 @@ mod site_list;
 mod sites;
 mod slot_law;
 mod slots;
+mod special;
 mod tables;
 mod units;
 

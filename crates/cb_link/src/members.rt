@@ -33,6 +33,14 @@ impl Program {
         self.linked(method).class
     }
 
+    /// A method's place among those of the class that declares it.
+    pub fn place_of(&self, method: u32) -> u32
+        requires { method < length self.now.methods }
+        ensures { option_map (λ linked. linked.place) (slice_get self.now.methods method) ≡ Some result }
+    {
+        self.linked(method).place
+    }
+
     /// The record of a method.
     pub fn method(&self, method: u32) -> &Method
         requires { method < length self.now.methods }

@@ -1,23 +1,18 @@
 -- Calls and returns (JVMS §2.6.4, §6.5 invokestatic to invokeinterface, ireturn to return; §5.4.5). A native is performed within the step
 -- of its caller.
-use Rattle.std.specs.Prelude.{ℕ, Bool, false, List, [], ◌∷◌, ◌++◌, map, drop, reverse, Option, Some, None, codes, option_and_then, option_map, slice_get, not, ◌==◌, ◌&&◌, if◌then◌else◌}
-use Rattle.std.specs.List.{list_any}
+use Rattle.std.specs.Prelude.{ℕ, Bool, List, [], ◌∷◌, ◌++◌, map, reverse, Option, Some, None, option_and_then, option_map, if◌then◌else◌}
 use Rattle.cb_classfile.specs.declared.body.Body.{Body}
-use Rattle.cb_classfile.specs.declared.method.Method.{Method}
-use Rattle.cb_classfile.specs.Pool.{text_at}
-use Rattle.cb_hierarchy.specs.Classes.{superclass}
-use Rattle.cb_hierarchy.specs.Orders.{upwards}
-use Rattle.cb_hierarchy.specs.Resolution.{first_of, is_private, method_is, most_specific}
-use Rattle.cb_hierarchy.specs.Selection.{declared_upwards, first_or, found, found_among}
+use Rattle.cb_hierarchy.specs.Resolution.{is_private, method_is}
 use Rattle.cb_hierarchy.specs.declared.selected.Selected.{Selected}
 use Rattle.cb_hierarchy.specs.declared.selected.Selected.TheVariants as chosen
-use Rattle.cb_kinds.specs.Texts.{number_of, same_text}
+use Rattle.cb_kinds.specs.Texts.{number_of}
 use Rattle.cb_library.specs.declared.native.Native.{Native}
 use Rattle.cb_link.specs.Calls.{select}
 use Rattle.cb_link.specs.Having.{parameters_at}
-use Rattle.cb_link.specs.Named.{behind_in, code_at, named}
-use Rattle.cb_link.specs.Numbers.{Numbered, class_number, hierarchy, or_none, ranked_methods}
+use Rattle.cb_link.specs.Named.{behind_in, code_at}
+use Rattle.cb_link.specs.Numbers.{class_number, ranked_methods}
 use Rattle.cb_link.specs.Program.{Linked}
+use Rattle.cb_link.specs.Special.{class_declaring, holder_named, method_numbered, special}
 use Rattle.cb_link.specs.Subtypes.{instance}
 use Rattle.cb_link.specs.declared.named.Named.{Named}
 use Rattle.cb_link.specs.declared.named.Named.TheVariants as meanings
@@ -27,11 +22,9 @@ use Rattle.cb_plain.specs.State.{Frame, MethodFrame, OfMethod}
 use Rattle.cb_plain.specs.Updates.{with_frames}
 use Rattle.cb_shapes.specs.declared.sort.Sort.{Sort}
 use Rattle.cb_shapes.specs.declared.sort.Sort.TheVariants as sorts
-use Rattle.cb_text.specs.Naming.{member_at}
 use Rattle.cb_machine.specs.Arrays.{with_object}
 use Rattle.cb_machine.specs.Entering.{entered_upon}
 use Rattle.cb_machine.specs.Initialising.{once_ready}
-use Rattle.cb_machine.specs.Machine.{class_declaring, method_numbered}
 use Rattle.cb_machine.specs.Natives.{native_of, performed}
 use Rattle.cb_machine.specs.Performing.{Performed, Gives, Stops}
 use Rattle.cb_machine.specs.Plans.{Plan, leaving, with_left}
@@ -112,12 +105,8 @@ abbrev pub invokes_virtual : Now → Option Plan
 invokes_virtual now = calls_virtual now (named_here now)
 
 -- the class or interface whose member a call names
-abbrev named_class : Linked → Option (Numbered Method) → ℕ → Option (List ℕ)
-named_class program None index = None
-named_class program (Some method) index = option_map (λ member. member.class) (member_at method.pool index)
-
 abbrev holder_name : Now → ℕ → Option (List ℕ)
-holder_name now index = named_class now.machine.program (method_numbered now.machine.program now.frame.method) index
+holder_name now index = holder_named now.machine.program now.frame.method index
 
 -- invokeinterface selects where the object's class implements the interface, and else ends as where several are selected. A private
 -- method can't be invoked so, whatever the object (§6.5 invokeinterface)
@@ -137,58 +126,7 @@ calls_interface now index other = None
 abbrev pub invokes_interface : Now → ℕ → Option Plan
 invokes_interface now index = calls_interface now index (named_here now)
 
--- invokespecial of a method of a proper superclass selects from the direct superclass upwards, where a private method counts too. Else it
--- is the method that was resolved, as for constructors; but where that is one of several that superinterfaces of the named class or
--- interface have, it is what these come to
-abbrev is_among : ℕ → List ℕ → Bool
-is_among class classes = list_any (λ other. other == class) classes
-
-abbrev signature_of : Linked → ℕ → Option ℕ
-signature_of program method = option_map (λ ranked. ranked.declared.signature) (slice_get (ranked_methods program.classes) method)
-
-abbrev selected_from : Linked → ℕ → ℕ → Selected
-selected_from program class signature =
-    first_or (ranked_methods program.classes) (first_of (declared_upwards (hierarchy program.classes) (ranked_methods program.classes) class signature))
-    (most_specific (hierarchy program.classes) (ranked_methods program.classes) class signature)
-
-abbrev or_abstract : Option Selected → Selected
-or_abstract None = chosen.Abstract
-or_abstract (Some selected) = selected
-
-abbrev from_superclass : Linked → ℕ → List ℕ → Selected
-from_superclass program method [] = found (ranked_methods program.classes) method
-from_superclass program method (class ∷ none) = or_abstract (option_map (selected_from program class) (signature_of program method))
-
-abbrev of_interfaces : Linked → ℕ → ℕ → Selected
-of_interfaces program named signature = found_among (most_specific (hierarchy program.classes) (ranked_methods program.classes) named signature)
-
-abbrev declared_above : Linked → ℕ → Option ℕ → Bool
-declared_above program named None = false
-declared_above program named (Some class) = is_among class (upwards (hierarchy program.classes) named)
-
-abbrev as_resolved : Linked → ℕ → Option ℕ → Selected
-as_resolved program method None = found (ranked_methods program.classes) method
-as_resolved program method (Some named) =
-    if declared_above program named (class_declaring program method) then found (ranked_methods program.classes) method
-    else or_abstract (option_map (of_interfaces program named) (signature_of program method))
-
-abbrev is_constructor : Linked → ℕ → Bool
-is_constructor program method = by_name (method_numbered program method) where
-  by_name : Option (Numbered Method) → Bool
-  by_name None = false
-  by_name (Some numbered) = same_text (or_none (text_at numbered.pool numbered.member.name)) (codes "<init>")
-
-abbrev is_proper : Linked → ℕ → Option ℕ → Bool
-is_proper program class None = false
-is_proper program class (Some named) = is_among named (drop 1 (upwards (hierarchy program.classes) class))
-
-abbrev special : Linked → ℕ → Option ℕ → Option ℕ → Selected
-special program method None named = chosen.Abstract
-special program method (Some class) named =
-    if not (is_constructor program method) && is_proper program class named
-    then from_superclass program method (superclass (hierarchy program.classes) class)
-    else as_resolved program method named
-
+-- which method an invokespecial runs isn't said of the object
 abbrev calls_special : Now → ℕ → Named → Option Plan
 calls_special now index (meanings.Method method) =
     calls now (λ kind. special now.machine.program method (class_declaring now.machine.program now.frame.method)

@@ -1,5 +1,4 @@
 pub mod Answering
-pub mod Arithmetic
 pub mod Arrays
 pub mod Boxes
 pub mod Branching
@@ -10,7 +9,6 @@ pub mod Copying
 pub mod Creating
 pub mod Entering
 pub mod Enums
-pub mod Expression
 pub mod Fields
 pub mod Initialising
 pub mod Laid
@@ -21,7 +19,6 @@ pub mod Natives
 pub mod Outside
 pub mod Performing
 pub mod Plans
-pub mod Printing
 pub mod Runs
 pub mod Sites
 pub mod Small

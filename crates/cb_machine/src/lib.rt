@@ -1,21 +1,17 @@
 //! The meaning of programs.
 //!
-//! `specs/` says what a linked and typed program does: the machine that never frees an object. Its files are to be read in this order:
-//! in `cb_plain` the state, what can be reached, states with one thing changed, how deep frames go and how room is asked for (`State`,
+//! `specs/` says what a linked and typed program does: the machine that never frees an object. Its files are to be read in this order: in
+//! `cb_plain` the state, what can be reached, states with one thing changed, how deep frames go and how room is asked for (`State`,
 //! `Reach`, `Roots`, `Updates`, `Depth`, `Requests`); machines, numbers of classes and sites (`Machine`, `Library`, `Sites`); what a step
 //! places and leaves (`Plans`); values, and where a machine stands at an instruction (`Values`, `Standing`); exceptions, strings, the entry
-//! of methods, initialisation and handlers (`Throwing`, `Strings`, `Entering`, `Initialising`, `Unwinding`); the shapes of instructions (`Computing`, `Locals`, `Branching`, `Arrays`, `Fields`, `Creating`, `Testing`); the natives
-//! (`Performing`, `Texts`, `Builders`, `Boxes`, `Copying`, `Outside`, `Answering`, `Enums`, `Natives`); calls (`Calling`); the step, the
-//! start and runs (`Steps`, `Starting`, `Runs`). Nothing runs by them yet. Small programs (`Laid`, `Small`) are computed by the check.
-//!
-//! Until something does, programs of the first form run by the rest: expressions over 32-bit ints, whose value is defined on their tree
-//! (`Arithmetic`, `Expression`, `Printing`).
+//! of methods, initialisation and handlers (`Throwing`, `Strings`, `Entering`, `Initialising`, `Unwinding`); the shapes of instructions
+//! (`Computing`, `Locals`, `Branching`, `Arrays`, `Fields`, `Creating`, `Testing`); the natives (`Performing`, `Texts`, `Builders`,
+//! `Boxes`, `Copying`, `Outside`, `Answering`, `Enums`, `Natives`); calls (`Calling`); the step, the start and runs (`Steps`, `Starting`,
+//! `Runs`). Small programs (`Laid`, `Small`) are computed by the check. There is no code but the answer of how a run ends.
 #![tactic(auto)]
 
 mod law;
-mod operator;
 mod outcome;
 
 pub use law::{numbers_as_said, small_failures, small_requests, small_runs, small_switches};
-pub use operator::Operator;
 pub use outcome::Outcome;

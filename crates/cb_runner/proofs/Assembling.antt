@@ -8,11 +8,11 @@ use Rattle.cb_io.specs.Folder.{Files}
 use Rattle.cb_runner.specs.declared.input.Input.TheVariants.{Whole, TooLong}
 use Rattle.cb_runner.specs.declared.refusal.Quantity.TheVariants.{AssemblyBytes}
 use Rattle.cb_runner.specs.declared.stop.Stop.{Stop}
-use Rattle.cb_runner.specs.declared.stop.Stop.TheVariants.{InputFault, OutOfMemory}
+use Rattle.cb_runner.specs.declared.stop.Stop.TheVariants.{InputFault, OutOfMemory, Told}
 use Rattle.cb_runner.specs.Answer.{EndsIn, MayRead, OfInput, OfMemory}
 use Rattle.cb_runner.specs.Asm.{AssemblesText, TooLong as LongText, text_limit}
 use Rattle.cb_runner.specs.Ending.{Ending}
-use Rattle.cb_runner.specs.Inner.{HasRead, IsCarriedOut, IsRefusal, Makes, PrintsMade, Reads, ending_of}
+use Rattle.cb_runner.specs.Inner.{HasRead, IsCarriedOut, IsRefusal, Makes, PrintsMade, Reads, TellsWhole, ending_of}
 use Rattle.cb_runner.specs.Messages.{TooLarge}
 use Rattle.cb_runner.specs.Words.{Assemble}
 use Rattle.cb_runner.proofs.Endings.{ends_by, printed_so, refused_so, unmade}
@@ -44,7 +44,7 @@ whole_text before now known taken text made stop printed (moved, end, short) mak
   read = length text.items;
   appends = appends;
   left = consumed before now text.items moved;
-  ends = λ files. ends_by Assemble files before (AssemblesText text.items) (length text.items) stop printed (λ ending assembles. (text.items, Consumes-whole before now text.items (λ left. left ≡ text.items) moved end refl, assembles)) (length text.items, may_read before now text.items (text_limit + 1) moved (omega (arith, short)), refl) (printed_so (AssemblesText text.items) (length text.items) made stop printed makes prints);
+  ends = λ files. ends_by Assemble files before (AssemblesText text.items) (length text.items) stop printed (λ ending assembles. (text.items, Consumes-whole before now text.items (λ left. left ≡ text.items) moved end refl, assembles)) (length text.items, may_read before now text.items (text_limit + 1) moved (omega (arith, short)), refl) (λ whole assembles front prefix. (whole, assembles, front, prefix, refl)) (printed_so (AssemblesText text.items) (length text.items) made stop printed makes prints);
 }
 
 pub long_input : (before now known : Option (List ℕ)) (stop : Stop) → Appends known known [] → Reads text_limit before now (Ok TooLong) → IsRefusal (TooLarge AssemblyBytes (text_limit + 1) text_limit) stop → IsCarriedOut (AsmEnds before) before now known known stop
@@ -57,7 +57,7 @@ long_input before now known stop nothing (front, moved, size, most) refusal =
       read = text_limit + 1;
       appends = nothing;
       left = subst (λ read. IfSome before (λ left. now ≡ Some (drop read left))) size (consumed before now front moved);
-      ends = λ files. ends_by Assemble files before (AssemblesText text) (text_limit + 1) stop [] (λ ending assembles. (text, is_text, assembles)) (text_limit + 1, subst (λ read. MayRead before (text_limit + 1) read) size may, refl) (unmade (AssemblesText text) (text_limit + 1) stop refused);
+      ends = λ files. ends_by Assemble files before (AssemblesText text) (text_limit + 1) stop [] (λ ending assembles. (text, is_text, assembles)) (text_limit + 1, subst (λ read. MayRead before (text_limit + 1) read) size may, refl) (λ whole assembles front prefix. (whole, assembles, front, prefix, refl)) (unmade (AssemblesText text) (text_limit + 1) stop refused);
     }
 
 -- the input was read so far, and then a call failed or there was no memory
@@ -74,3 +74,8 @@ pub cut_input : (before now known : Option (List ℕ)) (stop : Stop) → Appends
 cut_input before now known InputFault nothing (read, has) = unread before now known InputFault text_limit read nothing has (λ files may. inr (OfInput, (read, may, refl)))
 cut_input before now known OutOfMemory nothing (read, has) = unread before now known OutOfMemory (text_limit + 1) read nothing has (λ files may. inr (OfMemory, (read, may, refl)))
 cut_input before now known stop nothing reads = absurd reads
+
+-- which tells no cause of a run
+pub unread_tells : (limit : ℕ) (before now : Option (List ℕ)) (stop : Stop) → Reads limit before now (Err stop) → TellsWhole stop
+unread_tells limit before now (Told cause text) reads = absurd reads
+unread_tells limit before now stop reads = tt

@@ -1,41 +1,53 @@
 -- What crates above may cite. No other file of these proofs is for them.
-use Rattle.std.proofs.Common.{◌≡◌, ◌⊎◌, inl, inr, ℕ, List, Option, Some, None, refl, sym, ◌∙◌, ap}
+use Rattle.std.proofs.Common.{◌≡◌, ◌⊎◌, inl, inr, ℕ, List, Option, Some, None, IsTrue, refl, sym, ◌∙◌, ap, subst}
+use Rattle.std.proofs.lemmas.Bool.{false≢true}
 use Rattle.cb_io.specs.Folder.{Files}
+use Rattle.cb_link.specs.Program.{Linked}
 use Rattle.cb_runner.specs.declared.cause.Cause.{Cause}
-use Rattle.cb_runner.specs.declared.cause.Cause.TheVariants.{Returned, Usage, Refused, FolderFault, InputFault, OutputFault, ErrFault, OutOfMemory}
-use Rattle.cb_runner.specs.Answer.{Answers, Ends, EndsIn, Fault, IsCutShort, IsTold, IsWhole, OfMemory, OfFolder, OfInput, OfOutput}
+use Rattle.cb_runner.specs.declared.cause.Cause.TheVariants.{Usage, FolderFault, InputFault, OutputFault, ErrFault, OutOfMemory}
+use Rattle.cb_runner.specs.Answer.{Answers, Ends, EndsIn, Fault, IsCutShort, IsTold, IsWhole, OfMemory, OfFolder, OfInput, OfOutput, ends_whole}
 use Rattle.cb_runner.specs.Asm.{AssemblesText, TooLong, Assembled, Bad}
 use Rattle.cb_runner.specs.Ending.{Ending}
 use Rattle.cb_runner.specs.List.{ListsBytes, ListsFile, OfVersion, OfNoClass, OfItem, Listed}
-use Rattle.cb_runner.specs.Run.{RunsClass, RunsFile, Stopped, Typed, Untyped}
+use Rattle.cb_runner.specs.Run.{RunsClass, Stopped, Typed, Untyped}
+use Rattle.cb_runner.specs.Running.{EndsRun, Returns, Throws, Spends, Fills, LeavesOut}
 use Rattle.cb_runner.specs.Words.{Command, RunIn, ListOf, Assemble, SaysNone}
 
--- a command that nothing cuts short returns or is refused
-runs_whole : (main : List ℕ) (file : Option (List ℕ)) (ending : Ending) → RunsFile main file ending → IsWhole ending
-runs_whole main None ending is = inr (ap (λ e. e.cause) is)
-runs_whole main (Some bytes) ending (inl (program, file, is)) = inl (ap (λ e. e.cause) is)
-runs_whole main (Some bytes) ending (inr (none, is)) = inr (ap (λ e. e.cause) is)
+-- whether an end is whole, its cause says
+pub whole_by : (ending other : Ending) → ending ≡ other → IsWhole other → IsWhole ending
+whole_by ending other is whole = subst IsWhole (sym is) whole
+
+pub cause_whole : (one other : Cause) → one ≡ other → IsTrue (ends_whole one) → IsTrue (ends_whole other)
+cause_whole one other is whole = subst (λ cause. IsTrue (ends_whole cause)) is whole
+
+-- a command that nothing cuts short returns or is refused, or the program that it runs ends in another way
+pub ends_run_whole : (main : List ℕ) (program : Linked) (ending : Ending) → EndsRun main program ending → IsWhole ending
+ends_run_whole main program ending (Returns count within returns is) = whole_by ending _ is refl
+ends_run_whole main program ending (Throws count serial object units within throws there tells is) = whole_by ending _ is refl
+ends_run_whole main program ending (Spends runs is) = whole_by ending _ is refl
+ends_run_whole main program ending (Fills count below fills is) = whole_by ending _ is refl
+ends_run_whole main program ending (LeavesOut count below is) = whole_by ending _ is refl
 
 runs_class_whole : (files : Option Files) (folder main : List ℕ) (ending : Ending) → RunsClass files folder main ending → IsWhole ending
-runs_class_whole files folder main ending (Stopped library refusal reason known stops says is) = inr (ap (λ e. e.cause) is)
-runs_class_whole files folder main ending (Untyped library classes method reason known loaded good untyped is) = inr (ap (λ e. e.cause) is)
-runs_class_whole files folder main ending (Typed library classes method file known loaded good typed may runs) = runs_whole main file ending runs
+runs_class_whole files folder main ending (Stopped library refusal reason known stops says is) = whole_by ending _ is refl
+runs_class_whole files folder main ending (Untyped library classes method reason known loaded good untyped is) = whole_by ending _ is refl
+runs_class_whole files folder main ending (Typed program runnable runs) = ends_run_whole main program ending runs
 
 lists_bytes_whole : (path bytes : List ℕ) (ending : Ending) → ListsBytes path bytes ending → IsWhole ending
-lists_bytes_whole path bytes ending (Listed class listed is) = inl (ap (λ e. e.cause) is)
-lists_bytes_whole path bytes ending (OfVersion major has other is) = inr (ap (λ e. e.cause) is)
-lists_bytes_whole path bytes ending (OfNoClass versions none is) = inr (ap (λ e. e.cause) is)
-lists_bytes_whole path bytes ending (OfItem item leaves is) = inr (ap (λ e. e.cause) is)
+lists_bytes_whole path bytes ending (Listed class listed is) = whole_by ending _ is refl
+lists_bytes_whole path bytes ending (OfVersion major has other is) = whole_by ending _ is refl
+lists_bytes_whole path bytes ending (OfNoClass versions none is) = whole_by ending _ is refl
+lists_bytes_whole path bytes ending (OfItem item leaves is) = whole_by ending _ is refl
 
 lists_whole : (path : List ℕ) (file : Option (List ℕ)) (ending : Ending) → ListsFile path file ending → IsWhole ending
-lists_whole path None ending is = inr (ap (λ e. e.cause) is)
-lists_whole path (Some bytes) ending (inl (long, is)) = inr (ap (λ e. e.cause) is)
+lists_whole path None ending is = whole_by ending _ is refl
+lists_whole path (Some bytes) ending (inl (long, is)) = whole_by ending _ is refl
 lists_whole path (Some bytes) ending (inr (short, lists)) = lists_bytes_whole path bytes ending lists
 
 assembles_whole : (text : List ℕ) (ending : Ending) → AssemblesText text ending → IsWhole ending
-assembles_whole text ending (TooLong long is) = inr (ap (λ e. e.cause) is)
-assembles_whole text ending (Assembled short class text_of is) = inl (ap (λ e. e.cause) is)
-assembles_whole text ending (Bad short line stops is) = inr (ap (λ e. e.cause) is)
+assembles_whole text ending (TooLong long is) = whole_by ending _ is refl
+assembles_whole text ending (Assembled short class text_of is) = whole_by ending _ is refl
+assembles_whole text ending (Bad short line stops is) = whole_by ending _ is refl
 
 pub answers_whole : (command : Command) (files : Option Files) (left : Option (List ℕ)) (ending : Ending) → Answers command files left ending → IsWhole ending
 answers_whole (RunIn folder main) files left ending runs = runs_class_whole files folder main ending runs
@@ -51,7 +63,8 @@ fault_cause OfOutput = OutputFault
 
 pub cut_cause : (fault : Fault) (command : Command) (files : Option Files) (left : Option (List ℕ)) (ending : Ending) → IsCutShort fault command files left ending → ending.cause ≡ fault_cause fault
 unfolding fault_cause
-cut_cause OfMemory (RunIn folder main) files left ending is = ap (λ e. e.cause) is
+cut_cause OfMemory (RunIn folder main) files left ending (inl is) = ap (λ e. e.cause) is
+cut_cause OfMemory (RunIn folder main) files left ending (inr (program, runnable, (count, within, is))) = ap (λ e. e.cause) is
 cut_cause OfMemory (ListOf path) files left ending is = ap (λ e. e.cause) is
 cut_cause OfMemory Assemble files left ending (read, may, is) = ap (λ e. e.cause) is
 cut_cause OfFolder (RunIn folder main) files left ending is = ap (λ e. e.cause) is
@@ -60,25 +73,19 @@ cut_cause OfFolder Assemble files left ending is = absurd is
 cut_cause OfInput (RunIn folder main) files left ending is = absurd is
 cut_cause OfInput (ListOf path) files left ending is = absurd is
 cut_cause OfInput Assemble files left ending (read, may, is) = ap (λ e. e.cause) is
-cut_cause OfOutput command files left ending (whole, answers, front, prefix, is) = ap (λ e. e.cause) is
+cut_cause OfOutput (RunIn folder main) files left ending (program, runnable, (count, more, front, below, prints, prefix, is)) = ap (λ e. e.cause) is
+cut_cause OfOutput (ListOf path) files left ending (whole, answers, front, prefix, is) = ap (λ e. e.cause) is
+cut_cause OfOutput Assemble files left ending (whole, answers, front, prefix, is) = ap (λ e. e.cause) is
 
 -- a command that is cut short isn't whole
 pub cut_whole : (fault : Fault) (ending : Ending) → ending.cause ≡ fault_cause fault → IsWhole ending → ⊥
 unfolding fault_cause
-cut_whole OfMemory ending cut (inl is) = let no : OutOfMemory ≡ Returned = sym cut ∙ is in cc
-cut_whole OfMemory ending cut (inr is) = let no : OutOfMemory ≡ Refused = sym cut ∙ is in cc
-cut_whole OfFolder ending cut (inl is) = let no : FolderFault ≡ Returned = sym cut ∙ is in cc
-cut_whole OfFolder ending cut (inr is) = let no : FolderFault ≡ Refused = sym cut ∙ is in cc
-cut_whole OfInput ending cut (inl is) = let no : InputFault ≡ Returned = sym cut ∙ is in cc
-cut_whole OfInput ending cut (inr is) = let no : InputFault ≡ Refused = sym cut ∙ is in cc
-cut_whole OfOutput ending cut (inl is) = let no : OutputFault ≡ Returned = sym cut ∙ is in cc
-cut_whole OfOutput ending cut (inr is) = let no : OutputFault ≡ Refused = sym cut ∙ is in cc
+cut_whole OfMemory ending cut whole = false≢true (cause_whole ending.cause OutOfMemory cut whole)
+cut_whole OfFolder ending cut whole = false≢true (cause_whole ending.cause FolderFault cut whole)
+cut_whole OfInput ending cut whole = false≢true (cause_whole ending.cause InputFault cut whole)
+cut_whole OfOutput ending cut whole = false≢true (cause_whole ending.cause OutputFault cut whole)
 
 -- an end of words that say a command isn't that of words that say none
-whole_says : (ending : Ending) → IsWhole ending → ending.cause ≡ Usage → ⊥
-whole_says ending (inl is) cause_is = let no : Returned ≡ Usage = sym is ∙ cause_is in cc
-whole_says ending (inr is) cause_is = let no : Refused ≡ Usage = sym is ∙ cause_is in cc
-
 cut_says : (fault : Fault) (ending : Ending) → ending.cause ≡ fault_cause fault → ending.cause ≡ Usage → ⊥
 unfolding fault_cause
 cut_says OfMemory ending cut cause_is = let no : OutOfMemory ≡ Usage = sym cut ∙ cause_is in cc
@@ -86,10 +93,14 @@ cut_says OfFolder ending cut cause_is = let no : FolderFault ≡ Usage = sym cut
 cut_says OfInput ending cut cause_is = let no : InputFault ≡ Usage = sym cut ∙ cause_is in cc
 cut_says OfOutput ending cut cause_is = let no : OutputFault ≡ Usage = sym cut ∙ cause_is in cc
 
-ends_none : (words : List (List ℕ)) (files : Option Files) (left : Option (List ℕ)) (ending : Ending) → Ends words files left ending → ending.cause ≡ Usage → SaysNone words
+pub ends_none : (words : List (List ℕ)) (files : Option Files) (left : Option (List ℕ)) (ending : Ending) → Ends words files left ending → ending.cause ≡ Usage → SaysNone words
 ends_none words files left ending (inl (none, is)) cause_is = none
-ends_none words files left ending (inr (command, says, inl answers)) cause_is = absurd (whole_says ending (answers_whole command files left ending answers) cause_is)
+ends_none words files left ending (inr (command, says, inl answers)) cause_is = absurd (false≢true (cause_whole ending.cause Usage cause_is (answers_whole command files left ending answers)))
 ends_none words files left ending (inr (command, says, inr (fault, cut))) cause_is = absurd (cut_says fault ending (cut_cause fault command files left ending cut) cause_is)
+
+pub none_ends : (words : List (List ℕ)) (files : Option Files) (left : Option (List ℕ)) (ending : Ending) → Ends words files left ending → SaysNone words → ending.cause ≡ Usage
+none_ends words files left ending (inl (none, is)) says_none = ap (λ e. e.cause) is
+none_ends words files left ending (inr (command, says, more)) says_none = absurd (says_none command says)
 
 -- the cause of a call tells words that say none
 pub told_none : (words : List (List ℕ)) (files : Option Files) (left before now : Option (List ℕ)) (ending : Ending) (cause : Cause) → Ends words files left ending → IsTold ending cause before now → cause ≡ Usage → SaysNone words
@@ -103,13 +114,9 @@ none_told words files left before now ending cause (inl (says_none, is)) (inl (s
 none_told words files left before now ending cause (inr (command, says, more)) (inl (same, appends)) none = absurd (none command says)
 
 -- `asm` alone asks the input, and it doesn't ask the folder
-whole_asks : (ending : Ending) (cause : Cause) → IsWhole ending → ending.cause ≡ cause → (cause ≡ Returned → ⊥) → (cause ≡ Refused → ⊥) → ⊥
-whole_asks ending cause (inl is) cause_is returns refuses = returns (sym cause_is ∙ is)
-whole_asks ending cause (inr is) cause_is returns refuses = refuses (sym cause_is ∙ is)
-
 pub asks_input : (command : Command) (files : Option Files) (left : Option (List ℕ)) (ending : Ending) → EndsIn command files left ending → ending.cause ≡ InputFault → command ≡ Assemble
 unfolding fault_cause
-asks_input command files left ending (inl answers) is = absurd (whole_asks ending InputFault (answers_whole command files left ending answers) is (λ no. cc) (λ no. cc))
+asks_input command files left ending (inl answers) is = absurd (false≢true (cause_whole ending.cause InputFault is (answers_whole command files left ending answers)))
 asks_input Assemble files left ending (inr (fault, cut)) is = refl
 asks_input (RunIn folder main) files left ending (inr (OfInput, cut)) is = absurd cut
 asks_input (ListOf path) files left ending (inr (OfInput, cut)) is = absurd cut
@@ -119,7 +126,7 @@ asks_input command files left ending (inr (OfOutput, cut)) is = let no : OutputF
 
 pub asks_folder : (files : Option Files) (left : Option (List ℕ)) (ending : Ending) → EndsIn Assemble files left ending → ending.cause ≡ FolderFault → ⊥
 unfolding fault_cause
-asks_folder files left ending (inl answers) is = whole_asks ending FolderFault (answers_whole Assemble files left ending answers) is (λ no. cc) (λ no. cc)
+asks_folder files left ending (inl answers) is = false≢true (cause_whole ending.cause FolderFault is (answers_whole Assemble files left ending answers))
 asks_folder files left ending (inr (OfFolder, cut)) is = cut
 asks_folder files left ending (inr (OfMemory, cut)) is = let no : OutOfMemory ≡ FolderFault = sym (cut_cause OfMemory Assemble files left ending cut) ∙ is in cc
 asks_folder files left ending (inr (OfInput, cut)) is = let no : InputFault ≡ FolderFault = sym (cut_cause OfInput Assemble files left ending cut) ∙ is in cc

@@ -1,5 +1,3 @@
-pub mod Lines
-pub mod Running
 pub mod Reading
 pub mod FewItems
 pub mod Digits
@@ -10,3 +8,7 @@ pub mod RunOnce
 pub mod Listing
 pub mod Assembling
 pub mod Laws
+pub mod CopiedLists
+pub mod Executed
+pub mod Begun
+pub mod Told

@@ -1,24 +1,17 @@
 -- How a run ends that nothing cuts short, where the folder tells its files and linking has one outcome.
-use Rattle.std.proofs.Common.{◌≡◌, inl, inr, ◌↔◌, ◌++◌, ℕ, ◌<◌, List, Option, Some, None, sym, ◌∙◌, ap, subst, arith}
-use Rattle.std.specs.Prelude.{IsSomeAnd}
+use Rattle.std.proofs.Common.{◌≡◌, ◌++◌, ℕ, ◌<◌, List, Option, Some, None, sym, ◌∙◌, ap, subst, arith}
 use Rattle.cb_io.specs.Folder.{Files}
-use Rattle.cb_io.specs.Utf8.{utf8}
-use Rattle.cb_machine.specs.Expression.{Expression}
-use Rattle.cb_machine.specs.Printing.{printed}
-use Rattle.cb_first_form.specs.FirstForm.{SpellsProgram}
 use Rattle.cb_classfile.specs.declared.class.ClassFile.{ClassFile}
 use Rattle.cb_link.specs.declared.refusal.Refusal.{Refusal}
-use Rattle.cb_load.specs.Files.{MayStandAt, path_of}
 use Rattle.cb_link.specs.Judging.{IsNoProgram, IsProgram}
 use Rattle.cb_load.specs.Linking.{Behind, InLoading}
 use Rattle.cb_load.specs.Loading.{AreLoaded, StopsFor}
 use Rattle.cb_link.specs.Program.{Linked, linked}
 use Rattle.cb_verify.specs.Typed.{IsTyped, fails_at}
-use Rattle.cb_runner.specs.declared.cause.Cause.TheVariants as causes
-use Rattle.cb_runner.specs.Ending.{Ending, refused, returned}
-use Rattle.cb_runner.specs.Messages.{Reason, NotYet}
-use Rattle.cb_runner.specs.Run.{AreNoProgram, AreProgram, IsProgramFile, RunsClass, RunsFile, Stopped, Typed, Untyped, AreTyped, AreUntyped, IsUntyped, reason_of_linking, reason_of_typing}
-use Rattle.cb_runner.proofs.Digits.{returns_unrefused}
+use Rattle.cb_runner.specs.Ending.{Ending, refused}
+use Rattle.cb_runner.specs.Messages.{Reason}
+use Rattle.cb_runner.specs.Run.{AreNoProgram, AreProgram, IsRunnable, RunsClass, Stopped, Typed, Untyped, AreTyped, AreUntyped, IsUntyped, reason_of_linking, reason_of_typing}
+use Rattle.cb_runner.specs.Running.{EndsRun}
 
 -- linking loads classes or stops, and stops for one reason; and what was loaded is a program, or none for one reason
 pub record LinksOnce (files : Files) (folder main : List ℕ) : Type 0 where
@@ -40,7 +33,7 @@ stopped_so files folder main ending refusal reason once (Stopped library told wh
     one_told told refusal why reason ending (once.same told refusal stops stopped) says gives is
 stopped_so files folder main ending refusal reason once (Stopped library told why known (Behind classes loaded none) says is) stopped gives = absurd (once.apart classes refusal loaded stopped)
 stopped_so files folder main ending refusal reason once (Untyped library classes method why known loaded good untyped is) stopped gives = absurd (once.apart classes refusal loaded stopped)
-stopped_so files folder main ending refusal reason once (Typed library classes method file known loaded good typed may runs) stopped gives = absurd (once.apart classes refusal loaded stopped)
+stopped_so files folder main ending refusal reason once (Typed program runnable runs) stopped gives = absurd (once.apart runnable.classes refusal runnable.loaded stopped)
 
 -- classes that are alike are one program
 same_program : (others classes library : List ClassFile) (main : List ℕ) (method : ℕ) → others ≡ classes → IsProgram (library ++ others) main method → IsProgram (library ++ classes) main method
@@ -54,8 +47,9 @@ judged_so files folder main ending classes refusal reason once (Stopped library 
     one_told told refusal why reason ending (once.reason (library ++ classes) told refusal here (none library known)) says gives is
 judged_so files folder main ending classes refusal reason once (Untyped library others method why known loaded_too good untyped is) loaded none gives =
     absurd (once.judged (library ++ classes) method refusal (same_program others classes library main method (once.alike others classes loaded_too loaded) good) (none library known))
-judged_so files folder main ending classes refusal reason once (Typed library others method file known loaded_too good typed may runs) loaded none gives =
-    absurd (once.judged (library ++ classes) method refusal (same_program others classes library main method (once.alike others classes loaded_too loaded) good) (none library known))
+judged_so files folder main ending classes refusal reason once (Typed program runnable runs) loaded none gives =
+    let same = once.alike runnable.classes classes runnable.loaded loaded in
+    absurd (once.judged (runnable.library ++ classes) runnable.method refusal (same_program runnable.classes classes runnable.library main runnable.method same runnable.good) (none runnable.library runnable.known))
 
 -- the first number at which a function gives something, and what it gives
 one_first : (fails : ℕ → Option ℕ) (one other pc place : ℕ) → fails one ≡ Some pc → ((number : ℕ) → number < one → fails number ≡ None) → fails other ≡ Some place → ((number : ℕ) → number < other → fails number ≡ None) → (one ≡ other) × (pc ≡ place)
@@ -90,40 +84,19 @@ untyped_so files folder main ending classes reason once (Untyped library others 
     let same = once.alike others classes loaded_too loaded in
     let told = subst (λ classes. IsUntyped (linked (library ++ classes) main method) why) same untyped_too in
     is ∙ ap (λ reason. refused reason 0) (one_reason (linked (library ++ classes) main method) why reason told (untyped library known method (same_program others classes library main method same good_too)))
-untyped_so files folder main ending classes reason once (Typed library others method file known loaded_too good_too typed may runs) loaded good untyped =
-    let same = once.alike others classes loaded_too loaded in
-    let told = subst (λ classes. IsTyped (linked (library ++ classes) main method)) same typed in
-    absurd (not_both (linked (library ++ classes) main method) reason told (untyped library known method (same_program others classes library main method same good_too)))
+untyped_so files folder main ending classes reason once (Typed program runnable runs) loaded good untyped =
+    let same = once.alike runnable.classes classes runnable.loaded loaded in
+    let told = subst (λ classes. IsTyped (linked (runnable.library ++ classes) main runnable.method)) same (subst IsTyped runnable.is runnable.typed) in
+    absurd (not_both (linked (runnable.library ++ classes) main runnable.method) reason told (untyped runnable.library runnable.known runnable.method (same_program runnable.classes classes runnable.library main runnable.method same runnable.good)))
 
--- one whose class is linked and typed, by the file of the class
-one_file : (files : Files) (path one other : Option (List ℕ)) → MayStandAt (Some files) path one → MayStandAt (Some files) path other → one ≡ other
-one_file files None one other is is_too = is ∙ sym is_too
-one_file files (Some path) one other is is_too = sym is ∙ is_too
-
-by_file : (files : Files) (folder main : List ℕ) (ending : Ending) (classes : List ClassFile) (file : Option (List ℕ)) → LinksOnce files folder main → RunsClass (Some files) folder main ending → AreLoaded (Some files) folder main classes → AreProgram classes main → AreTyped classes main → MayStandAt (Some files) (path_of folder main) file → RunsFile main file ending
-by_file files folder main ending classes file once (Stopped library refusal reason known (InLoading stops) says is) loaded good typed may = absurd (once.apart classes refusal loaded stops)
-by_file files folder main ending classes file once (Stopped library refusal reason known (Behind others loaded_too none) says is) loaded good typed may =
+-- one whose classes are a program that is typed runs that of its classes
+pub runs_so : (files : Files) (folder main : List ℕ) (ending : Ending) (classes : List ClassFile) → LinksOnce files folder main → RunsClass (Some files) folder main ending → AreLoaded (Some files) folder main classes → AreProgram classes main → AreTyped classes main → (program : Linked) × IsRunnable (Some files) folder main program × EndsRun main program ending
+runs_so files folder main ending classes once (Stopped library refusal reason known (InLoading stops) says is) loaded good typed = absurd (once.apart classes refusal loaded stops)
+runs_so files folder main ending classes once (Stopped library refusal reason known (Behind others loaded_too none) says is) loaded good typed =
     let (method, program) = good library known in
     absurd (once.judged (library ++ classes) method refusal program (subst (λ classes. IsNoProgram (library ++ classes) main refusal) (once.alike others classes loaded_too loaded) none))
-by_file files folder main ending classes file once (Untyped library others method reason known loaded_too good_too untyped is) loaded good typed may =
+runs_so files folder main ending classes once (Untyped library others method reason known loaded_too good_too untyped is) loaded good typed =
     let same = once.alike others classes loaded_too loaded in
     let told = subst (λ classes. IsUntyped (linked (library ++ classes) main method) reason) same untyped in
     absurd (not_both (linked (library ++ classes) main method) reason (typed library known method (same_program others classes library main method same good_too)) told)
-by_file files folder main ending classes file once (Typed library others method found known loaded_too good_too typed_too may_too runs) loaded good typed may =
-    subst (λ file. RunsFile main file ending) (one_file files (path_of folder main) found file may_too may) runs
-
-not_yet : (main : List ℕ) (file : Option (List ℕ)) (ending : Ending) → RunsFile main file ending → (ending ≡ refused (NotYet (utf8 main)) 0) ↔ ((program : List Expression) → ¬ IsSomeAnd file (λ bytes. IsProgramFile bytes program))
-not_yet main None ending is = (λ refuses. λ program none. none, λ none. is)
-not_yet main (Some bytes) ending (inl (program, file, is)) = (λ refuses. absurd (returns_unrefused ending (ap (λ e. e.cause) is) (ap (λ e. e.cause) refuses)), λ none. absurd (none program file))
-not_yet main (Some bytes) ending (inr (none, is)) = (λ refuses. none, λ none. is)
-
-pub not_yet_so : (files : Files) (folder main : List ℕ) (ending : Ending) (classes : List ClassFile) (file : Option (List ℕ)) → LinksOnce files folder main → RunsClass (Some files) folder main ending → AreLoaded (Some files) folder main classes → AreProgram classes main → AreTyped classes main → MayStandAt (Some files) (path_of folder main) file → (ending ≡ refused (NotYet (utf8 main)) 0) ↔ ((program : List Expression) → ¬ IsSomeAnd file (λ bytes. IsProgramFile bytes program))
-not_yet_so files folder main ending classes file once runs loaded good typed may = not_yet main file ending (by_file files folder main ending classes file once runs loaded good typed may)
-
-program_runs : (main bytes : List ℕ) (ending : Ending) (program : List Expression) → ((other : List Expression) → SpellsProgram bytes other → other ≡ program) → IsProgramFile bytes program → RunsFile main (Some bytes) ending → ending ≡ returned (printed program) 0
-program_runs main bytes ending program one file (inl (other, other_file, is)) = is ∙ ap (λ p. returned (printed p) 0) (one other other_file.spelled)
-program_runs main bytes ending program one file (inr (none, is)) = absurd (none program file)
-
-pub returned_so : (files : Files) (folder main bytes : List ℕ) (ending : Ending) (classes : List ClassFile) (program : List Expression) → ((other : List Expression) → SpellsProgram bytes other → other ≡ program) → LinksOnce files folder main → RunsClass (Some files) folder main ending → AreLoaded (Some files) folder main classes → AreProgram classes main → AreTyped classes main → MayStandAt (Some files) (path_of folder main) (Some bytes) → IsProgramFile bytes program → ending ≡ returned (printed program) 0
-returned_so files folder main bytes ending classes program one once runs loaded good typed may file =
-    program_runs main bytes ending program one file (by_file files folder main ending classes (Some bytes) once runs loaded good typed may)
+runs_so files folder main ending classes once (Typed program runnable runs) loaded good typed = (program, runnable, runs)

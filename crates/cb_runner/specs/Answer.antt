@@ -1,22 +1,38 @@
 -- What a call answers.
-use Rattle.std.specs.Prelude.{◌≡◌, ◌⊎◌, ℕ, ◌+◌, ◌≤◌, List, length, drop, Option, Some, IfSome}
+use Rattle.std.specs.Prelude.{◌≡◌, ◌⊎◌, ℕ, ◌+◌, ◌≤◌, Bool, true, false, IsTrue, List, length, drop, Option, Some, IfSome}
 use Rattle.std.specs.FinMap.{get}
 use Rattle.std.specs.Io.KnownBytes.{Appends}
 use Rattle.cb_io.specs.Faults.{CountsFaults}
 use Rattle.cb_io.specs.Folder.{Files}
 use Rattle.cb_io.specs.Sink.{AppendsProperPrefix, IsProperPrefix}
+use Rattle.cb_link.specs.Program.{Linked}
 use Rattle.cb_runner.specs.declared.cause.Cause.{Cause}
-use Rattle.cb_runner.specs.declared.cause.Cause.TheVariants.{Returned, Refused, FolderFault, InputFault, OutputFault, ErrFault}
+use Rattle.cb_runner.specs.declared.cause.Cause.TheVariants.{BudgetSpent, ErrFault, FolderFault, HeapFull, InputFault, NotYet, OutOfMemory, OutputFault, Refused, Returned, Uncaught, Usage}
 use Rattle.cb_runner.specs.Asm.{AssemblesText, text_limit}
 use Rattle.cb_runner.specs.Ending.{Ending, folder_fault, input_fault, out_of_memory, output_fault, usage}
 use Rattle.cb_runner.specs.List.{ListsFile}
 use Rattle.cb_runner.specs.Outside.{Content, Failures}
-use Rattle.cb_runner.specs.Run.{RunsClass}
+use Rattle.cb_runner.specs.Run.{IsRunnable, RunsClass}
+use Rattle.cb_runner.specs.Running.{CutsMemory, CutsOutput}
 use Rattle.cb_runner.specs.Words.{Command, RunIn, ListOf, Assemble, Says, SaysNone}
 
--- a command that nothing cuts short returns or is refused
+-- a command that nothing cuts short returns or is refused, or the program that it runs ends in another way
+abbrev pub ends_whole : Cause → Bool
+ends_whole Returned = true
+ends_whole (Uncaught class) = true
+ends_whole BudgetSpent = true
+ends_whole HeapFull = true
+ends_whole NotYet = true
+ends_whole Usage = false
+ends_whole Refused = true
+ends_whole FolderFault = false
+ends_whole InputFault = false
+ends_whole OutputFault = false
+ends_whole ErrFault = false
+ends_whole OutOfMemory = false
+
 abbrev pub IsWhole : Ending → Type 0
-IsWhole ending = (ending.cause ≡ Returned) ⊎ (ending.cause ≡ Refused)
+IsWhole ending = IsTrue (ends_whole ending.cause)
 
 -- the file at a path may have these bytes, or be missing. Where the folder tells its files, it is so; else it may be any
 abbrev pub MayStandAt : Option Files → List ℕ → Option (List ℕ) → Type 0
@@ -49,8 +65,11 @@ StopsShort OfFolder command left ending = ending ≡ folder_fault
 StopsShort OfInput Assemble left ending = (read : ℕ) × MayRead left text_limit read × (ending ≡ input_fault read)
 StopsShort fault command left ending = ⊥
 
--- it is cut short so, or within what it prints
+-- it is cut short so, or within what it prints. A run may be cut short behind each of its steps
 abbrev pub IsCutShort : Fault → Command → Option Files → Option (List ℕ) → Ending → Type 0
+IsCutShort OfMemory (RunIn folder main) files left ending =
+    (ending ≡ out_of_memory 0) ⊎ ((program : Linked) × IsRunnable files folder main program × CutsMemory program ending)
+IsCutShort OfOutput (RunIn folder main) files left ending = (program : Linked) × IsRunnable files folder main program × CutsOutput program ending
 IsCutShort OfOutput command files left ending =
     (whole : Ending) × Answers command files left whole × (front : List ℕ) × IsProperPrefix front whole.out × (ending ≡ output_fault front whole.read)
 IsCutShort fault command files left ending = StopsShort fault command left ending

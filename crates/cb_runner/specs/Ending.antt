@@ -2,15 +2,19 @@
 use Rattle.std.specs.Prelude.{ℕ, List, []}
 use Rattle.std.specs.Prelude.{codes}
 use Rattle.cb_runner.specs.declared.cause.Cause.{Cause}
-use Rattle.cb_runner.specs.declared.cause.Cause.TheVariants.{Returned, Usage, Refused, FolderFault, InputFault, OutputFault, ErrFault, OutOfMemory}
+use Rattle.cb_runner.specs.declared.cause.Cause.TheVariants.{BudgetSpent, ErrFault, FolderFault, HeapFull, InputFault, NotYet, OutOfMemory, OutputFault, Refused, Returned, Uncaught, Usage}
 use Rattle.cb_runner.specs.Messages.{Reason, line, refusal_text}
 
 -- the exit status of each cause
 abbrev pub status_of : Cause → ℕ
 status_of Returned = 0
+status_of (Uncaught class) = 1
 status_of OutOfMemory = 119
 status_of Usage = 120
 status_of Refused = 121
+status_of NotYet = 121
+status_of BudgetSpent = 122
+status_of HeapFull = 123
 status_of FolderFault = 124
 status_of InputFault = 125
 status_of OutputFault = 126
@@ -23,6 +27,10 @@ pub record Ending : Type 0 where
   pub out : List ℕ
   pub err : List ℕ
   pub read : ℕ
+
+-- that of a run, with these last words
+abbrev pub told : Cause → List ℕ → List ℕ → Ending
+told cause out err = record { cause = cause; out = out; err = err; read = 0 }
 
 -- one that has printed nothing, with this last line
 abbrev pub without_output : Cause → List ℕ → ℕ → Ending

@@ -1,21 +1,24 @@
 -- What private contracts and proofs cite: no public clause names this file.
-use Rattle.std.specs.Prelude.{◌≡◌, ℕ, ◌+◌, ◌<◌, ◌≤◌, Bool, true, false, List, [], ◌++◌, length, drop, codes, string_bytes, Vec, Result, Ok, Err, Option, Some, IfSome, IsSomeAnd}
+use Rattle.std.specs.Prelude.{◌≡◌, ◌⊎◌, map, pred, ℕ, ◌+◌, ◌<◌, ◌≤◌, Bool, true, false, List, [], ◌++◌, length, drop, codes, string_bytes, Vec, Result, Ok, Err, Option, Some, IfSome, IsSomeAnd, IsTrue}
 use Rattle.std.specs.Io.KnownBytes.{Appends, Consumes, IsAtEnd, Keeps}
 use Rattle.std.specs.declared.alloc.Global.{Global}
-use Rattle.cb_io.specs.Folder.{Files}
+use Rattle.cb_heap.specs.Reading.{seen, serial_of}
+use Rattle.cb_heap.specs.declared.no_room.NoRoom.TheVariants.{Full}
+use Rattle.cb_interp.specs.Starting.{BeginsWith, unread}
+use Rattle.cb_interp.specs.Texts.{TellsException}
+use Rattle.cb_interp.specs.Turning.{moment_of}
+use Rattle.cb_interp.specs.declared.end.End.{End}
+use Rattle.cb_interp.specs.declared.end.End.TheVariants as ends
+use Rattle.cb_io.specs.Utf8.{utf8}
+use Rattle.cb_mapheap.specs.Room.{rules_of}
+use Rattle.cb_plain.specs.State.{Object, Roots}
+use Rattle.cb_safety.specs.Heap.{IsHeap}
+use Rattle.cb_safety.specs.Kinds.{IsOfKind, kinds_of}
+use Rattle.cb_verify.specs.Within.{kind_of_throwable}
 use Rattle.cb_io.specs.Sink.{IsProperPrefix}
-use Rattle.cb_machine.specs.Expression.{Expression}
-use Rattle.cb_machine.specs.Printing.{printed}
-use Rattle.cb_first_form.specs.FirstForm.{SpellsProgram}
 use Rattle.cb_classfile.specs.declared.fault.ClassFault.{ClassFault}
 use Rattle.cb_classfile.specs.declared.fault.ClassFault.TheVariants as faults
-use Rattle.cb_io.specs.Utf8.{utf8}
-use Rattle.cb_classfile.specs.declared.class.ClassFile.{ClassFile}
-use Rattle.cb_classfile.specs.Library.{AreLibrary}
-use Rattle.cb_link.specs.Judging.{IsProgram}
-use Rattle.cb_load.specs.Loading.{AreLoaded}
-use Rattle.cb_link.specs.Program.{Linked, linked}
-use Rattle.cb_verify.specs.Typed.{IsTyped}
+use Rattle.cb_link.specs.Program.{Linked}
 use Rattle.cb_link.specs.declared.refusal.Refusal.{Refusal as LinkRefusal}
 use Rattle.cb_link.specs.declared.refusal.Refusal.TheVariants as link_refusals
 use Rattle.cb_runner.specs.declared.cause.Cause.{Cause}
@@ -24,12 +27,14 @@ use Rattle.cb_runner.specs.declared.input.Input.{Input}
 use Rattle.cb_runner.specs.declared.input.Input.TheVariants.{Whole, TooLong}
 use Rattle.cb_runner.specs.declared.refusal.Refusal.{Refusal}
 use Rattle.cb_runner.specs.declared.stop.Stop.{Stop}
-use Rattle.cb_runner.specs.declared.stop.Stop.TheVariants.{Returned, Usage, Refused, FolderFault, InputFault, OutputFault, OutOfMemory}
+use Rattle.cb_runner.specs.declared.stop.Stop.TheVariants.{FolderFault, InputFault, OutOfMemory, OutputFault, Refused, Returned, Told, Usage}
 use Rattle.cb_runner.specs.declared.words.Command.{Command as SaidCommand}
 use Rattle.cb_runner.specs.declared.words.Command.TheVariants as said_commands
+use Rattle.cb_runner.specs.Answer.{ends_whole}
 use Rattle.cb_runner.specs.Ending.{Ending, returned}
-use Rattle.cb_runner.specs.Messages.{Reason, BadVersion, Malformed, Unsupported, NotYet, line, reason_of, refusal_text}
+use Rattle.cb_runner.specs.Messages.{Reason, BadVersion, Malformed, NotYet, Unsupported, line, reason_of, refusal_text}
 use Rattle.cb_runner.specs.Run.{IsUntyped, reason_of_linking}
+use Rattle.cb_runner.specs.Running.{CutsMemory, CutsOutput, EndsRun, exception_line, full_line, machine_of, spent_line}
 use Rattle.cb_runner.specs.Words.{Command, RunIn, ListOf, Assemble, internal_name}
 
 -- the command that a value of the program is
@@ -43,6 +48,7 @@ abbrev pub cause_of : Stop → Cause
 cause_of Returned = causes.Returned
 cause_of Usage = causes.Usage
 cause_of (Refused text) = causes.Refused
+cause_of (Told cause text) = cause
 cause_of FolderFault = causes.FolderFault
 cause_of InputFault = causes.InputFault
 cause_of OutputFault = causes.OutputFault
@@ -52,6 +58,7 @@ abbrev pub line_of : Stop → List ℕ
 line_of Returned = []
 line_of Usage = line (codes "these words are no command")
 line_of (Refused text) = string_bytes text
+line_of (Told cause text) = string_bytes text
 line_of FolderFault = line (codes "folder fault")
 line_of InputFault = line (codes "input fault")
 line_of OutputFault = line (codes "output fault")
@@ -60,6 +67,11 @@ line_of OutOfMemory = line (codes "out of memory")
 -- the end of a call that stopped so, printed these bytes and read so many
 abbrev pub ending_of : Stop → List ℕ → ℕ → Ending
 ending_of stop out read = record { cause = cause_of stop; out = out; err = line_of stop; read = read }
+
+-- the cause that a program which was run is told to have ended for is one of a run that nothing cut short
+abbrev pub TellsWhole : Stop → Type 0
+TellsWhole (Told cause text) = IsTrue (ends_whole cause)
+TellsWhole other = Unit {0}
 
 -- it is refused for this reason, or there was no memory for its line
 abbrev pub IsRefusal : Reason → Stop → Type 0
@@ -130,13 +142,47 @@ StopsBy MayEnd read OutputFault out = (whole : Ending) × MayEnd whole × IsProp
 StopsBy MayEnd read OutOfMemory out = out ≡ []
 StopsBy MayEnd read other out = ⊥
 
--- the file of a class, of these bytes, was run, stopped so and printed this
-abbrev pub RunsBytes : List ℕ → List ℕ → Stop → List ℕ → Type 0
-RunsBytes main bytes Returned out = (program : List Expression) × SpellsProgram bytes program × (out ≡ printed program)
-RunsBytes main bytes OutputFault out = (program : List Expression) × SpellsProgram bytes program × IsProperPrefix out (printed program)
-RunsBytes main bytes (Refused text) out = ((program : List Expression) → ¬ SpellsProgram bytes program) × IsRefusal (NotYet (utf8 main)) (Refused text) × (out ≡ [])
-RunsBytes main bytes OutOfMemory out = out ≡ []
-RunsBytes main bytes other out = ⊥
+-- a program of a main class was run, stopped so and printed this
+abbrev pub RunsTo : List ℕ → Linked → Stop → List ℕ → Type 0
+RunsTo main program OutOfMemory out = (out ≡ []) ⊎ CutsMemory program (ending_of OutOfMemory out 0)
+RunsTo main program OutputFault out = CutsOutput program (ending_of OutputFault out 0)
+RunsTo main program Returned out = EndsRun main program (ending_of Returned out 0)
+RunsTo main program (Told cause text) out = EndsRun main program (ending_of (Told cause text) out 0)
+RunsTo main program other out = ⊥
+
+-- a run has begun, without arguments: what is kept stands at the start
+abbrev pub HasBegun : Linked → List Object → Roots → Type 0
+HasBegun program objects roots = BeginsWith rules_of (machine_of program) [] [] tt (moment_of (seen pred (map Some objects) roots) (unread []) tt)
+
+-- a command stops for a cause with this last line, or there was no memory for it
+abbrev pub IsToldAs : Cause → List ℕ → Stop → Type 0
+IsToldAs cause text (Told own line) = (own ≡ cause) × (string_bytes line ≡ text)
+IsToldAs cause text OutOfMemory = Unit {0}
+IsToldAs cause text other = ⊥
+
+-- so is the exception of a place told, among the objects of a store that never lets one go
+abbrev pub IsUncaughtAs : Linked → List (Option Object) → (class at : ℕ) → Stop → Type 0
+IsUncaughtAs program objects class at (Told cause line) =
+    (cause ≡ causes.Uncaught class) × (units : List ℕ) × TellsException program objects (serial_of pred at) units × (string_bytes line ≡ exception_line units)
+IsUncaughtAs program objects class at OutOfMemory = Unit {0}
+IsUncaughtAs program objects class at other = ⊥
+
+-- how a command stops whose run has ended so
+abbrev pub IsStopOf : List ℕ → Linked → List (Option Object) → End → Stop → Type 0
+IsStopOf main program objects ends.Returned stop = stop ≡ Returned
+IsStopOf main program objects (ends.Uncaught class at) stop = IsUncaughtAs program objects class at stop
+IsStopOf main program objects ends.BudgetSpent stop = IsToldAs causes.BudgetSpent spent_line stop
+IsStopOf main program objects (ends.HeapFull live asked limit) stop = IsToldAs causes.HeapFull (full_line (Full live asked limit)) stop
+IsStopOf main program objects ends.ReportFault stop = stop ≡ OutOfMemory
+IsStopOf main program objects ends.OutputFault stop = stop ≡ OutputFault
+IsStopOf main program objects ends.OutOfMemory stop = stop ≡ OutOfMemory
+IsStopOf main program objects ends.NotYet stop = IsToldAs causes.NotYet (line (refusal_text (NotYet (utf8 main)))) stop
+
+-- what is asked for that of the objects: they are typed, and an exception is one
+abbrev pub MayTell : Linked → List (Option Object) → End → Type 0
+MayTell program objects (ends.Uncaught class at) =
+    IsHeap program objects × IsOfKind program (kinds_of objects) kind_of_throwable (serial_of pred at)
+MayTell program objects other = Unit {0}
 
 -- so many bytes were read, at most, and then the input had these left
 abbrev pub HasRead : ℕ → Option (List ℕ) → Option (List ℕ) → ℕ → Type 0
@@ -170,13 +216,3 @@ pub record IsCarriedOut (MayEnd : Ending → Type 0) (before now known taken : O
   pub appends : Appends known taken printed
   pub left : IfSome before (λ left. now ≡ Some (drop read left))
   pub ends : MayEnd (ending_of stop printed read)
-
--- the classes that a main class needs are a program that is typed
-pub record LinksClass (files : Option Files) (folder main : List ℕ) : Type 0 where
-  pub library : List ClassFile
-  pub classes : List ClassFile
-  pub method : ℕ
-  pub known : AreLibrary library
-  pub loaded : AreLoaded files folder main classes
-  pub good : IsProgram (library ++ classes) main method
-  pub typed : IsTyped (linked (library ++ classes) main method)

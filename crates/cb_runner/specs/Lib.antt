@@ -1,11 +1,10 @@
 pub mod Answer
 pub mod Asm
 pub mod Ending
-pub mod Execution
 pub mod Inner
 pub mod List
 pub mod Messages
-pub mod OperandStack
 pub mod Outside
 pub mod Run
+pub mod Running
 pub mod Words

@@ -1,10 +1,7 @@
--- What `run` comes to, by what linking its class comes to and by the class's file.
-use Rattle.std.specs.Prelude.{◌≡◌, ◌⊎◌, ℕ, ◌≤◌, List, ◌++◌, length, Option, Some, None, option_and_then, option_map, slice_get}
+-- What `run` comes to, by what linking its class comes to and how its program runs.
+use Rattle.std.specs.Prelude.{◌≡◌, ℕ, List, ◌++◌, Option, Some, None, option_and_then, option_map, slice_get}
 use Rattle.cb_io.specs.Folder.{Files}
 use Rattle.cb_io.specs.Utf8.{utf8}
-use Rattle.cb_machine.specs.Expression.{Expression}
-use Rattle.cb_machine.specs.Printing.{printed}
-use Rattle.cb_first_form.specs.FirstForm.{SpellsProgram}
 use Rattle.cb_classfile.specs.declared.class.ClassFile.{ClassFile}
 use Rattle.cb_classfile.specs.declared.method.Method.{Method}
 use Rattle.cb_classfile.specs.Pool.{text_at}
@@ -12,7 +9,6 @@ use Rattle.cb_link.specs.declared.refusal.Quantity.{Quantity as LinkQuantity}
 use Rattle.cb_link.specs.declared.refusal.Quantity.TheVariants as link_quantities
 use Rattle.cb_link.specs.declared.refusal.Refusal.{Refusal as LinkRefusal}
 use Rattle.cb_link.specs.declared.refusal.Refusal.TheVariants as link_refusals
-use Rattle.cb_load.specs.Files.{MayStandAt, path_of}
 use Rattle.cb_classfile.specs.Library.{AreLibrary}
 use Rattle.cb_link.specs.Judging.{IsNoProgram, IsProgram}
 use Rattle.cb_load.specs.Linking.{IsHindered}
@@ -23,25 +19,13 @@ use Rattle.cb_verify.specs.Typed.{FailsFirst, IsTyped}
 use Rattle.cb_verify.specs.Within.{method_at}
 use Rattle.cb_runner.specs.declared.refusal.Quantity.{Quantity}
 use Rattle.cb_runner.specs.declared.refusal.Quantity.TheVariants.{ClassFileBytes, Classes, Methods, Sites}
-use Rattle.cb_runner.specs.Ending.{Ending, refused, returned}
-use Rattle.cb_runner.specs.Messages.{Reason, BadHierarchy, MissingClass, MissingMember, Malformed, BadVersion, NoMain, Unsupported, NotYet, TooLarge, Unverified}
+use Rattle.cb_runner.specs.Ending.{Ending, refused}
+use Rattle.cb_runner.specs.Messages.{Reason, BadHierarchy, MissingClass, MissingMember, Malformed, BadVersion, NoMain, Unsupported, TooLarge, Unverified}
+use Rattle.cb_runner.specs.Running.{EndsRun}
 
 -- the most bytes of a class file
 abbrev pub file_limit : ℕ
 file_limit = 1048576
-
--- the bytes are a file of this program
-pub record IsProgramFile (bytes : List ℕ) (program : List Expression) : Type 0 where
-  pub short : length bytes ≤ file_limit
-  pub spelled : SpellsProgram bytes program
-
--- the file of a class that is linked is run to its end: there is none, as of a class of the library's; it is a program's;
--- or another
-abbrev pub RunsFile : List ℕ → Option (List ℕ) → Ending → Type 0
-RunsFile main None ending = ending ≡ refused (NotYet (utf8 main)) 0
-RunsFile main (Some bytes) ending =
-    ((program : List Expression) × IsProgramFile bytes program × (ending ≡ returned (printed program) 0))
-    ⊎ (((program : List Expression) → ¬ IsProgramFile bytes program) × (ending ≡ refused (NotYet (utf8 main)) 0))
 
 -- what there is too much of in linking
 abbrev pub quantity_of : LinkQuantity → Quantity
@@ -83,8 +67,20 @@ pub record IsUntyped (program : Linked) (reason : Reason) : Type 0 where
   pub first : FailsFirst program number pc
   pub told : reason_of_typing program number pc ≡ Some reason
 
+-- the classes that a main class needs are this program, which is typed. The library's classes are those of its table, whatever the layout
+-- of their records
+pub record IsRunnable (files : Option Files) (folder main : List ℕ) (program : Linked) : Type 0 where
+  pub library : List ClassFile
+  pub classes : List ClassFile
+  pub method : ℕ
+  pub known : AreLibrary library
+  pub loaded : AreLoaded files folder main classes
+  pub good : IsProgram (library ++ classes) main method
+  pub is : program ≡ linked (library ++ classes) main method
+  pub typed : IsTyped program
+
 -- linking the class stops for a reason, which is told; or its classes are a program that isn't typed, for a reason that is told; or
--- they are one that is, and the class's file is run. The library's classes are those of its table, whatever the layout of their records
+-- they are one that is, and it is run
 pub data RunsClass (files : Option Files) (folder main : List ℕ) (ending : Ending) : Type 0 where
   Stopped : (library : List ClassFile) (refusal : LinkRefusal) (reason : Reason) → AreLibrary library
       → IsHindered files folder library main refusal → reason_of_linking refusal ≡ Some reason → ending ≡ refused reason 0
@@ -92,9 +88,7 @@ pub data RunsClass (files : Option Files) (folder main : List ℕ) (ending : End
   Untyped : (library classes : List ClassFile) (method : ℕ) (reason : Reason) → AreLibrary library → AreLoaded files folder main classes
       → IsProgram (library ++ classes) main method → IsUntyped (linked (library ++ classes) main method) reason → ending ≡ refused reason 0
       → RunsClass files folder main ending
-  Typed : (library classes : List ClassFile) (method : ℕ) (file : Option (List ℕ)) → AreLibrary library → AreLoaded files folder main classes
-      → IsProgram (library ++ classes) main method → IsTyped (linked (library ++ classes) main method)
-      → MayStandAt files (path_of folder main) file → RunsFile main file ending → RunsClass files folder main ending
+  Typed : (program : Linked) → IsRunnable files folder main program → EndsRun main program ending → RunsClass files folder main ending
 
 -- classes that were loaded are a program, whatever the layout of the library's records; or they are none for this reason
 abbrev pub AreProgram : List ClassFile → List ℕ → Type 0

@@ -4,7 +4,7 @@ ghost use Rattle.cb_io.specs.Faults.{CountsFaults};
 ghost use Rattle.cb_io.specs.Folder.{Files};
 ghost use Rattle.cb_runner.specs.Answer.{EndsIn};
 ghost use Rattle.cb_runner.specs.Asm.{AssemblesText, text_limit};
-ghost use Rattle.cb_runner.specs.Inner.{IsCarriedOut, Makes};
+ghost use Rattle.cb_runner.specs.Inner.{IsCarriedOut, Makes, TellsWhole};
 ghost use Rattle.cb_runner.specs.Words.{Assemble};
 ghost use Rattle.cb_runner.specs.declared.stop.Stop.TheVariants as stops;
 
@@ -24,6 +24,7 @@ const MAX_TEXT_LENGTH: usize = 1_048_576;
 pub(crate) fn assemble_input<S: Source, O: Sink>(alloc: Global, input: &mut S, out: &mut O) -> Stop
     ensures ends { IsCarriedOut (λ ending. (files : Option Files) → EndsIn Assemble files (S.left input.old) ending)
         (S.left input.old) (S.left input.new) (O.taken out.old) (O.taken out.new) result }
+    ensures tells { TellsWhole result }
     ensures input_fault { CountsFaults (S.faults input.old) (S.faults input.new) (result ≡ stops.InputFault) }
     ensures output_fault { CountsFaults (O.faults out.old) (O.faults out.new) (result ≡ stops.OutputFault) }
 {

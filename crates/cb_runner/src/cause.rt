@@ -4,6 +4,14 @@
 pub enum Cause {
     /// The command came to its end.
     Returned,
+    /// An exception of the program found no handler: that of a class of this number. What was printed before stands.
+    Uncaught(u32),
+    /// As many steps were made as a run makes at most. What they print stands.
+    BudgetSpent,
+    /// What the next step of the program places takes more words than there may be. What was printed before stands.
+    HeapFull,
+    /// The next step of the program is one of those that aren't done yet. What was printed before stands.
+    NotYet,
     /// The words are no command.
     Usage,
     /// What the words ask for was refused.
@@ -16,7 +24,7 @@ pub enum Cause {
     OutputFault,
     /// A call of the sink for the last line failed.
     ErrFault,
-    /// No memory was to be had. Nothing was printed.
+    /// No memory was to be had. What was printed before stands.
     OutOfMemory,
 }
 
@@ -30,9 +38,12 @@ impl Cause {
     {
         match self {
             Cause::Returned => 0,
+            Cause::Uncaught(_) => 1,
             Cause::OutOfMemory => 119,
             Cause::Usage => 120,
-            Cause::Refused => 121,
+            Cause::Refused | Cause::NotYet => 121,
+            Cause::BudgetSpent => 122,
+            Cause::HeapFull => 123,
             Cause::FolderFault => 124,
             Cause::InputFault => 125,
             Cause::OutputFault => 126,

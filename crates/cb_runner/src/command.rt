@@ -3,7 +3,7 @@ ghost use Rattle.std.specs.Prelude.{◌≡◌, map, string_bytes};
 ghost use Rattle.cb_io.specs.Faults.{CountsFaults};
 ghost use Rattle.cb_runner.specs.Answer.{Ends, IsAnswer};
 ghost use Rattle.cb_runner.specs.Ending.{status_of};
-ghost use Rattle.cb_runner.specs.Inner.{IsCarriedOut};
+ghost use Rattle.cb_runner.specs.Inner.{IsCarriedOut, TellsWhole};
 ghost use Rattle.cb_runner.specs.Words.{Assemble, Says};
 ghost use Rattle.cb_runner.specs.declared.stop.Stop.TheVariants as stops;
 
@@ -19,10 +19,10 @@ use std::alloc::Global;
 /// Does what the words of the command line say, which are those after the program's name.
 ///
 /// `run FOLDER MAIN` links the class MAIN: it reads `FOLDER/MAIN.class` and the files of the classes that are needed. Then it
-/// verifies their methods (JVMS §4.10.1). If the file of MAIN is of the first form, it is run: the values of its expressions
-/// go to `out`, a line each. `list PATH` prints the listing of a class file. `asm` reads an assembly text from `input` and
+/// verifies their methods (JVMS §4.10.1). If all are typed, the program is run without arguments, and what it prints goes to
+/// `out`. `list PATH` prints the listing of a class file. `asm` reads an assembly text from `input` and
 /// writes the class file to `out`; no other command reads anything from it. How the call ended goes to `err` as its last line,
-/// but where the command came to its end. `Ended::status` is that of its cause: 0, 119 to 121, or 124 to 127.
+/// but where the command came to its end. `Ended::status` is that of its cause: 0, 1, or 119 to 127.
 pub fn run_command<F: Folder, S: Source, O: Sink, E: Sink>(
     alloc: Global,
     words: &[String],
@@ -56,6 +56,7 @@ fn carry_out<F: Folder, S: Source, O: Sink>(
     ensures ends { IsCarriedOut (Ends (map string_bytes words.now) (F.files folder.old) (S.left input.old))
         (S.left input.old) (S.left input.new) (O.taken out.old) (O.taken out.new) result }
     ensures kept { F.files folder.new ≡ F.files folder.old }
+    ensures tells { TellsWhole result }
     ensures alone { ¬ Says (map string_bytes words.now) Assemble
         → (S.left input.new ≡ S.left input.old) × (S.faults input.new ≡ S.faults input.old) }
     ensures folder_fault { CountsFaults (F.faults folder.old) (F.faults folder.new) (result ≡ stops.FolderFault) }

@@ -1,12 +1,9 @@
 // Laws of the answer, each in one fact.
-ghost use Rattle.std.specs.Prelude.{◌≡◌, ◌⊎◌, ◌↔◌, ℕ, ◌+◌, ◌<◌, ◌≤◌, List, [], length, Option, None, Some, IsSomeAnd};
+ghost use Rattle.std.specs.Prelude.{◌≡◌, ◌⊎◌, ◌↔◌, ℕ, ◌+◌, ◌<◌, ◌≤◌, List, [], length, Option, None, Some};
 ghost use Rattle.std.specs.FinMap.{get};
 ghost use Rattle.cb_io.specs.Folder.{Files};
-ghost use Rattle.cb_io.specs.Utf8.{utf8};
-ghost use Rattle.cb_machine.specs.Expression.{Expression};
-ghost use Rattle.cb_machine.specs.Printing.{printed};
+ghost use Rattle.cb_link.specs.Program.{Linked};
 ghost use Rattle.cb_link.specs.declared.refusal.Refusal.{Refusal as LinkRefusal};
-ghost use Rattle.cb_load.specs.Files.{MayStandAt, path_of};
 ghost use Rattle.cb_load.specs.Loading.{AreLoaded, StopsFor};
 ghost use Rattle.cb_asm.specs.Answers.{StopsAt};
 ghost use Rattle.cb_asm_list.specs.Listing.{listing};
@@ -17,16 +14,16 @@ ghost use Rattle.cb_classfile.specs.declared.class.ClassFile.{ClassFile};
 ghost use Rattle.cb_classfile.specs.declared.feature.Feature.{Feature};
 ghost use Rattle.cb_runner.specs.Answer.{Answers, Ends, EndsIn, IsWhole};
 ghost use Rattle.cb_runner.specs.Asm.{text_limit};
-ghost use Rattle.cb_runner.specs.Ending.{Ending, refused, returned, usage};
+ghost use Rattle.cb_runner.specs.Ending.{Ending, refused, returned};
 ghost use Rattle.cb_runner.specs.List.{IsListed, LeavesOut};
-ghost use Rattle.cb_runner.specs.Messages.{Reason, MissingClass, Malformed, BadVersion, Unsupported, NotYet, TooLarge, BadLine};
-ghost use Rattle.cb_runner.specs.Run.{AreNoProgram, AreProgram, AreTyped, AreUntyped, IsProgramFile, file_limit, reason_of_linking};
+ghost use Rattle.cb_runner.specs.Messages.{Reason, MissingClass, Malformed, BadVersion, Unsupported, TooLarge, BadLine};
+ghost use Rattle.cb_runner.specs.Run.{AreNoProgram, AreProgram, AreTyped, AreUntyped, IsRunnable, file_limit, reason_of_linking};
+ghost use Rattle.cb_runner.specs.Running.{EndsRun};
 ghost use Rattle.cb_runner.specs.Words.{Assemble, Command, ListOf, RunIn, SaysNone};
 ghost use Rattle.cb_runner.specs.declared.cause.Cause.TheVariants as causes;
 ghost use Rattle.cb_runner.specs.declared.refusal.Quantity.TheVariants.{ClassFileBytes, AssemblyBytes};
 
 use cb_classfile::one_class;
-use cb_first_form::one_program;
 use cb_link::one_judgement;
 use cb_load::one_loading;
 
@@ -36,7 +33,7 @@ pub fn usage_exactly()
         → Ends words files left ending → (ending.cause ≡ causes.Usage) ↔ SaysNone words }
 {}
 
-/// A command returns or is refused exactly where nothing cuts it short.
+/// A command returns or is refused, or its program ends in another way, exactly where nothing cuts it short.
 pub fn whole_exactly()
     ensures { (command : Command) (files : Option Files) (left : Option (List ℕ)) (ending : Ending)
         → EndsIn command files left ending → IsWhole ending ↔ Answers command files left ending }
@@ -52,8 +49,7 @@ pub fn refused_silently()
 /// A run that nothing cuts short, where the folder tells its files. It is refused for the reason for which loading its class
 /// stops, where that stops. Where its classes are loaded, it is refused for the reason for which they are no program. Where they
 /// are one that isn't typed, it is refused for its first method that isn't and the least place of it that fails. Where they are one
-/// that is typed, it is refused as one that isn't run yet exactly where the class has no file of the first form, and that of a file
-/// of that form returns, having printed what the file prints.
+/// that is typed, it ends as a run of their program does.
 pub fn run_exactly()
     ensures unloaded { (folder main : List ℕ) (files : Files) (left : Option (List ℕ)) (ending : Ending)
         (refusal : LinkRefusal) (reason : Reason) → Answers (RunIn folder main) (Some files) left ending
@@ -66,21 +62,13 @@ pub fn run_exactly()
         (classes : List ClassFile) (reason : Reason) → Answers (RunIn folder main) (Some files) left ending
         → AreLoaded (Some files) folder main classes → AreProgram classes main → AreUntyped classes main reason
         → ending ≡ refused reason 0 }
-    ensures not_yet { (folder main : List ℕ) (files : Files) (left : Option (List ℕ)) (ending : Ending)
-        (classes : List ClassFile) (file : Option (List ℕ)) → Answers (RunIn folder main) (Some files) left ending
+    ensures runs { (folder main : List ℕ) (files : Files) (left : Option (List ℕ)) (ending : Ending)
+        (classes : List ClassFile) → Answers (RunIn folder main) (Some files) left ending
         → AreLoaded (Some files) folder main classes → AreProgram classes main → AreTyped classes main
-        → MayStandAt (Some files) (path_of folder main) file
-        → (ending ≡ refused (NotYet (utf8 main)) 0)
-        ↔ ((program : List Expression) → ¬ IsSomeAnd file (λ bytes. IsProgramFile bytes program)) }
-    ensures returned { (folder main bytes : List ℕ) (files : Files) (left : Option (List ℕ)) (ending : Ending)
-        (classes : List ClassFile) (program : List Expression) → Answers (RunIn folder main) (Some files) left ending
-        → AreLoaded (Some files) folder main classes → AreProgram classes main → AreTyped classes main
-        → MayStandAt (Some files) (path_of folder main) (Some bytes)
-        → IsProgramFile bytes program → ending ≡ returned (printed program) 0 }
+        → (program : Linked) × IsRunnable (Some files) folder main program × EndsRun main program ending }
 {
     one_loading();
     one_judgement();
-    one_program();
 }
 
 /// A listing that nothing cuts short is refused for want of its file exactly where there is none, and as too large exactly

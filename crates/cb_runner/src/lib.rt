@@ -1,7 +1,7 @@
 //! The top call of the machine: all that the program does, over the outside that it is handed.
 //!
-//! So far it links and verifies any class and runs one whose file is of the first form, lists class files and assembles texts. Every
-//! other class that is typed is answered as not yet run.
+//! It links, verifies and runs classes, lists class files and assembles texts. A program runs over a store that never lets an object go,
+//! without arguments, until it ends or comes to a step that isn't done yet.
 #![tactic(auto)]
 
 mod asm;
@@ -9,16 +9,17 @@ mod cause;
 mod class_name;
 mod command;
 mod ended;
+mod ending;
+mod executing;
 mod file;
 mod input;
-mod interpreter;
 mod law;
 mod linking;
 mod list;
-mod operand_stack;
 mod printing;
 mod refusal;
 mod run;
+mod shapes;
 mod stop;
 mod verifying;
 mod words;

@@ -1,8 +1,10 @@
 // Linking the class that is run.
 ghost use Rattle.std.specs.Prelude.{◌≡◌, IfErr, IfOk, IsErrOf};
 ghost use Rattle.cb_io.specs.Faults.{CountsFaults};
-ghost use Rattle.cb_runner.specs.Inner.{IsConverted, IsUnlinked, LinksClass, StopsAtOnce};
-ghost use Rattle.cb_runner.specs.Run.{RunsClass, quantity_of};
+ghost use Rattle.cb_runner.specs.Inner.{IsConverted, IsUnlinked, StopsAtOnce, StopsUntyped};
+ghost use Rattle.cb_runner.specs.Run.{IsRunnable, RunsClass, quantity_of};
+ghost use Rattle.cb_safety.specs.Linked.{IsLinked};
+ghost use Rattle.cb_verify.specs.Typed.{IsTyped};
 ghost use Rattle.cb_runner.specs.Words.{internal_name};
 ghost use Rattle.cb_runner.specs.declared.stop.Stop.TheVariants as stops;
 
@@ -12,22 +14,25 @@ use crate::verifying::verify_program;
 use crate::{Quantity, Refusal};
 use cb_core::core_classes;
 use cb_io::{Folder, text_of};
-use cb_link::{Quantity as LinkQuantity, Refusal as LinkRefusal};
+use cb_link::{Program, Quantity as LinkQuantity, Refusal as LinkRefusal};
 use cb_load::link;
+use cb_safety::linking_links;
 use std::alloc::Global;
 
-/// Links the class that a word names, with the library's classes and those of a folder, and verifies the program.
+/// Links the class that a word names, with the library's classes and those of a folder, and verifies the program, which it gives.
 pub(crate) fn link_class<F: Folder>(
     alloc: Global,
     root: &str,
     class: &str,
     folder: &mut F,
-) -> Result<(), Stop>
+) -> Result<Program, Stop>
     ensures kept { F.files folder.new ≡ F.files folder.old }
-    ensures linked { IfOk result (λ _. LinksClass (F.files folder.old) root.now (internal_name class.now)) }
+    ensures runnable { IfOk result (λ program. IsRunnable (F.files folder.old) root.now (internal_name class.now) program) }
+    ensures linked { IfOk result IsLinked }
     ensures stopped { IfErr result (StopsAtOnce (RunsClass (F.files folder.old) root.now (internal_name class.now))) }
     ensures fault { CountsFaults (F.faults folder.old) (F.faults folder.new) (IsErrOf result stops.FolderFault) }
 {
+    linking_links();
     let Ok(library) = core_classes(alloc) else {
         return Err(Stop::OutOfMemory);
     };
@@ -35,9 +40,19 @@ pub(crate) fn link_class<F: Folder>(
         return Err(Stop::OutOfMemory);
     };
     match link(alloc, library, folder, root, main) {
-        Ok(program) => verify_program(alloc, &program),
+        Ok(program) => verified(alloc, program),
         Err(refusal) => Err(unlinked(alloc, refusal)),
     }
+}
+
+/// The program, if it is typed.
+fn verified(alloc: Global, program: Program) -> Result<Program, Stop>
+    ensures same { IfOk result (λ typed. typed ≡ program) }
+    ensures typed { IfOk result IsTyped }
+    ensures stopped { IfErr result (StopsUntyped program) }
+{
+    verify_program(alloc, &program)?;
+    Ok(program)
 }
 
 /// Stops for a refusal of linking.

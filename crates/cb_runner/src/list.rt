@@ -5,7 +5,7 @@ ghost use Rattle.cb_io.specs.Faults.{CountsFaults};
 ghost use Rattle.cb_io.specs.Folder.{FindsAt};
 ghost use Rattle.cb_runner.specs.Answer.{EndsIn};
 ghost use Rattle.cb_runner.specs.List.{ListsBytes, ListsFile};
-ghost use Rattle.cb_runner.specs.Inner.{IsUnlisted, Makes, ending_of};
+ghost use Rattle.cb_runner.specs.Inner.{IsUnlisted, Makes, TellsWhole, ending_of};
 ghost use Rattle.cb_runner.specs.Run.{file_limit};
 ghost use Rattle.cb_runner.specs.Words.{ListOf};
 ghost use Rattle.cb_runner.specs.declared.stop.Stop.TheVariants as stops;
@@ -29,6 +29,7 @@ pub(crate) fn list_file<F: Folder, O: Sink>(
     ensures ends { (printed : List ℕ) × Appends (O.taken out.old) (O.taken out.new) printed
         × ((left : Option (List ℕ)) → EndsIn (ListOf path.now) (F.files folder.old) left (ending_of result printed 0)) }
     ensures kept { F.files folder.new ≡ F.files folder.old }
+    ensures tells { TellsWhole result }
     ensures folder_fault { CountsFaults (F.faults folder.old) (F.faults folder.new) (result ≡ stops.FolderFault) }
     ensures output_fault { CountsFaults (O.faults out.old) (O.faults out.new) (result ≡ stops.OutputFault) }
 {

@@ -27,7 +27,7 @@ pub enum Refusal {
         class: String,
         item: Feature,
     },
-    /// The class is linked and typed, and has no file of the first form.
+    /// The next step of the program of the class is one of those that aren't done yet.
     NotYet {
         class: String,
     },

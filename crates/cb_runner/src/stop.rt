@@ -2,7 +2,7 @@
 ghost use Rattle.std.specs.Prelude.{◌≡◌, List, ℕ};
 ghost use Rattle.cb_io.specs.Faults.{CountsFaults};
 ghost use Rattle.cb_runner.specs.Answer.{IsTold};
-ghost use Rattle.cb_runner.specs.Inner.{IsRefusal, cause_of, ending_of, line_of};
+ghost use Rattle.cb_runner.specs.Inner.{IsRefusal, TellsWhole, cause_of, ending_of, line_of};
 ghost use Rattle.cb_runner.specs.Messages.{MissingClass, reason_of};
 
 use crate::{Cause, Refusal};
@@ -19,6 +19,8 @@ pub(crate) enum Stop {
     Usage,
     /// What it was to do was refused, with this last line.
     Refused(String),
+    /// The program that it ran ended for this cause, with this last line.
+    Told(Cause, String),
     /// A call of the folder failed.
     FolderFault,
     /// A call of the input failed.
@@ -63,6 +65,7 @@ impl Stop {
 
     /// Writes the last line, and gives the cause that is then the call's.
     pub(crate) fn tell<E: Sink>(self, err: &mut E) -> Cause
+        requires whole { TellsWhole self }
         ensures told { (out : List ℕ) (read : ℕ) → IsTold (ending_of self out read) result (E.taken err.old) (E.taken err.new) }
         ensures fault { CountsFaults (E.faults err.old) (E.faults err.new) (result ≡ Cause.ErrFault) }
     {
@@ -80,6 +83,7 @@ impl Stop {
             Stop::Returned => Cause::Returned,
             Stop::Usage => Cause::Usage,
             Stop::Refused(_) => Cause::Refused,
+            Stop::Told(cause, _) => *cause,
             Stop::FolderFault => Cause::FolderFault,
             Stop::InputFault => Cause::InputFault,
             Stop::OutputFault => Cause::OutputFault,
@@ -94,7 +98,7 @@ impl Stop {
         match self {
             Stop::Returned => "",
             Stop::Usage => "cbvm: these words are no command\n",
-            Stop::Refused(line) => line.as_str(),
+            Stop::Refused(line) | Stop::Told(_, line) => line.as_str(),
             Stop::FolderFault => "cbvm: folder fault\n",
             Stop::InputFault => "cbvm: input fault\n",
             Stop::OutputFault => "cbvm: output fault\n",

@@ -10,6 +10,7 @@ pub use Rattle.cb_safety.proofs.OnStack.{fields_read, fields_written}
 pub use Rattle.cb_safety.proofs.ArrayWords.{arrays_measured, elements_read, elements_written, references_are_read, references_are_written}
 pub use Rattle.cb_safety.proofs.StaticWords.{statics_read, statics_written}
 pub use Rattle.cb_safety.proofs.Asked.{references_are_asked}
+pub use Rattle.cb_safety.proofs.Asking.{Found, found}
 pub use Rattle.cb_safety.proofs.Sound.{linked_sound}
 pub use Rattle.cb_safety.proofs.Starting.{start_is_typed}
 pub use Rattle.cb_safety.proofs.Stepping.{ended_stays, run_goes, run_typed, states_advance}

@@ -12,7 +12,7 @@ use Rattle.cb_classfile.specs.declared.field.Field.{Field}
 use Rattle.cb_hierarchy.specs.Layout.{own_fields}
 use Rattle.cb_hierarchy.specs.Orders.{is_subclass}
 use Rattle.cb_hierarchy.specs.declared.member.Field.{Field as RankedField}
-use Rattle.cb_kinds.specs.Basics.{basic_of}
+use Rattle.cb_kinds.specs.Basics.{basic_of, kind_number}
 use Rattle.cb_kinds.specs.Kinds.{is_array}
 use Rattle.cb_kinds.specs.Texts.{number_of}
 use Rattle.cb_kinds.specs.declared.basic.Basic.{Basic}
@@ -40,7 +40,7 @@ use Rattle.cb_safety.specs.Performing.{HaveField}
 use Rattle.cb_safety.specs.Signatures.{builder, characters, enum, throwables}
 use Rattle.cb_safety.proofs.Assigned.{never}
 use Rattle.cb_safety.proofs.CoreFields.{IsNoStatic, SaysBasic, object_basic, of_object, own_basic}
-use Rattle.cb_safety.proofs.CoreKinds.{IsArrayOf, IsCore, array_kind, core_kind, core_number}
+use Rattle.cb_safety.proofs.CoreKinds.{IsArrayOf, IsCore, array_kind, core_kind, core_number, string_is}
 use Rattle.cb_safety.proofs.Exceptions.{IsRow, core_names, extends_to, file_at, kind_class, laid, laid_object, own_none, zipped_at}
 use Rattle.cb_safety.proofs.Fielded.{bare_object, basic, basic_is, has_field}
 use Rattle.cb_safety.proofs.Lacked.{entry_at}
@@ -288,6 +288,43 @@ module _ (program : Linked) (is : IsLinked program) where
     by : (slot : ℕ) → SaysBasic program long_class.fields slot own → (slot ≡ 0) × (own ≡ basics.Long)
     by zero says = (refl, said long_class.fields 0 _ own refl says)
     by (suc slot) says = never says.there
+
+  -- the first field of a throwable holds a string, and the others hold none
+  pub messages_have : HaveField program kind_of_throwable 0 (basics.Reference kind_of_string)
+  messages_have = subst (λ (basic : Basic). HaveField program kind_of_throwable 0 basic) (string_is program is) (by it.slot it.says it.has) where
+    wanted : Basic
+    wanted = basic_of program.kinds (codes "Ljava/lang/String;")
+
+    it : Had kind_of_throwable throwable_class refl (refl, (refl, (refl, tt))) refl refl (object_lays kind_of_throwable throwable_class refl (refl, (refl, (refl, tt))) refl) wanted
+    it = had kind_of_throwable throwable_class refl (refl, (refl, (refl, tt))) refl refl (object_lays kind_of_throwable throwable_class refl (refl, (refl, (refl, tt))) refl) 0 _ refl
+
+    string : IsCore program (kind_number program.kinds (codes "java/lang/String")) kind_of_string
+    string = core_kind program is (codes "java/lang/String") kind_of_string refl refl
+
+    throwable : IsCore program (kind_number program.kinds (codes "java/lang/Throwable")) kind_of_throwable
+    throwable = core_kind program is (codes "java/lang/Throwable") kind_of_throwable refl refl
+
+    array : IsArrayOf program (throwables program) (basic_of program.kinds (codes "Ljava/lang/Throwable;"))
+    array = array_kind program is (codes "Ljava/lang/Throwable;") 16 refl
+
+    kind_in_basic : Basic → ℕ
+    kind_in_basic (basics.Reference kind) = kind
+    kind_in_basic other = 0
+
+    no_throwable : {P : Type 0} → wanted ≡ basic_of program.kinds (codes "Ljava/lang/Throwable;") → P
+    no_throwable same =
+        let kinds : kind_of_string ≡ kind_of_throwable = sym string.is ∙ ap kind_in_basic same ∙ throwable.is in
+        absurd (omega (arith, kinds))
+
+    no_array : {P : Type 0} → wanted ≡ basics.Reference (throwables program) → P
+    no_array same =
+        absurd (none-some _ (sym string.no_elements ∙ ap (element_of program) (sym string.is ∙ ap kind_in_basic same) ∙ array.elements))
+
+    by : (slot : ℕ) → SaysBasic program throwable_class.fields slot wanted → HaveField program kind_of_throwable slot wanted → HaveField program kind_of_throwable 0 wanted
+    by zero says has = has
+    by (suc zero) says has = no_throwable (said throwable_class.fields 1 _ wanted refl says)
+    by (suc (suc zero)) says has = no_array (said throwable_class.fields 2 _ wanted refl says)
+    by (suc (suc (suc slot))) says has = never says.there
 
   -- the third field of a throwable holds an array, and the others hold none
   pub suppressed_have : HaveField program kind_of_throwable 2 (basics.Reference (throwables program))

@@ -45,7 +45,7 @@ use Rattle.cb_safety.proofs.EnumConstants.{has_enums}
 use Rattle.cb_safety.proofs.Exceptions.{IsRow, core_names, file_at, thrown_at, zipped_at}
 use Rattle.cb_safety.proofs.KindNames.{names_low}
 use Rattle.cb_safety.proofs.LibraryNatives.{have_signatures}
-use Rattle.cb_safety.proofs.LibraryFields.{booleans_have, builders_have, chars_have, classes_have, counts_have, integer_says, integers_have, long_says, longs_have, ordinals_have, strings_have, suppressed_have}
+use Rattle.cb_safety.proofs.LibraryFields.{booleans_have, builders_have, chars_have, classes_have, counts_have, integer_says, integers_have, long_says, longs_have, messages_have, ordinals_have, strings_have, suppressed_have}
 use Rattle.cb_safety.proofs.Kinded.{IsNumbered, numbered_of}
 use Rattle.cb_safety.proofs.Located.{all_part, all_parts}
 use Rattle.cb_safety.proofs.Linking.{front, linked_whole}
@@ -223,6 +223,7 @@ module _ (program : Linked) (is : IsLinked program) (typed : IsTyped program) wh
       ordinals = ordinals_have program is;
       numbers = classes_have program is;
       throwable_elements = throwable_kind.elements;
+      messages = messages_have program is;
       suppressed_fields = suppressed_have program is;
       through = sound.holds_through;
       own = sound.holds_own;

@@ -56,6 +56,7 @@ pub record HasCore (program : Linked) : Type 0 where
   pub ordinals : HaveField program enum 1 basics.Int
   pub numbers : HaveField program kind_of_class 0 basics.Int
   pub throwable_elements : element_of program (throwables program) ≡ Some (basics.Reference kind_of_throwable)
+  pub messages : HaveField program kind_of_throwable 0 (basics.Reference kind_of_string)
   pub suppressed_fields : HaveField program kind_of_throwable 2 (basics.Reference (throwables program))
   pub through : HoldsThrough program
   pub own : HoldsOwn program

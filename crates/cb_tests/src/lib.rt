@@ -5,8 +5,6 @@
 #[cfg(test)]
 mod arith;
 #[cfg(test)]
-mod first_form;
-#[cfg(test)]
 mod insn;
 #[cfg(test)]
 mod io;
@@ -15,7 +13,6 @@ mod kinds;
 #[cfg(test)]
 mod library;
 #[cfg(test)]
-mod machine;
 #[cfg(test)]
 mod names;
 #[cfg(test)]

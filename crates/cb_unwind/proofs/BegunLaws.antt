@@ -1,11 +1,10 @@
 -- A class begins to be initialised as the machine says, and the same when roots are read.
-use Rattle.std.proofs.Common.{◌≡◌, ◌∙◌, ap, ap₂, refl, sym, ℕ, ◌+◌, ◌*◌, Bool, true, false, ◌&&◌, List, [], ◌∷◌, map, Option, Some, None, nat_lt, nat_le}
-use Rattle.std.proofs.lemmas.List.{length-map}
+use Rattle.std.proofs.Common.{◌≡◌, ◌∙◌, ap, refl, sym, ℕ, Bool, true, false, List, [], ◌∷◌, Option, Some, None}
 use Rattle.std.specs.Prelude.{if◌then◌else◌}
 use Rattle.std.specs.List.{AllByRecursion, fold}
 use Rattle.cb_frames.specs.Tops.{entered_init}
 use Rattle.cb_heap.proofs.Laws.{reads_static}
-use Rattle.cb_heap.specs.Reading.{read_frame, read_roots, read_value}
+use Rattle.cb_heap.specs.Reading.{read_roots, read_value}
 use Rattle.cb_kinds.specs.declared.basic.Basic.{Basic}
 use Rattle.cb_link.specs.declared.named.Named.{Named}
 use Rattle.cb_link.specs.declared.named.Named.TheVariants as meanings
@@ -22,9 +21,9 @@ use Rattle.cb_machine.specs.Values.{kept_value}
 use Rattle.cb_plain.specs.declared.class_state.ClassState.TheVariants.{Busy}
 use Rattle.cb_plain.specs.declared.value.Value.{Value}
 use Rattle.cb_plain.specs.declared.value.Value.TheVariants as values
-use Rattle.cb_plain.specs.Depth.{has_room, slots_each, slots_in}
+use Rattle.cb_plain.specs.Depth.{has_room}
 use Rattle.cb_plain.specs.Roots as roots
-use Rattle.cb_plain.specs.State.{Frame, Initialising, OfMethod, Roots, State}
+use Rattle.cb_plain.specs.State.{Frame, Roots, State}
 use Rattle.cb_plain.specs.Updates.{with_roots, with_static}
 use Rattle.cb_unwind.specs.Begun.{IsNoText, NumbersOnly, begun, set_initial, set_to, set_whole}
 use Rattle.cb_unwind.proofs.NumberLaws.{initial_read}
@@ -116,15 +115,3 @@ module _ (program : Linked) (index : ℕ → ℕ) where
 
   pub begun_read : (held : Roots) (class : ℕ) → begun program class (read_roots index held) ≡ read_roots index (begun program class held)
   begun_read held class = fields_read (own_statics program class) (roots.with_class (entered_init held class) class Busy)
-
--- frames that are read take as many slots
-module _ (index : ℕ → ℕ) where
-  taken_read : (frames : List Frame) (sum : ℕ)
-      → fold (λ sum frame. sum + slots_in frame) sum (map (read_frame index) frames) ≡ fold (λ sum frame. sum + slots_in frame) sum frames
-  taken_read [] sum = refl
-  taken_read (OfMethod frame ∷ below) sum = taken_read below (sum + frame.slots)
-  taken_read (Initialising class place ∷ below) sum = taken_read below (sum + 0)
-
-  pub room_read : (held : Roots) (limit slots : ℕ) → has_room limit (read_roots index held).frames slots ≡ has_room limit held.frames slots
-  room_read held limit slots =
-      ap₂ (λ (count taken : ℕ). nat_lt count limit && nat_le (taken + slots) (slots_each * limit)) (length-map held.frames (read_frame index)) (taken_read held.frames 0)

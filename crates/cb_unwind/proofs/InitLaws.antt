@@ -5,7 +5,7 @@ use Rattle.cb_classfile.specs.declared.body.Body.{Body}
 use Rattle.cb_frames.specs.Tops.{entered, placed, topmost}
 use Rattle.cb_frames.specs.declared.frame.Frame.{Frame as Shown}
 use Rattle.cb_frames.specs.declared.frame.Frame.TheVariants as shown
-use Rattle.cb_heap.proofs.Laws.{reads_entered, reads_left, reads_placed}
+use Rattle.cb_heap.proofs.Laws.{reads_entered, reads_left, reads_placed, reads_room}
 use Rattle.cb_heap.specs.Reading.{read_roots}
 use Rattle.cb_link.specs.Calls.{initial_parents, initialiser}
 use Rattle.cb_link.specs.Program.{Linked}
@@ -25,7 +25,7 @@ use Rattle.cb_unwind.specs.declared.answers.InitStep.TheVariants.{Goes, Deep, Fa
 use Rattle.cb_unwind.specs.Begun.{begun}
 use Rattle.cb_unwind.specs.Initialised.{IsOnTop, NumbersNext, begins, by_place, ended, enters, initialised, own_turn, parent_turn}
 use Rattle.cb_unwind.specs.Steps.{init_plan}
-use Rattle.cb_unwind.proofs.BegunLaws.{begun_on, begun_read, room_read}
+use Rattle.cb_unwind.proofs.BegunLaws.{begun_on, begun_read}
 use Rattle.cb_unwind.proofs.Places.{top_read}
 
 -- roots with what has been done
@@ -117,14 +117,14 @@ module _ (program : Linked) (index : ℕ → ℕ) (held : Roots) (limit : ℕ) w
       → begins program limit (read_roots index held) (placed (read_roots index held) place) parent ≡ gone_read (begins program limit held (placed held place) parent)
   begins_read place parent =
       ap (λ (roots : Roots). begins program limit (read_roots index held) roots parent) (sym (reads_placed index held place))
-      ∙ ap₂ (λ (room : Bool) (roots : Roots). in_room (read_roots index held) roots room) (room_read index (placed held place) limit 0) (begun_read program index (placed held place) parent)
+      ∙ ap₂ (λ (room : Bool) (roots : Roots). in_room (read_roots index held) roots room) (reads_room index (placed held place) limit 0) (begun_read program index (placed held place) parent)
       ∙ room_so (begun program parent (placed held place)) (has_room limit (placed held place).frames 0)
 
   enters_read : (place method : ℕ) (body : Body)
       → enters limit (read_roots index held) (placed (read_roots index held) place) method body ≡ gone_read (enters limit held (placed held place) method body)
   enters_read place method body =
       ap (λ (roots : Roots). enters limit (read_roots index held) roots method body) (sym (reads_placed index held place))
-      ∙ ap₂ (λ (room : Bool) (roots : Roots). in_room (read_roots index held) roots room) (room_read index (placed held place) limit (body.max_locals + body.max_stack))
+      ∙ ap₂ (λ (room : Bool) (roots : Roots). in_room (read_roots index held) roots room) (reads_room index (placed held place) limit (body.max_locals + body.max_stack))
       (sym (reads_entered index (placed held place) method 0 body.max_locals body.max_stack))
       ∙ room_so (entered (placed held place) method 0 body.max_locals body.max_stack) (has_room limit (placed held place).frames (body.max_locals + body.max_stack))
 

@@ -12,8 +12,7 @@ use Rattle.cb_link.specs.declared.named.Named.TheVariants as meanings
 use Rattle.cb_link.specs.Named.{static_initial}
 use Rattle.cb_link.specs.Numbers.{Numbered}
 use Rattle.cb_link.specs.Program.{Linked}
-use Rattle.cb_link.specs.Slots.{static_at, static_basic, statics}
-use Rattle.cb_machine.specs.Initialising.{own_statics}
+use Rattle.cb_link.specs.Slots.{static_at, static_basic}
 use Rattle.cb_machine.specs.Values.{kept_value}
 use Rattle.cb_plain.specs.declared.value.Value.{Value}
 use Rattle.cb_plain.specs.State.{Roots}
@@ -76,13 +75,3 @@ module _ (program : Linked) (class count : ℕ) where
   pub passes_other : (roots : Roots) (slot owner : ℕ) → slot < count → option_map (λ field. field.class) (static_at program slot) ≡ Some owner → (owner ≡ class → ⊥)
       → left_from roots (slot + 1) ≡ left_from roots slot
   passes_other roots slot owner low is other = ap (fold (set_initial program) roots) (sym (other_next slot owner low is (ne_eqb owner class other)))
-
-  pub none_left : (roots : Roots) (slot : ℕ) → slot ≡ count → left_from roots slot ≡ roots
-  none_left roots slot end =
-      ap (λ (left : ℕ). fold (set_initial program) roots (filter (λ (slot : ℕ). declared_by class (static_at program slot)) (range_with_len slot left)))
-      (let none : count - slot ≡ 0 = omega (arith, end) in none)
-
-  pub all_left : (roots : Roots) → count ≡ length (statics program.classes) → left_from roots 0 ≡ fold (set_initial program) roots (own_statics program class)
-  all_left roots is =
-      ap (λ (left : ℕ). fold (set_initial program) roots (filter (λ (slot : ℕ). declared_by class (static_at program slot)) (range_with_len 0 left)))
-      (let all : count - 0 ≡ length (statics program.classes) = omega (arith, is) in all)

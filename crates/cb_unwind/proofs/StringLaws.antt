@@ -8,7 +8,6 @@ use Rattle.cb_heap.specs.Closed.{IsClosed}
 use Rattle.cb_heap.specs.Reading.{View, read_roots, seen, serial_of}
 use Rattle.cb_heap.specs.Store.{ReadsAsBefore}
 use Rattle.cb_heap.specs.Text.{unit_contents, with_text}
-use Rattle.cb_link.specs.Having.{site_kinds}
 use Rattle.cb_link.specs.Numbers.{or_none}
 use Rattle.cb_link.specs.Program.{Linked}
 use Rattle.cb_machine.specs.Machine.{Machine, kind_of_site, listed, or_zero}
@@ -21,10 +20,7 @@ use Rattle.cb_plain.specs.State.{Content, Object, Reference, Roots}
 use Rattle.cb_unwind.specs.Steps.{view_of, with_view}
 use Rattle.cb_unwind.specs.Strings.{constant_or_new, constant_sites, units_of, with_constant}
 
--- the kind of a site, and what a table lists
-pub kind_so : (program : Linked) (site kind : ℕ) → slice_get (site_kinds program) site ≡ Some kind → kind ≡ kind_of_site program site
-kind_so program site kind is = sym (ap or_zero is)
-
+-- what a table lists, and the units of a text
 pub listed_so : (table : List ℕ) (place entry : ℕ) → slice_get table place ≡ Some entry → listed table place ≡ entry
 listed_so table place entry is = ap or_zero is
 
@@ -34,13 +30,6 @@ units_so program text units is = sym (ap or_none is)
 module _ (program : Linked) (index : ℕ → ℕ) (objects : List (Option Object)) (held : Roots) (text known : ℕ) (is : slice_get held.tables.constants text ≡ Some known) where
   listed_read : listed (map (serial_of index) held.tables.constants) text ≡ serial_of index known
   listed_read = ap or_zero (slice_get-map (serial_of index) held.tables.constants text) ∙ ap (λ (found : Option ℕ). or_zero (option_map (serial_of index) found)) is
-
-  -- one that is there
-  pub known_so : (known ≡ 0 → ⊥) → with_constant program text (seen index objects held) ≡ (serial_of index known, seen index objects held)
-  known_so some = ap (constant_or_new program text (seen index objects held)) listed_read ∙ go known some where
-    go : (known : ℕ) → (known ≡ 0 → ⊥) → constant_or_new program text (seen index objects held) (serial_of index known) ≡ (serial_of index known, seen index objects held)
-    go zero some = absurd (some refl)
-    go (suc place) some = refl
 
   -- a new one
   abbrev entered_as : Roots → ℕ → ℕ × View

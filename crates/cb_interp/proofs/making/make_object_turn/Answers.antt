@@ -1,4 +1,4 @@
-use Rattle.std.proofs.Common.{◌≡◌, ◌∙◌, ap, sym, subst, [], ◌∷◌, List}
+use Rattle.std.proofs.Common.{arith, length, ◌≡◌, ◌∙◌, ap, sym, subst, [], ◌∷◌, List}
 use Rattle.std.specs.declared.result.Result.TheVariants.{Err, Ok}
 use Rattle.cb_heap.specs.Kept.{residents}
 use Rattle.cb_heap.specs.declared.no_room.NoRoom.{NoRoom}
@@ -10,7 +10,13 @@ use Rattle.cb_plain.specs.declared.want.Want.{Want}
 use Rattle.cb_interp.specs.Placing.{at_place, made_object}
 use Rattle.cb_interp.specs.Turning.{TurnRefused, machine_of, moment_of, state_of}
 use Rattle.cb_interp.proofs.TurnsMaking.{handed_on, object_refused, object_turn, room_again, size_want}
+use Rattle.cb_interp.proofs.TurnsNeedSerials.{serial_left}
 use Rattle.cb_interp.proofs.making.make_object_turn.Goals as goal
+
+pub make_object-requires-clause-serials : goal.make_object-requires-clause-serials
+make_object-requires-clause-serials g c =
+    serial_left g.S.Store.FIXED (length (g.S.Store.kept c.args.store.now)) (length (g.S.Store.kept c.make_room.new.self)) (1) _ c.make_room.ensures.collected.count
+    (omega arith) c.requires.1.1.1.1.1.1.0 c.in_ok-make_room.ensures.bounded
 
 pub make_object-requires-clause-room : goal.make_object-requires-clause-room
 make_object-requires-clause-room g c =

@@ -1,4 +1,4 @@
-use Rattle.std.proofs.Common.{◌≡◌, ◌∙◌, ap, sym, subst, [], ◌∷◌, List}
+use Rattle.std.proofs.Common.{◌^◌, arith, length, ◌≡◌, ◌∙◌, ap, sym, subst, [], ◌∷◌, List}
 use Rattle.std.specs.declared.result.Result.TheVariants.{Ok}
 use Rattle.cb_heap.specs.Kept.{residents}
 use Rattle.cb_heap.specs.Reading.{View, seen}
@@ -8,7 +8,13 @@ use Rattle.cb_plain.specs.declared.want.Want.{Want}
 use Rattle.cb_interp.specs.Placing.{thrown}
 use Rattle.cb_interp.specs.Turning.{machine_of, moment_of, state_of}
 use Rattle.cb_interp.proofs.TurnsThrown.{exception_want, thrown_turn}
+use Rattle.cb_interp.proofs.TurnsNeedSerials.{serial_left}
 use Rattle.cb_interp.proofs.throwing.throw_turn.Goals as goal
+
+pub throw-requires-clause-serials : goal.throw-requires-clause-serials
+throw-requires-clause-serials g c =
+    serial_left g.S.Store.FIXED (length (g.S.Store.kept c.args.store.now)) (length (g.S.Store.kept c.make_room.new.self)) (2 ^ 28) _ c.make_room.ensures.collected.count
+    (omega arith) c.requires.1.1.1.1.1.1.0 c.in_ok-make_room.ensures.bounded
 
 pub returns-clause-made : goal.returns-clause-made
 returns-clause-made g c =

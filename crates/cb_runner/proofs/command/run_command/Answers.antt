@@ -15,9 +15,9 @@ returns-clause-answer g c =
       out = done.appends;
       err = c.tell-cause.ensures.told done.printed done.read;
       counts = record {
-        folder = folder_counts stop _ _ c.carry_out-stop.ensures.folder_fault;
-        input = input_counts stop _ _ c.carry_out-stop.ensures.input_fault;
-        out = output_counts stop _ _ c.carry_out-stop.ensures.output_fault;
+        folder = folder_counts stop _ _ c.carry_out-stop.ensures.tells c.carry_out-stop.ensures.folder_fault;
+        input = input_counts stop _ _ c.carry_out-stop.ensures.tells c.carry_out-stop.ensures.input_fault;
+        out = output_counts stop _ _ c.carry_out-stop.ensures.tells c.carry_out-stop.ensures.output_fault;
         err = c.tell-cause.ensures.fault;
       };
     })

@@ -1,9 +1,9 @@
 use Rattle.std.proofs.Common.{ℕ, List}
 use Rattle.cb_io.specs.Folder.{Files}
-use Rattle.cb_runner.proofs.RunOnce.{LinksOnce, judged_so, not_yet_so, returned_so, stopped_so, untyped_so}
+use Rattle.cb_runner.proofs.RunOnce.{LinksOnce, judged_so, runs_so, stopped_so, untyped_so}
 use Rattle.cb_runner.proofs.law.run_exactly.Goals as goal
 
-once : (c : goal.After-one_program) (files : Files) (folder main : List ℕ) → LinksOnce files folder main
+once : (c : goal.After-one_judgement) (files : Files) (folder main : List ℕ) → LinksOnce files folder main
 once c files folder main =
     record { apart = c.one_loading.ensures.never_both files folder main; same = c.one_loading.ensures.refusal files folder main; alike = c.one_loading.ensures.classes files folder main; judged = λ classes. c.one_judgement.ensures.never_both classes main; reason = λ classes. c.one_judgement.ensures.refusal classes main }
 
@@ -16,9 +16,5 @@ returns-clause-unlinked c = λ folder main files left ending classes refusal rea
 pub returns-clause-untyped : goal.returns-clause-untyped
 returns-clause-untyped c = λ folder main files left ending classes reason. untyped_so files folder main ending classes reason (once c files folder main)
 
-pub returns-clause-not_yet : goal.returns-clause-not_yet
-returns-clause-not_yet c = λ folder main files left ending classes file. not_yet_so files folder main ending classes file (once c files folder main)
-
-pub returns-clause-returned : goal.returns-clause-returned
-returns-clause-returned c = λ folder main bytes files left ending classes program runs loaded good typed may file.
-    returned_so files folder main bytes ending classes program (λ other spelled. c.one_program.ensures bytes other program spelled file.spelled) (once c files folder main) runs loaded good typed may file
+pub returns-clause-runs : goal.returns-clause-runs
+returns-clause-runs c = λ folder main files left ending classes. runs_so files folder main ending classes (once c files folder main)

@@ -1,6 +1,6 @@
 use Rattle.std.proofs.Common.{[]}
 use Rattle.cb_runner.specs.List.{ListsFile}
-use Rattle.cb_runner.proofs.Endings.{Appends-nothing, list_ends, list_unfound, makes_quietly, printed_so, quiet_count, stops_quietly}
+use Rattle.cb_runner.proofs.Endings.{Appends-nothing, list_ends, list_unfound, makes_quietly, printed_so, quiet_count, stops_quietly, stops_tell, unfound_tells}
 use Rattle.cb_runner.proofs.list.list_file.Goals as goal
 
 pub print_made-requires : goal.print_made-requires
@@ -22,3 +22,12 @@ returns-in-Ok-clause-folder_fault g c =
 
 pub returns-in-Err-clause-ends : goal.returns-in-Err-clause-ends
 returns-in-Err-clause-ends g c = ([], Appends-nothing _, list_unfound c.args.path.now _ c.in-Err.stop c.in-Err.ensures.stopped)
+
+pub returns-in-Ok-clause-tells : goal.returns-in-Ok-clause-tells
+returns-in-Ok-clause-tells g c =
+    let (file, may, finds) = c.in-Ok.ensures.found in
+    let (printed, appends, prints) = c.print_made.ensures.printed in
+    stops_tell (ListsFile c.args.path.now file) 0 c.print_made.result printed (printed_so (ListsFile c.args.path.now file) 0 c.listing_of.result c.print_made.result printed (c.listing_of.ensures file finds) prints)
+
+pub returns-in-Err-clause-tells : goal.returns-in-Err-clause-tells
+returns-in-Err-clause-tells g c = unfound_tells c.in-Err.stop c.in-Err.ensures.stopped

@@ -1,0 +1,5 @@
+public class Negative {
+    public static void main(String[] arguments) {
+        System.out.print(new int[-1].length);
+    }
+}

@@ -1,4 +1,0 @@
-pub mod Depths
-pub mod Scanning
-pub mod Spelling
-pub mod Uniqueness

@@ -1,0 +1,399 @@
+-- Where an instruction asks for a native, the machine's step is the performing of it.
+use Rattle.std.proofs.Common.{◌≡◌, ◌∙◌, ap, refl, sym, subst, ℕ, ◌+◌, Bool, true, false, List, [], ◌∷◌, ◌++◌, length, replicate, reverse, Option, Some, None, zero, suc}
+use Rattle.std.proofs.lemmas.Option.{same_Some}
+use Rattle.std.specs.List.{list_all}
+use Rattle.std.specs.Prelude.{option_and_then, option_map, slice_get, if◌then◌else◌}
+use Rattle.cb_classfile.specs.declared.body.Body.{Body}
+use Rattle.cb_classfile.specs.declared.method.Method.{Method}
+use Rattle.cb_frames.specs.Tops.{on_top, pushed, stack_in, top_stack}
+use Rattle.cb_hierarchy.specs.declared.selected.Selected.{Selected}
+use Rattle.cb_hierarchy.specs.declared.selected.Selected.TheVariants as chosen
+use Rattle.cb_insn.specs.declared.insn.Insn.{Insn}
+use Rattle.cb_kinds.specs.declared.basic.Basic.{Basic}
+use Rattle.cb_library.specs.declared.native.Native.{Native}
+use Rattle.cb_link.specs.Calls.{class_of_kind, select}
+use Rattle.cb_link.specs.Decoding.{decoded_as}
+use Rattle.cb_link.specs.Named.{code_at, insn_in}
+use Rattle.cb_link.specs.Numbers.{Numbered}
+use Rattle.cb_link.specs.Program.{Linked}
+use Rattle.cb_link.specs.Slots.{field_basic, static_basic}
+use Rattle.cb_link.specs.declared.decoded.Decoded.{Decoded}
+use Rattle.cb_link.specs.declared.named.Named.{Named}
+use Rattle.cb_link.specs.declared.named.Named.TheVariants as meanings
+use Rattle.cb_machine.specs.Calling.{asked_sorts, by_method, calls, invokes_special, invokes_static, invokes_virtual}
+use Rattle.cb_machine.specs.Creating.{is_size}
+use Rattle.cb_machine.specs.Machine.{Machine, class_declaring, method_numbered, or_zero}
+use Rattle.cb_machine.specs.Natives.{native_of, performed}
+use Rattle.cb_machine.specs.Standing.{Now, named_here, taken}
+use Rattle.cb_machine.specs.Steps.{done, plan}
+use Rattle.cb_plain.specs.Depth.{has_room}
+use Rattle.cb_plain.specs.State.{Frame, MethodFrame, Object, OfMethod, Roots, State}
+use Rattle.cb_plain.specs.Updates.{object_at}
+use Rattle.cb_plain.specs.declared.class_state.ClassState.{ClassState}
+use Rattle.cb_plain.specs.declared.class_state.ClassState.TheVariants as states
+use Rattle.cb_plain.specs.declared.value.Value.{Value}
+use Rattle.cb_plain.specs.declared.value.Value.TheVariants as values
+use Rattle.cb_shapes.specs.Shapes.{action_of}
+use Rattle.cb_shapes.specs.Sorts.{sort_of_elements}
+use Rattle.cb_shapes.specs.declared.action.Action.{Action}
+use Rattle.cb_shapes.specs.declared.action.Action.TheVariants as actions
+use Rattle.cb_shapes.specs.declared.sort.Sort.TheVariants as sorts
+use Rattle.cb_interp.specs.Acting.{Asks, Deed, Does, acted, acted_as, basic_on, call_deed, constant_deed, fits_on, get_deed, going_on, need_of, new_deed, of_frame, of_left, of_pended, on_field, on_kind, on_method, on_static, or_need, put_deed, receiver_deed, roots_left, sized, static_deed, when_ready, with_receiver, with_roots}
+use Rattle.cb_interp.specs.Classes.{behind_cast, behind_instance, behind_throw}
+use Rattle.cb_interp.specs.Framing.{ByZero, FrameLeft, Leaves, frame_left}
+use Rattle.cb_interp.specs.Going.{behind_get_static, behind_put_static, behind_return}
+use Rattle.cb_interp.specs.Here.{Here, standing_here}
+use Rattle.cb_interp.specs.Objects.{Goes, Left, Throws, behind_get_field, behind_length, behind_load_element, behind_put_field, behind_store_element, behind_store_reference}
+use Rattle.cb_interp.specs.Steps.{view_of}
+use Rattle.cb_interp.specs.declared.need.Need.TheVariants as needs
+use Rattle.cb_heap.specs.Reading.{View}
+use Rattle.cb_interp.proofs.Acts.{here, now}
+use Rattle.cb_interp.proofs.KeptCalls.{by_body, by_native, without_body}
+use Rattle.cb_interp.proofs.ObjectSteps.{front}
+
+-- the method of the native for which a deed asks
+abbrev pub asks_native : Option Deed → Option ℕ
+asks_native (Some (Asks (needs.Performs method))) = Some method
+asks_native other = None
+
+-- no native is asked for by what goes on, or stays
+left_none : (next : Option ℕ) (left : Option Left) → asks_native (option_and_then (λ pc. option_map (of_left pc) left) next) ≡ None
+left_none None left = refl
+left_none (Some pc) None = refl
+left_none (Some pc) (Some (Goes view)) = refl
+left_none (Some pc) (Some (Throws site)) = refl
+
+going_none : (decoded : Decoded) (left : Option Left) → asks_native (going_on decoded left) ≡ None
+going_none decoded left = left_none decoded.next left
+
+pended_none : (left : Option Left) → asks_native (option_map of_pended left) ≡ None
+pended_none None = refl
+pended_none (Some (Goes view)) = refl
+pended_none (Some (Throws site)) = refl
+
+framed_none : (view : View) (left : Option FrameLeft) → asks_native (option_map (of_frame view) left) ≡ None
+framed_none view None = refl
+framed_none view (Some (Leaves roots)) = refl
+framed_none view (Some ByZero) = refl
+
+returned_none : (view : View) (left : Option Roots) → asks_native (option_map (λ roots. Does (with_roots view roots)) left) ≡ None
+returned_none view None = refl
+returned_none view (Some roots) = refl
+
+sized_none : (found : Option (List Value × List Value)) → asks_native (option_map sized found) ≡ None
+sized_none None = refl
+sized_none (Some found) = go (list_all is_size found.0) where
+  go : (are : Bool) → asks_native (Some (if are then Asks needs.Makes else Asks (needs.Throws 19))) ≡ None
+  go true = refl
+  go false = refl
+
+ready_none : (view : View) (class : ℕ) (ready : Option Deed) → asks_native ready ≡ None → asks_native (when_ready view class ready) ≡ None
+ready_none view class ready none = go (slice_get view.roots.classes class) where
+  go : (state : Option ClassState) → asks_native (option_and_then (λ state. or_need ready (need_of class state)) state) ≡ None
+  go None = refl
+  go (Some states.Untouched) = refl
+  go (Some states.Failed) = refl
+  go (Some states.Busy) = none
+  go (Some states.Done) = none
+
+constant_none : (decoded : Decoded) (view : View) (named : Named) → asks_native (constant_deed decoded view named) ≡ None
+constant_none decoded view (meanings.Whole value) = going_none decoded (roots_left view (Some (pushed view.roots value)))
+constant_none decoded view (meanings.Text text) = refl
+constant_none decoded view (meanings.Kind kind) = refl
+constant_none decoded view other = refl
+
+field_none : (program : Linked) (go : ℕ → Basic → Option Deed) → ((slot : ℕ) (basic : Basic) → asks_native (go slot basic) ≡ None)
+    → (named : Named) → asks_native (on_field program go named) ≡ None
+field_none program go none (meanings.Field class slot) = by (field_basic program class slot) where
+  by : (basic : Option Basic) → asks_native (option_and_then (go slot) basic) ≡ None
+  by None = refl
+  by (Some basic) = none slot basic
+field_none program go none other = refl
+
+kind_none : (go : ℕ → Option Deed) → ((kind : ℕ) → asks_native (go kind) ≡ None) → (named : Named) → asks_native (on_kind go named) ≡ None
+kind_none go none (meanings.Kind kind) = none kind
+kind_none go none other = refl
+
+static_none : (go : ℕ → ℕ → Option Deed) → ((class slot : ℕ) → asks_native (go class slot) ≡ None) → (named : Named) → asks_native (on_static go named) ≡ None
+static_none go none (meanings.Static class slot) = none class slot
+static_none go none other = refl
+
+get_none : (decoded : Decoded) (view : View) (class slot : ℕ) → asks_native (get_deed decoded view class slot) ≡ None
+get_none decoded view class slot =
+    ready_none view class (going_on decoded (roots_left view (behind_get_static slot view.roots))) (going_none decoded (roots_left view (behind_get_static slot view.roots)))
+
+put_none : (program : Linked) (decoded : Decoded) (view : View) (class slot : ℕ) → asks_native (put_deed program decoded view class slot) ≡ None
+put_none program decoded view class slot =
+    ready_none view class (option_and_then (λ basic. going_on decoded (roots_left view (behind_put_static slot basic view.roots))) (static_basic program slot))
+    (by (static_basic program slot)) where
+      by : (basic : Option Basic) → asks_native (option_and_then (λ basic. going_on decoded (roots_left view (behind_put_static slot basic view.roots))) basic) ≡ None
+      by None = refl
+      by (Some basic) = going_none decoded (roots_left view (behind_put_static slot basic view.roots))
+
+new_none : (program : Linked) (view : View) (kind : ℕ) → asks_native (new_deed program view kind) ≡ None
+new_none program view kind = by (class_of_kind program kind) where
+  by : (class : Option ℕ) → asks_native (option_and_then (λ class. when_ready view class (Some (Asks needs.Makes))) class) ≡ None
+  by None = refl
+  by (Some class) = ready_none view class (Some (Asks needs.Makes)) refl
+
+-- a native is performed on so many values from the stack
+pub record Performing (now : Now) (method : ℕ) : Type 0 where
+  pub held : List Value
+  pub rest : List Value
+  pub native : Native
+  pub stack : now.frame.stack ≡ held ++ rest
+  pub is : native_of now.machine.program method ≡ Some native
+  pub called : plan now.machine now.state ≡ by_method now (reverse held) rest (chosen.Method method)
+  pub plans : plan now.machine now.state ≡ option_and_then (by_native now rest) (performed now.machine now.state native (reverse held))
+
+module _ (machine : Machine) (state : State) (frame : MethodFrame) (below : List Frame) (insn : Insn) (frames : state.roots.frames ≡ OfMethod frame ∷ below) (method : ℕ) where
+  abbrev at_now : Now
+  at_now = now machine state frame below insn frames
+
+  abbrev decoded : Decoded
+  decoded = here machine state frame below insn frames
+
+  stack_is : top_stack state.roots ≡ frame.stack
+  stack_is = ap (on_top [] stack_in) frames
+
+  -- a deed that asks for none isn't the one
+  never : (deed : Option Deed) → asks_native deed ≡ None → asks_native deed ≡ Some method → Performing at_now method
+  never deed none asks = absurd (cc (sym none ∙ asks))
+
+  -- of a method that was selected
+  abbrev called_deed : List Value → ℕ → Option Deed
+  called_deed held number = call_deed machine.program machine.frames (view_of state) (length held) (chosen.Method number)
+
+  opened : (held rest : List Value) (number : ℕ) (numbered : Numbered Method) (native : Native) → method_numbered machine.program number ≡ Some numbered
+      → numbered.member.body ≡ None → native_of machine.program number ≡ Some native
+      → by_method at_now (reverse held) rest (chosen.Method number) ≡ option_and_then (by_native at_now rest) (performed machine state native (reverse held))
+  opened held rest number numbered native there has is =
+      ap (option_and_then (λ (numbered : Numbered Method). by_body at_now number (reverse held) rest numbered.member.body)) there
+      ∙ ap (by_body at_now number (reverse held) rest) has ∙ ap (without_body at_now (reverse held) rest) is
+
+  selected : (selected : Selected) (held rest : List Value) → frame.stack ≡ held ++ rest → plan machine state ≡ by_method at_now (reverse held) rest selected
+      → asks_native (call_deed machine.program machine.frames (view_of state) (length held) selected) ≡ Some method → Performing at_now method
+  selected chosen.Abstract held rest stack whole asks = absurd (cc asks)
+  selected chosen.Several held rest stack whole asks = absurd (cc asks)
+  selected (chosen.Method number) held rest stack whole asks = go (method_numbered machine.program number) refl where
+    of_native : (numbered : Numbered Method) → method_numbered machine.program number ≡ Some numbered → numbered.member.body ≡ None
+        → (native : Option Native) → native_of machine.program number ≡ native → Performing at_now method
+    of_native numbered there has None is = never (called_deed held number) (rw (there, has, is) refl) asks
+    of_native numbered there has (Some native) is =
+        let own : asks_native (called_deed held number) ≡ Some number = rw (there, has, is) refl in
+        subst (Performing at_now) (same_Some number method (sym own ∙ asks))
+        (record {
+          held = held;
+          rest = rest;
+          native = native;
+          stack = stack;
+          is = is;
+          called = whole;
+          plans = whole ∙ opened held rest number numbered native there has is;
+        })
+
+    of_room : (numbered : Numbered Method) → method_numbered machine.program number ≡ Some numbered → (body : Body) → numbered.member.body ≡ Some body
+        → (room : Bool) → has_room machine.frames state.roots.frames (body.max_locals + body.max_stack) ≡ room → Performing at_now method
+    of_room numbered there body has true room = never (called_deed held number) (rw (there, has, room) refl) asks
+    of_room numbered there body has false room = never (called_deed held number) (rw (there, has, room) refl) asks
+
+    of_body : (numbered : Numbered Method) → method_numbered machine.program number ≡ Some numbered → (body : Option Body) → numbered.member.body ≡ body → Performing at_now method
+    of_body numbered there None has = of_native numbered there has (native_of machine.program number) refl
+    of_body numbered there (Some body) has = of_room numbered there body has (has_room machine.frames state.roots.frames (body.max_locals + body.max_stack)) refl
+
+    go : (numbered : Option (Numbered Method)) → method_numbered machine.program number ≡ numbered → Performing at_now method
+    go None there = never (called_deed held number) (rw there refl) asks
+    go (Some numbered) there = of_body numbered there numbered.member.body refl
+
+  -- invokestatic
+  abbrev static_asked : Option ℕ
+  static_asked = asks_native (on_method (static_deed machine.program machine.frames (view_of state)) (named_here at_now))
+
+  abbrev static_taken : ℕ → Option (List Value × List Value) → Option Deed
+  static_taken number found =
+      option_and_then (λ (taken : List Value × List Value). call_deed machine.program machine.frames (view_of state) (length taken.0) (chosen.Method number)) found
+
+  of_static : plan machine state ≡ invokes_static at_now → static_asked ≡ Some method → Performing at_now method
+  of_static whole asks = go (named_here at_now) refl where
+    none : static_asked ≡ None → Performing at_now method
+    none is = absurd (cc (sym is ∙ asks))
+
+    ready : (number : ℕ) → (found : Option (List Value × List Value)) → taken (asked_sorts machine.program number) frame.stack ≡ found
+        → invokes_static at_now ≡ option_and_then (λ (taken : List Value × List Value). by_method at_now (reverse taken.0) taken.1 (chosen.Method number)) (taken (asked_sorts machine.program number) frame.stack)
+        → static_asked ≡ asks_native (static_taken number (taken (asked_sorts machine.program number) (top_stack state.roots))) → Performing at_now method
+    ready number None there one other =
+        none
+        (other ∙ ap (λ stack. asks_native (static_taken number (taken (asked_sorts machine.program number) stack))) stack_is
+        ∙ ap (λ found. asks_native (static_taken number found)) there)
+    ready number (Some found) there one other =
+        selected (chosen.Method number) found.0 found.1 (front (asked_sorts machine.program number) frame.stack found.0 found.1 there)
+        (whole ∙ one ∙ ap (option_and_then (λ (taken : List Value × List Value). by_method at_now (reverse taken.0) taken.1 (chosen.Method number))) there)
+        (sym
+        (other ∙ ap (λ stack. asks_native (static_taken number (taken (asked_sorts machine.program number) stack))) stack_is
+        ∙ ap (λ found. asks_native (static_taken number found)) there)
+        ∙ asks)
+
+    of_state : (number class : ℕ) → named_here at_now ≡ meanings.Method number → class_declaring machine.program number ≡ Some class
+        → (own : Option ClassState) → slice_get state.roots.classes class ≡ own → Performing at_now method
+    of_state number class names declares None at = none (rw (names, declares, at) refl)
+    of_state number class names declares (Some states.Untouched) at = none (rw (names, declares, at) refl)
+    of_state number class names declares (Some states.Failed) at = none (rw (names, declares, at) refl)
+    of_state number class names declares (Some states.Busy) at =
+        ready number (taken (asked_sorts machine.program number) frame.stack) refl (rw (names, declares, at) refl) (rw (names, declares, at) refl)
+    of_state number class names declares (Some states.Done) at =
+        ready number (taken (asked_sorts machine.program number) frame.stack) refl (rw (names, declares, at) refl) (rw (names, declares, at) refl)
+
+    of_class : (number : ℕ) → named_here at_now ≡ meanings.Method number → (class : Option ℕ) → class_declaring machine.program number ≡ class → Performing at_now method
+    of_class number names None declares = none (rw (names, declares) refl)
+    of_class number names (Some class) declares = of_state number class names declares (slice_get state.roots.classes class) refl
+
+    go : (named : Named) → named_here at_now ≡ named → Performing at_now method
+    go (meanings.Method number) names = of_class number names (class_declaring machine.program number) refl
+    go meanings.Nothing names = none (rw names refl)
+    go (meanings.Static class slot) names = none (rw names refl)
+    go (meanings.Field class slot) names = none (rw names refl)
+    go (meanings.Kind kind) names = none (rw names refl)
+    go (meanings.Text text) names = none (rw names refl)
+    go (meanings.Whole value) names = none (rw names refl)
+
+  -- calls on a receiver
+  abbrev receives : ℕ → List Value → Option (List Value × List Value)
+  receives number stack = taken (asked_sorts machine.program number ++ sorts.Reference ∷ []) stack
+
+  abbrev received : (ℕ → Selected) → Option (List Value × List Value) → Option Deed
+  received choose found = option_and_then (with_receiver machine.program machine.frames (view_of state) choose) found
+
+  of_receiver : (choose : ℕ → Selected) (number : ℕ) → plan machine state ≡ calls at_now choose number
+      → asks_native (receiver_deed machine.program machine.frames (view_of state) choose number) ≡ Some method → Performing at_now method
+  of_receiver choose number whole asked = go (receives number frame.stack) refl where
+    asks : asks_native (received choose (receives number frame.stack)) ≡ Some method
+    asks = ap (λ stack. asks_native (received choose (receives number stack))) (sym stack_is) ∙ asked
+
+    of_object : (held rest : List Value) → receives number frame.stack ≡ Some (held, rest) → (place : ℕ) (arguments : List Value) → reverse held ≡ values.Ref (suc place) ∷ arguments
+        → (object : Option Object) → object_at state (suc place) ≡ object → Performing at_now method
+    of_object held rest there place arguments are None is = never (received choose (receives number frame.stack)) (rw (there, are, is) refl) asks
+    of_object held rest there place arguments are (Some object) is =
+        let first : calls at_now choose number ≡ by_method at_now (reverse held) rest (choose object.kind) = rw (there, are, is) refl in
+        let last : asks_native (received choose (receives number frame.stack))
+        ≡ asks_native (call_deed machine.program machine.frames (view_of state) (length held) (choose object.kind)) = rw (there, are, is) refl in
+        selected (choose object.kind) held rest (front (asked_sorts machine.program number ++ sorts.Reference ∷ []) frame.stack held rest there) (whole ∙ first) (sym last ∙ asks)
+
+    of_values : (held rest : List Value) → receives number frame.stack ≡ Some (held, rest) → (arguments : List Value) → reverse held ≡ arguments → Performing at_now method
+    of_values held rest there [] are = never (received choose (receives number frame.stack)) (rw (there, are) refl) asks
+    of_values held rest there (values.Int n ∷ others) are = never (received choose (receives number frame.stack)) (rw (there, are) refl) asks
+    of_values held rest there (values.Long n ∷ others) are = never (received choose (receives number frame.stack)) (rw (there, are) refl) asks
+    of_values held rest there (values.Ref zero ∷ others) are = never (received choose (receives number frame.stack)) (rw (there, are) refl) asks
+    of_values held rest there (values.Ref (suc place) ∷ others) are = of_object held rest there place others are (object_at state (suc place)) refl
+
+    go : (found : Option (List Value × List Value)) → receives number frame.stack ≡ found → Performing at_now method
+    go None there = never (received choose (receives number frame.stack)) (rw there refl) asks
+    go (Some (held, rest)) there = of_values held rest there (reverse held) refl
+
+  -- invokespecial and invokevirtual
+  abbrev method_asked : (ℕ → Option Deed) → Option ℕ
+  method_asked go = asks_native (on_method go (named_here at_now))
+
+  of_special : (index : ℕ) → plan machine state ≡ invokes_special at_now index → action_of insn ≡ Some (actions.InvokeSpecial index)
+      → insn_in (code_at machine.program frame.method) frame.pc ≡ Some insn
+      → method_asked (receiver_deed machine.program machine.frames (view_of state) (λ kind. decoded.selected)) ≡ Some method → Performing at_now method
+  of_special index whole so there asks = go (named_here at_now) refl where
+    none : method_asked (receiver_deed machine.program machine.frames (view_of state) (λ kind. decoded.selected)) ≡ None → Performing at_now method
+    none is = absurd (cc (sym is ∙ asks))
+
+    go : (named : Named) → named_here at_now ≡ named → Performing at_now method
+    go (meanings.Method number) names =
+        let called : invokes_special at_now index ≡ calls at_now (λ kind. decoded.selected) number = rw (names, there, so) refl in
+        let own : method_asked (receiver_deed machine.program machine.frames (view_of state) (λ kind. decoded.selected))
+        ≡ asks_native (receiver_deed machine.program machine.frames (view_of state) (λ kind. decoded.selected) number) = rw names refl in
+        of_receiver (λ kind. decoded.selected) number (whole ∙ called) (sym own ∙ asks)
+    go meanings.Nothing names = none (rw names refl)
+    go (meanings.Static class slot) names = none (rw names refl)
+    go (meanings.Field class slot) names = none (rw names refl)
+    go (meanings.Kind kind) names = none (rw names refl)
+    go (meanings.Text text) names = none (rw names refl)
+    go (meanings.Whole value) names = none (rw names refl)
+
+  abbrev virtual_deed : ℕ → Option Deed
+  virtual_deed number = receiver_deed machine.program machine.frames (view_of state) (λ kind. select machine.program kind number) number
+
+  of_virtual : plan machine state ≡ invokes_virtual at_now → method_asked (λ number. virtual_deed number) ≡ Some method → Performing at_now method
+  of_virtual whole asks = go (named_here at_now) refl where
+    none : method_asked (λ number. virtual_deed number) ≡ None → Performing at_now method
+    none is = absurd (cc (sym is ∙ asks))
+
+    go : (named : Named) → named_here at_now ≡ named → Performing at_now method
+    go (meanings.Method number) names =
+        let called : invokes_virtual at_now ≡ calls at_now (λ kind. select machine.program kind number) number = rw names refl in
+        let own : method_asked (λ number. virtual_deed number) ≡ asks_native (virtual_deed number) = rw names refl in
+        of_receiver (λ kind. select machine.program kind number) number (whole ∙ called) (sym own ∙ asks)
+    go meanings.Nothing names = none (rw names refl)
+    go (meanings.Static class slot) names = none (rw names refl)
+    go (meanings.Field class slot) names = none (rw names refl)
+    go (meanings.Kind kind) names = none (rw names refl)
+    go (meanings.Text text) names = none (rw names refl)
+    go (meanings.Whole value) names = none (rw names refl)
+
+  abbrev deed : Action → Option Deed
+  deed action = acted_as machine.program machine.frames decoded (view_of state) action
+
+  -- no other instruction asks for one
+  pub by_action : (action : Action) → action_of insn ≡ Some action → insn_in (code_at machine.program frame.method) frame.pc ≡ Some insn
+      → plan machine state ≡ done at_now insn.operand action → asks_native (deed action) ≡ Some method → Performing at_now method
+  by_action (actions.InvokeStatic index) so there whole asks = of_static whole asks
+  by_action (actions.InvokeSpecial index) so there whole asks = of_special index whole so there asks
+  by_action (actions.InvokeVirtual index) so there whole asks = of_virtual whole asks
+  by_action (actions.InvokeInterface index count) so there whole asks = absurd (cc asks)
+  by_action (actions.Constant index) so there whole asks = never (deed (actions.Constant index)) (constant_none decoded (view_of state) decoded.named) asks
+  by_action actions.Switch so there whole asks = absurd (cc asks)
+  by_action (actions.LoadNumber elements) so there whole asks =
+      never (deed (actions.LoadNumber elements)) (going_none decoded (behind_load_element (basic_on machine.program (sort_of_elements elements) (view_of state) 1) (view_of state))) asks
+  by_action (actions.StoreNumber elements) so there whole asks =
+      never (deed (actions.StoreNumber elements)) (going_none decoded (behind_store_element (sort_of_elements elements) (basic_on machine.program (sort_of_elements elements) (view_of state) 2) (view_of state))) asks
+  by_action actions.Length so there whole asks = never (deed actions.Length) (going_none decoded (behind_length (view_of state))) asks
+  by_action actions.LoadReference so there whole asks =
+      never (deed actions.LoadReference) (going_none decoded (behind_load_element (basic_on machine.program sorts.Reference (view_of state) 1) (view_of state))) asks
+  by_action actions.StoreReference so there whole asks =
+      never (deed actions.StoreReference) (going_none decoded (behind_store_reference (fits_on machine.program (view_of state)) (view_of state))) asks
+  by_action (actions.GetField index) so there whole asks =
+      never (deed (actions.GetField index)) (field_none machine.program (λ slot basic. going_on decoded (behind_get_field slot basic (view_of state))) (λ slot basic. going_none decoded (behind_get_field slot basic (view_of state))) decoded.named) asks
+  by_action (actions.PutField index) so there whole asks =
+      never (deed (actions.PutField index)) (field_none machine.program (λ slot basic. going_on decoded (behind_put_field slot basic (view_of state))) (λ slot basic. going_none decoded (behind_put_field slot basic (view_of state))) decoded.named) asks
+  by_action (actions.GetStatic index) so there whole asks =
+      never (deed (actions.GetStatic index)) (static_none (get_deed decoded (view_of state)) (get_none decoded (view_of state)) decoded.named) asks
+  by_action (actions.PutStatic index) so there whole asks =
+      never (deed (actions.PutStatic index)) (static_none (put_deed machine.program decoded (view_of state)) (put_none machine.program decoded (view_of state)) decoded.named) asks
+  by_action (actions.New index) so there whole asks =
+      never (deed (actions.New index)) (kind_none (new_deed machine.program (view_of state)) (new_none machine.program (view_of state)) decoded.named) asks
+  by_action (actions.NewNumbers code) so there whole asks =
+      never (deed (actions.NewNumbers code)) (sized_none (taken (replicate 1 sorts.Int) (top_stack state.roots))) asks
+  by_action (actions.NewReferences index) so there whole asks =
+      never (deed (actions.NewReferences index)) (sized_none (taken (replicate 1 sorts.Int) (top_stack state.roots))) asks
+  by_action (actions.NewArrays index dimensions) so there whole asks =
+      never (deed (actions.NewArrays index dimensions)) (sized_none (taken (replicate dimensions sorts.Int) (top_stack state.roots))) asks
+  by_action (actions.Cast index) so there whole asks =
+      never (deed (actions.Cast index)) (kind_none (λ kind. going_on decoded (behind_cast machine.program kind (view_of state))) (λ kind. going_none decoded (behind_cast machine.program kind (view_of state))) decoded.named) asks
+  by_action (actions.IsInstance index) so there whole asks =
+      never (deed (actions.IsInstance index)) (kind_none (λ kind. going_on decoded (behind_instance machine.program kind (view_of state))) (λ kind. going_none decoded (behind_instance machine.program kind (view_of state))) decoded.named) asks
+  by_action actions.Throw so there whole asks = never (deed actions.Throw) (pended_none (behind_throw (view_of state))) asks
+  by_action (actions.Return sort) so there whole asks =
+      never (deed (actions.Return sort)) (returned_none (view_of state) (behind_return machine.program sort state.roots)) asks
+  by_action action so there whole asks =
+      never (deed action) (framed_none (view_of state) (frame_left action (or_zero decoded.next) (or_zero decoded.target) state.roots)) asks
+
+pub native_asked : (machine : Machine) (state : State) (decoded : Decoded) (at : Here machine state decoded) (method : ℕ)
+    → acted machine.program machine.frames decoded (view_of state) ≡ Some (Asks (needs.Performs method)) → Performing (standing_here machine state decoded at) method
+native_asked machine state decoded at method asks = go (action_of at.insn) refl where
+  own : option_and_then (acted_as machine.program machine.frames (decoded_as machine.program at.frame.method at.frame.pc at.insn) (view_of state)) (action_of at.insn)
+      ≡ Some (Asks (needs.Performs method))
+  own = sym (ap (λ (decoded : Decoded). acted machine.program machine.frames decoded (view_of state)) at.is) ∙ asks
+
+  go : (action : Option Action) → action_of at.insn ≡ action → Performing (standing_here machine state decoded at) method
+  go None does =
+      let none : option_and_then (acted_as machine.program machine.frames (decoded_as machine.program at.frame.method at.frame.pc at.insn) (view_of state)) (action_of at.insn) ≡ None =
+      ap (option_and_then (acted_as machine.program machine.frames (decoded_as machine.program at.frame.method at.frame.pc at.insn) (view_of state))) does in
+      absurd (cc (sym none ∙ own))
+  go (Some action) does =
+      let whole : plan machine state ≡ done (now machine state at.frame at.below at.insn at.frames) at.insn.operand action = rw (at.runs, at.quiet, at.frames, at.there, does) refl in
+      by_action machine state at.frame at.below at.insn at.frames method action does at.there whole
+      (ap asks_native
+      (sym (ap (option_and_then (acted_as machine.program machine.frames (decoded_as machine.program at.frame.method at.frame.pc at.insn) (view_of state))) does) ∙ own))

@@ -1,0 +1,45 @@
+use Rattle.std.proofs.Common.{◌∙◌, ap, arith, Some}
+use Rattle.cb_interp.proofs.TurnsTextParent.{new_plan, past_plan, some_stand}
+use Rattle.cb_interp.proofs.parent_turns.looks_at_parent.Goals as goal
+
+pub passes_parent-requires : goal.passes_parent-requires
+passes_parent-requires g c κs lives =
+    let few = c.linked_frames.ensures.few c.args.program.now c.requires.1.0.linked c.args.class in
+    let before = c.requires.1.1.1.1.1.1 in (
+      lives,
+      (
+        past_plan c.args.program.now c.args.roots.now.limit (g.S.Store.index c.args.store.now) (g.S.Store.kept c.args.store.now) c.args.roots.now.roots g.outside c.args.class c.args.place
+            c.parent-parent.result c.requires.1.1.1.0 c.requires.1.1.1.1.0 before c.parent-parent.ensures.found c.state-now.result c.state-now.ensures (c.is_past.ensures c.if-is_past.true),
+        (
+          some_stand c.args.program.now c.args.roots.now.limit (g.S.Store.index c.args.store.now) (g.S.Store.kept c.args.store.now) c.args.roots.now.roots g.outside c.args.class c.args.place
+              c.parent-parent.result c.requires.1.1.1.0 c.requires.1.1.1.1.0 before c.parent-parent.ensures.found,
+          omega (arith, few, before),
+        ),
+      ),
+    )
+
+pub behind_texts-requires : goal.behind_texts-requires
+behind_texts-requires g c κs lives =
+    let few = c.linked_frames.ensures.few c.args.program.now c.requires.1.0.linked c.args.class in
+    let before = c.requires.1.1.1.1.1.1 in (
+      lives,
+      (
+        c.requires.1.0,
+        (
+          c.requires.1.1.0,
+          (
+            new_plan c.args.program.now c.args.roots.now.limit (g.S.Store.index c.args.store.now) (g.S.Store.kept c.args.store.now) c.args.roots.now.roots g.outside c.args.class c.args.place
+                c.parent-parent.result c.requires.1.1.1.0 c.requires.1.1.1.1.0 before c.parent-parent.ensures.found
+                (c.state-now.ensures ∙ ap Some (c.is_untouched.ensures c.if-is_untouched.true)),
+            (
+              c.parent-parent.ensures.within,
+              (
+                some_stand c.args.program.now c.args.roots.now.limit (g.S.Store.index c.args.store.now) (g.S.Store.kept c.args.store.now) c.args.roots.now.roots g.outside c.args.class c.args.place
+                    c.parent-parent.result c.requires.1.1.1.0 c.requires.1.1.1.1.0 before c.parent-parent.ensures.found,
+                omega (arith, few, before),
+              ),
+            ),
+          ),
+        ),
+      ),
+    )

@@ -1,0 +1,46 @@
+use Rattle.std.proofs.Common.{rules, ◌≡◌, ◌∙◌, ap, arith, refl, sym, Some}
+use Rattle.cb_heap.proofs.Laws.{reads_room}
+use Rattle.cb_heap.specs.Reading.{read_roots, seen}
+use Rattle.cb_interp.specs.Turning.{machine_of, state_of}
+use Rattle.cb_interp.proofs.TurnsTextBegun.{deep_so}
+use Rattle.cb_interp.proofs.text_turns.begins_texts.Goals as goal
+
+pub throws_at-requires : goal.throws_at-requires
+throws_at-requires g c κs lives = (
+  lives,
+  (
+    c.requires.1.0,
+    (
+      c.requires.1.1.0,
+      (
+        c.requires.1.1.1.0
+            ∙ ap Some (deep_so (machine_of c.args.program.now c.args.roots.now.limit)
+            (state_of (seen (g.S.Store.index c.args.store.now) (g.S.Store.kept c.args.store.now) c.args.roots.now.roots) g.outside)
+            (read_roots (g.S.Store.index c.args.store.now) c.args.roots.now.roots).frames c.args.class
+            (reads_room (g.S.Store.index c.args.store.now) c.args.roots.now.roots c.args.roots.now.limit 0 ∙ sym c.has_room.ensures ∙ c.if-not-has_room.true)),
+        (6, omega arith, refl),
+      ),
+    ),
+  ),
+)
+
+pub begins_asked-requires : goal.begins_asked-requires
+begins_asked-requires g c κs lives = (
+  lives,
+  (
+    c.requires.1.0,
+    (
+      c.requires.1.1.0,
+      (
+        c.requires.1.1.1.0,
+        (
+          c.requires.1.1.1.1,
+          (
+            c.may_begin_texts.ensures.sites c.if-not-may_begin_texts.false,
+            (c.may_begin_texts.ensures.may c.if-not-may_begin_texts.false, sym c.has_room.ensures ∙ c.if-not-has_room.false),
+          ),
+        ),
+      ),
+    ),
+  ),
+)

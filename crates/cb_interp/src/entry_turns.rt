@@ -1,0 +1,221 @@
+// Turns of a run in which no frame stands: main is entered once its class is ready (JLS §12.1.4, JVMS §5.2).
+ghost use Rattle.std.specs.Prelude.{◌≡◌, ◌∷◌, ◌<◌, [], false, slice_get, true, IfErr, IsErrOf, None, OnErr, OnOk, Some};
+ghost use Rattle.cb_frames.specs.Tops.{topmost};
+ghost use Rattle.cb_heap.specs.declared.no_room.NoRoom.TheVariants as rooms;
+ghost use Rattle.cb_heap.specs.Reading.{seen, serial_of};
+ghost use Rattle.cb_io.specs.Faults.{CountsFaults};
+ghost use Rattle.cb_machine.specs.Entering.{entered_from};
+ghost use Rattle.cb_machine.specs.Sites.{stack_overflow};
+ghost use Rattle.cb_machine.specs.Steps.{plan};
+ghost use Rattle.cb_machine.specs.Throwing.{throws};
+ghost use Rattle.cb_plain.specs.declared.value.Value.TheVariants.{Ref};
+ghost use Rattle.cb_plain.specs.Updates.{with_argument};
+ghost use Rattle.cb_interp.specs.declared.stop.Stop.TheVariants as stops;
+ghost use Rattle.cb_interp.specs.Going.{is_ready};
+ghost use Rattle.cb_interp.specs.Running.{MayRun, StopsBy};
+ghost use Rattle.cb_interp.specs.Turning.{Outside, TurnMade, machine_of, moment_of, state_of};
+
+use crate::Stop;
+use crate::frame_turns::{begins_class, throws_at};
+use crate::sites::{NO_CLASS_DEFINITION, STACK_OVERFLOW};
+use cb_classfile::Body;
+use cb_frames::{Deep, Roots};
+use cb_heap::Store;
+use cb_link::Program;
+use cb_plain::{ClassState, Request, Value};
+
+/// The next turn of a run in which no exception is pending and no frame stands: `main` is entered, once its class is ready. Where no array
+/// of arguments waits for it the run has ended.
+pub(crate) fn idle_turn<S: Store>(
+    program: &Program,
+    store: &mut S,
+    roots: &mut Roots,
+    request: &mut Request,
+) -> Result<(), Stop>
+    ghost outside: { Outside }
+    requires runs { MayRun program.now (S.shapes store.old) (S.knows store.old) (S.allows store.old)
+        (state_of (seen (S.index store.old) (S.kept store.old) roots.old.roots) outside) }
+    requires open { S.FIXED ≡ false }
+    requires quiet { roots.old.roots.pending ≡ 0 }
+    requires none { topmost roots.old.roots.frames ≡ None }
+    ensures made { OnOk result (TurnMade S.rules (machine_of program.now roots.old.limit) (moment_of
+        (seen (S.index store.old) (S.kept store.old) roots.old.roots) outside (S.facts store.old))
+        (moment_of (seen (S.index store.new) (S.kept store.new) roots.new.roots) outside
+        (S.facts store.new))) }
+    ensures stopped { IfErr result (λ stop. StopsBy S.rules
+        (machine_of program.now roots.old.limit) stop (moment_of (seen (S.index store.old)
+        (S.kept store.old) roots.old.roots) outside (S.facts store.old)) (moment_of (seen
+        (S.index store.new) (S.kept store.new) roots.new.roots) outside (S.facts store.new))) }
+    ensures counted { CountsFaults (S.faults store.old) (S.faults store.new) (IsErrOf result
+        (stops.NoRoom rooms.ReportFault)) }
+    ensures limit { roots.new.limit ≡ roots.old.limit }
+    ensures knows { S.knows store.new ≡ S.knows store.old }
+    ensures allows { S.allows store.new ≡ S.allows store.old }
+    ensures shapes { S.shapes store.new ≡ S.shapes store.old }
+{
+    if roots.argument() == 0 {
+        return Err(Stop::Returned);
+    }
+    starts_main(program, store, roots, request)
+}
+
+/// The same where one waits.
+fn starts_main<S: Store>(
+    program: &Program,
+    store: &mut S,
+    roots: &mut Roots,
+    request: &mut Request,
+) -> Result<(), Stop>
+    ghost outside: { Outside }
+    requires runs { MayRun program.now (S.shapes store.old) (S.knows store.old) (S.allows store.old)
+        (state_of (seen (S.index store.old) (S.kept store.old) roots.old.roots) outside) }
+    requires open { S.FIXED ≡ false }
+    requires quiet { roots.old.roots.pending ≡ 0 }
+    requires none { topmost roots.old.roots.frames ≡ None }
+    requires waits { 0 < roots.old.roots.argument }
+    ensures made { OnOk result (TurnMade S.rules (machine_of program.now roots.old.limit) (moment_of
+        (seen (S.index store.old) (S.kept store.old) roots.old.roots) outside (S.facts store.old))
+        (moment_of (seen (S.index store.new) (S.kept store.new) roots.new.roots) outside
+        (S.facts store.new))) }
+    ensures stopped { IfErr result (λ stop. StopsBy S.rules
+        (machine_of program.now roots.old.limit) stop (moment_of (seen (S.index store.old)
+        (S.kept store.old) roots.old.roots) outside (S.facts store.old)) (moment_of (seen
+        (S.index store.new) (S.kept store.new) roots.new.roots) outside (S.facts store.new))) }
+    ensures counted { CountsFaults (S.faults store.old) (S.faults store.new) (IsErrOf result
+        (stops.NoRoom rooms.ReportFault)) }
+    ensures limit { roots.new.limit ≡ roots.old.limit }
+    ensures knows { S.knows store.new ≡ S.knows store.old }
+    ensures allows { S.allows store.new ≡ S.allows store.old }
+    ensures shapes { S.shapes store.new ≡ S.shapes store.old }
+{
+    let class = program.main_class();
+    match roots.state(class) {
+        ClassState::Untouched => begins_class(program, store, roots, request, class),
+        ClassState::Failed => throws_at(program, store, roots, request, NO_CLASS_DEFINITION),
+        ClassState::Busy | ClassState::Done => enters_main(program, store, roots, request),
+    }
+}
+
+/// And the class of `main` is ready.
+fn enters_main<S: Store>(
+    program: &Program,
+    store: &mut S,
+    roots: &mut Roots,
+    request: &mut Request,
+) -> Result<(), Stop>
+    ghost outside: { Outside }
+    requires runs { MayRun program.now (S.shapes store.old) (S.knows store.old) (S.allows store.old)
+        (state_of (seen (S.index store.old) (S.kept store.old) roots.old.roots) outside) }
+    requires open { S.FIXED ≡ false }
+    requires quiet { roots.old.roots.pending ≡ 0 }
+    requires none { topmost roots.old.roots.frames ≡ None }
+    requires waits { 0 < roots.old.roots.argument }
+    requires ready { is_ready (slice_get roots.old.roots.classes program.now.main_class) ≡ true }
+    ensures made { OnOk result (TurnMade S.rules (machine_of program.now roots.old.limit) (moment_of
+        (seen (S.index store.old) (S.kept store.old) roots.old.roots) outside (S.facts store.old))
+        (moment_of (seen (S.index store.new) (S.kept store.new) roots.new.roots) outside
+        (S.facts store.new))) }
+    ensures stopped { IfErr result (λ stop. StopsBy S.rules
+        (machine_of program.now roots.old.limit) stop (moment_of (seen (S.index store.old)
+        (S.kept store.old) roots.old.roots) outside (S.facts store.old)) (moment_of (seen
+        (S.index store.new) (S.kept store.new) roots.new.roots) outside (S.facts store.new))) }
+    ensures counted { CountsFaults (S.faults store.old) (S.faults store.new) (IsErrOf result
+        (stops.NoRoom rooms.ReportFault)) }
+    ensures limit { roots.new.limit ≡ roots.old.limit }
+    ensures knows { S.knows store.new ≡ S.knows store.old }
+    ensures allows { S.allows store.new ≡ S.allows store.old }
+    ensures shapes { S.shapes store.new ≡ S.shapes store.old }
+{
+    let method = program.main_method();
+    match &program.method(method).body {
+        Some(body) => enters_first(program, store, roots, request, method, body),
+        None => Err(Stop::NotYet),
+    }
+}
+
+/// A method with this code is entered as the first one, with the array that waits as its argument, or a StackOverflowError is thrown where
+/// there is no room for its frame.
+fn enters_first<S: Store>(
+    program: &Program,
+    store: &mut S,
+    roots: &mut Roots,
+    request: &mut Request,
+    method: u32,
+    body: &Body,
+) -> Result<(), Stop>
+    ghost outside: { Outside }
+    requires runs { MayRun program.now (S.shapes store.old) (S.knows store.old) (S.allows store.old)
+        (state_of (seen (S.index store.old) (S.kept store.old) roots.old.roots) outside) }
+    requires open { S.FIXED ≡ false }
+    requires none { topmost roots.old.roots.frames ≡ None }
+    requires plans { plan (machine_of program.now roots.old.limit) (state_of (seen
+        (S.index store.old) (S.kept store.old) roots.old.roots) outside)
+        ≡ Some (entered_from (machine_of program.now roots.old.limit) (state_of (seen
+        (S.index store.old) (S.kept store.old) roots.old.roots) outside) (with_argument (state_of
+        (seen (S.index store.old) (S.kept store.old) roots.old.roots) outside) 0) [] method (Ref
+        (serial_of (S.index store.old) roots.old.roots.argument) ∷ []) body.now) }
+    requires locals { 0 < body.now.max_locals }
+    ensures made { OnOk result (TurnMade S.rules (machine_of program.now roots.old.limit) (moment_of
+        (seen (S.index store.old) (S.kept store.old) roots.old.roots) outside (S.facts store.old))
+        (moment_of (seen (S.index store.new) (S.kept store.new) roots.new.roots) outside
+        (S.facts store.new))) }
+    ensures stopped { IfErr result (λ stop. StopsBy S.rules
+        (machine_of program.now roots.old.limit) stop (moment_of (seen (S.index store.old)
+        (S.kept store.old) roots.old.roots) outside (S.facts store.old)) (moment_of (seen
+        (S.index store.new) (S.kept store.new) roots.new.roots) outside (S.facts store.new))) }
+    ensures counted { CountsFaults (S.faults store.old) (S.faults store.new) (IsErrOf result
+        (stops.NoRoom rooms.ReportFault)) }
+    ensures limit { roots.new.limit ≡ roots.old.limit }
+    ensures knows { S.knows store.new ≡ S.knows store.old }
+    ensures allows { S.allows store.new ≡ S.allows store.old }
+    ensures shapes { S.shapes store.new ≡ S.shapes store.old }
+{
+    match enter_turn(program, store, roots, method, body) {
+        Ok(()) => Ok(()),
+        Err(Deep) => throws_at(program, store, roots, request, STACK_OVERFLOW),
+    }
+}
+
+/// A turn in which a method with this code is entered as the first one, with the array that waits as its argument: it is its first local
+/// variable, and no longer waits. Where it is `Deep` there is no room for its frame, and a StackOverflowError is thrown in its place; then
+/// nothing has changed.
+fn enter_turn<S: Store>(
+    program: &Program,
+    store: &S,
+    roots: &mut Roots,
+    method: u32,
+    body: &Body,
+) -> Result<(), Deep>
+    ghost outside: { Outside }
+    requires none { topmost roots.old.roots.frames ≡ None }
+    requires plans { plan (machine_of program.now roots.old.limit) (state_of (seen
+        (S.index store.now) (S.kept store.now) roots.old.roots) outside)
+        ≡ Some (entered_from (machine_of program.now roots.old.limit) (state_of (seen
+        (S.index store.now) (S.kept store.now) roots.old.roots) outside) (with_argument (state_of
+        (seen (S.index store.now) (S.kept store.now) roots.old.roots) outside) 0) [] method (Ref
+        (serial_of (S.index store.now) roots.old.roots.argument) ∷ []) body.now) }
+    requires locals { 0 < body.now.max_locals }
+    ensures made { OnOk result (TurnMade S.rules (machine_of program.now roots.old.limit) (moment_of
+        (seen (S.index store.now) (S.kept store.now) roots.old.roots) outside (S.facts store.now))
+        (moment_of (seen (S.index store.now) (S.kept store.now) roots.new.roots) outside
+        (S.facts store.now))) }
+    ensures deep { OnErr result (plan (machine_of program.now roots.old.limit) (state_of (seen
+        (S.index store.now) (S.kept store.now) roots.old.roots) outside)
+        ≡ Some (throws (machine_of program.now roots.old.limit) (state_of (seen (S.index store.now)
+        (S.kept store.now) roots.old.roots) outside) stack_overflow)) }
+    ensures same { OnErr result (roots.new ≡ roots.old) }
+    ensures limit { roots.new.limit ≡ roots.old.limit }
+{
+    let _ = program;
+    let _ = store;
+    let argument = roots.argument();
+    let locals = body.max_locals as u32;
+    match roots.enter(method, 0, locals, body.max_stack as u32) {
+        Ok(()) => {
+            roots.set_local(0, Value::Ref(argument));
+            roots.set_argument(0);
+            Ok(())
+        }
+        Err(Deep) => Err(Deep),
+    }
+}

@@ -1,0 +1,141 @@
+// Turns of a run in which a native is performed.
+ghost use Rattle.std.specs.Prelude.{◌≡◌, ◌<◌, ◌≤◌, ◌⊎◌, length, IfErr, IsErrOf, OnErr, OnOk, Some};
+ghost use Rattle.cb_frames.specs.Limited.{with_roots};
+ghost use Rattle.cb_frames.specs.Tops.{top_stack};
+ghost use Rattle.cb_heap.specs.Reading.{seen};
+ghost use Rattle.cb_io.specs.Faults.{CountsFaults};
+ghost use Rattle.cb_interp.specs.Acting.{Asks, acted};
+ghost use Rattle.cb_interp.specs.Here.{Here};
+ghost use Rattle.cb_interp.specs.Printing.{behind_taken, taken_by};
+ghost use Rattle.cb_interp.specs.Running.{MayRun, SaysBy, Turned};
+ghost use Rattle.cb_interp.specs.Turning.{Outside, machine_of, state_of};
+ghost use Rattle.cb_interp.specs.declared.need.Need.TheVariants as needs;
+ghost use Rattle.cb_interp.specs.declared.stop.Stop.TheVariants as stops;
+
+use crate::Stop;
+use crate::operands::{reference_at, take_one, take_two};
+use crate::printing::{Print, print_of, write_print};
+use crate::string_text::{chars_of, line_of, write_string};
+use cb_frames::Roots;
+use cb_heap::Store;
+use cb_io::Sink;
+use cb_link::{Decoded, Program};
+
+/// A turn in which the native for which the instruction at the topmost frame's place asks is performed. Done are those that print a boolean,
+/// a char, an int, a long, a string or a newline; any other is `NotYet` (Java SE 8 API, java.io.PrintStream). What is printed is written
+/// before anything is changed, so an `OutputFault` leaves the roots as they were. Takes constant time, and for a string time in its units.
+pub(crate) fn native_turn<S: Store, O: Sink>(
+    program: &Program,
+    store: &S,
+    roots: &mut Roots,
+    out: &mut O,
+    decoded: &Decoded,
+    method: u32,
+) -> Result<(), Stop>
+    ghost outside: { Outside }
+    requires runs { MayRun program.now (S.shapes store.now) (S.knows store.now)
+        (S.allows store.now) (state_of (seen (S.index store.now)
+        (S.kept store.now) roots.old.roots) outside) }
+    requires here { Here (machine_of program.now roots.old.limit) (state_of (seen
+        (S.index store.now) (S.kept store.now) roots.old.roots) outside) decoded.now }
+    requires asked { acted program.now roots.old.limit decoded.now (seen (S.index store.now)
+        (S.kept store.now) roots.old.roots) ≡ Some (Asks (needs.Performs method)) }
+    ensures made { OnOk result (Turned S.rules (machine_of program.now roots.old.limit) outside
+        (seen (S.index store.now) (S.kept store.now) roots.old.roots) (seen (S.index store.now)
+        (S.kept store.now) roots.new.roots) (S.facts store.now) (S.facts store.now)
+        (O.taken out.old) (O.taken out.new)) }
+    ensures same { OnErr result (roots.new ≡ roots.old) }
+    ensures left { IfErr result (λ stop. SaysBy (machine_of program.now roots.old.limit) (state_of
+        (seen (S.index store.now) (S.kept store.now) roots.old.roots) outside) stop
+        (O.taken out.old) (O.taken out.new)) }
+    ensures only { IfErr result (λ stop. (stop ≡ stops.OutputFault) ⊎ (stop ≡ stops.NotYet)) }
+    ensures output { CountsFaults (O.faults out.old) (O.faults out.new)
+        (IsErrOf result stops.OutputFault) }
+    ensures limit { roots.new.limit ≡ roots.old.limit }
+{
+    let Some(print) = print_of(program, method) else {
+        return string_turn(program, store, roots, out, decoded, method);
+    };
+    let Some(next) = decoded.next else {
+        return Err(Stop::NotYet);
+    };
+    if write_print(roots, print, out).is_err() {
+        return Err(Stop::OutputFault);
+    }
+    leave_print(roots, print, next);
+    Ok(())
+}
+
+/// A turn in which the native for which the instruction at the topmost frame's place asks is performed, where it prints a string. Any other
+/// is `NotYet`. Takes time in the units of the string.
+fn string_turn<S: Store, O: Sink>(
+    program: &Program,
+    store: &S,
+    roots: &mut Roots,
+    out: &mut O,
+    decoded: &Decoded,
+    method: u32,
+) -> Result<(), Stop>
+    ghost outside: { Outside }
+    requires runs { MayRun program.now (S.shapes store.now) (S.knows store.now)
+        (S.allows store.now) (state_of (seen (S.index store.now)
+        (S.kept store.now) roots.old.roots) outside) }
+    requires here { Here (machine_of program.now roots.old.limit) (state_of (seen
+        (S.index store.now) (S.kept store.now) roots.old.roots) outside) decoded.now }
+    requires asked { acted program.now roots.old.limit decoded.now (seen (S.index store.now)
+        (S.kept store.now) roots.old.roots) ≡ Some (Asks (needs.Performs method)) }
+    ensures made { OnOk result (Turned S.rules (machine_of program.now roots.old.limit) outside
+        (seen (S.index store.now) (S.kept store.now) roots.old.roots) (seen (S.index store.now)
+        (S.kept store.now) roots.new.roots) (S.facts store.now) (S.facts store.now)
+        (O.taken out.old) (O.taken out.new)) }
+    ensures same { OnErr result (roots.new ≡ roots.old) }
+    ensures left { IfErr result (λ stop. SaysBy (machine_of program.now roots.old.limit) (state_of
+        (seen (S.index store.now) (S.kept store.now) roots.old.roots) outside) stop
+        (O.taken out.old) (O.taken out.new)) }
+    ensures only { IfErr result (λ stop. (stop ≡ stops.OutputFault) ⊎ (stop ≡ stops.NotYet)) }
+    ensures output { CountsFaults (O.faults out.old) (O.faults out.new)
+        (IsErrOf result stops.OutputFault) }
+    ensures limit { roots.new.limit ≡ roots.old.limit }
+{
+    let Some(line) = line_of(program, method) else {
+        return Err(Stop::NotYet);
+    };
+    let Some(next) = decoded.next else {
+        return Err(Stop::NotYet);
+    };
+    let at = reference_at(roots, 0);
+    let Some(array) = chars_of(program, store, at) else {
+        return Err(Stop::NotYet);
+    };
+    if write_string(store, at, array, line, out).is_err() {
+        return Err(Stop::OutputFault);
+    }
+    leave_two(roots, next);
+    Ok(())
+}
+
+/// Takes the stream, and what was printed, from the stack, and goes on at a place.
+fn leave_print(roots: &mut Roots, print: Print, next: u32)
+    requires { taken_by print ≤ length (top_stack roots.old.roots) }
+    ensures { roots.new ≡ with_roots roots.old (behind_taken
+        (taken_by print) next roots.old.roots) }
+{
+    match print {
+        Print::Line => {
+            take_one(roots);
+            roots.set_place(next);
+        }
+        Print::Truth { .. } | Print::Char { .. } | Print::Int { .. } | Print::Long { .. } => {
+            leave_two(roots, next)
+        }
+    }
+}
+
+/// Takes two values from the stack, and goes on at a place.
+fn leave_two(roots: &mut Roots, next: u32)
+    requires { 1 < length (top_stack roots.old.roots) }
+    ensures { roots.new ≡ with_roots roots.old (behind_taken 2 next roots.old.roots) }
+{
+    take_two(roots);
+    roots.set_place(next);
+}

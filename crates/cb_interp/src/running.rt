@@ -1,0 +1,83 @@
+// Runs over a store.
+ghost use Rattle.std.specs.Prelude.{◌≡◌, ℕ, false, IsTrue};
+ghost use Rattle.cb_heap.specs.Kept.{is_kept};
+ghost use Rattle.cb_heap.specs.Reading.{seen, serial_of};
+ghost use Rattle.cb_io.specs.Faults.{CountsFaults};
+ghost use Rattle.cb_plain.specs.State.{State};
+ghost use Rattle.cb_safety.specs.States.{IsTypedState};
+ghost use Rattle.cb_interp.specs.Running.{Ended, IsEndOf, IsUncaught, MayRun, outside_of};
+ghost use Rattle.cb_interp.specs.Turning.{StandsAt, machine_of, moment_of, state_of};
+ghost use Rattle.cb_interp.specs.declared.end.End.TheVariants as ends;
+ghost use Rattle.cb_interp.specs.declared.stop.Stop.TheVariants as stops;
+
+use crate::idle::ended;
+use crate::turn::turn;
+use crate::{End, Stop};
+use cb_frames::Roots;
+use cb_heap::{NoRoom, Store};
+use cb_io::Sink;
+use cb_link::Program;
+use cb_plain::Request;
+
+/// Runs a program from where roots and store stand, for at most so many steps. Each is a turn: room is made for what the step places, and
+/// the step is made. `full` is the state of the machine that never frees for which they stand. Takes no memory but what the store takes.
+pub fn run<S: Store, O: Sink>(
+    program: &Program,
+    store: &mut S,
+    roots: &mut Roots,
+    out: &mut O,
+    steps: u64,
+) -> End
+    ghost full: { State }
+    requires runs { MayRun program.now (S.shapes store.old) (S.knows store.old) (S.allows store.old) (state_of (seen (S.index store.old) (S.kept store.old) roots.old.roots) (outside_of full)) }
+    requires whole { IsTypedState program.now full }
+    requires stands { StandsAt (moment_of (seen (S.index store.old) (S.kept store.old) roots.old.roots) (outside_of full) (S.facts store.old)) full }
+    requires open { S.FIXED ≡ false }
+    ensures ended { Ended S.rules (machine_of program.now roots.old.limit) steps result full
+        (moment_of (seen (S.index store.old) (S.kept store.old) roots.old.roots) (outside_of full) (S.facts store.old))
+        (seen (S.index store.new) (S.kept store.new) roots.new.roots) (S.facts store.new) (O.taken out.old) (O.taken out.new) }
+    ensures place { (class at : ℕ) → result ≡ ends.Uncaught class at → at ≡ roots.new.roots.pending }
+    ensures counted { CountsFaults (S.faults store.old) (S.faults store.new) (result ≡ ends.ReportFault) }
+    ensures output { CountsFaults (O.faults out.old) (O.faults out.new) (result ≡ ends.OutputFault) }
+{
+    let mut request = Request::new();
+    for number in 0..steps {
+        if let Err(stop) = turn(program, store, roots, &mut request, out, number) {
+            return stopped(store, roots, stop);
+        }
+    }
+    match ended(roots) {
+        Some(stop) => stopped(store, roots, stop),
+        None => End::BudgetSpent,
+    }
+}
+
+/// The end of a run of which no further turn is made.
+fn stopped<S: Store>(store: &S, roots: &Roots, stop: Stop) -> End
+    requires there { stop ≡ stops.Uncaught → IsTrue (is_kept (S.kept store.now) (serial_of (S.index store.now) roots.now.roots.pending)) }
+    ensures is { IsEndOf (seen (S.index store.now) (S.kept store.now) roots.now.roots) stop result }
+    ensures place { (class at : ℕ) → result ≡ ends.Uncaught class at → at ≡ roots.now.roots.pending }
+{
+    match stop {
+        Stop::Returned => End::Returned,
+        Stop::Uncaught => uncaught(store, roots),
+        Stop::NoRoom(NoRoom::Full { live, asked, limit }) => End::HeapFull { live, asked, limit },
+        Stop::NoRoom(NoRoom::ReportFault) => End::ReportFault,
+        Stop::NoRoom(NoRoom::OutOfMemory) => End::OutOfMemory,
+        Stop::OutputFault => End::OutputFault,
+        Stop::NotYet => End::NotYet,
+    }
+}
+
+/// The end where the pending exception finds no handler.
+fn uncaught<S: Store>(store: &S, roots: &Roots) -> End
+    requires { IsTrue (is_kept (S.kept store.now) (serial_of (S.index store.now) roots.now.roots.pending)) }
+    ensures is { IsUncaught (seen (S.index store.now) (S.kept store.now) roots.now.roots) result }
+    ensures place { (class at : ℕ) → result ≡ ends.Uncaught class at → at ≡ roots.now.roots.pending }
+{
+    let at = roots.pending();
+    End::Uncaught {
+        class: store.kind(at),
+        at,
+    }
+}
