@@ -55,7 +55,7 @@ found : {A B : Type 0} (f : A → Option B) (some : Option A) → is_some (optio
 found f None is = is
 found f (Some a) is = refl
 
-taken_is : (asked : List Sort) (stack : List Value) → is_some (taken asked stack) ≡ true → taken asked stack ≡ Some (take (length asked) stack, drop (length asked) stack)
+pub taken_is : (asked : List Sort) (stack : List Value) → is_some (taken asked stack) ≡ true → taken asked stack ≡ Some (take (length asked) stack, drop (length asked) stack)
 taken_is [] stack is = refl
 taken_is (sort ∷ asked) [] is = absurd (false≢true is)
 taken_is (sort ∷ asked) (value ∷ stack) is = go (taken_is asked stack) (same_sort (sort_of value) sort) refl where

@@ -20,7 +20,7 @@ use Rattle.cb_shapes.specs.declared.action.Action.{Action}
 use Rattle.cb_shapes.specs.declared.action.Action.TheVariants as actions
 use Rattle.cb_shapes.specs.declared.shuffle.Shuffle.{Shuffle}
 use Rattle.cb_shapes.specs.declared.shuffle.Shuffle.TheVariants as shuffles
-use Rattle.cb_interp.specs.Acting.{Asks, Deed, Does, frame_deed, need_of, of_frame, on_static, put_deed}
+use Rattle.cb_interp.specs.Acting.{Does, computed_deed, frame_deed, need_of, of_frame, on_static, put_deed}
 use Rattle.cb_interp.specs.Effects.{growth, is_long}
 use Rattle.cb_interp.specs.Framing.{ByZero, frame_left, growth_at, is_plain, left_as, read_left}
 use Rattle.cb_interp.specs.declared.need.Need.TheVariants as needs
@@ -40,18 +40,13 @@ frame_there index objects held decoded action plain is =
     ∙ sym (some_mapped (of_frame (seen index objects held)) (frame_left action (or_zero decoded.next) (or_zero decoded.target) (read_roots index held)))
     ∙ is
 
--- what is left, by the answer
-abbrev done_by : Bool → (index : ℕ → ℕ) → List (Option Object) → Roots → Deed
-done_by true index objects left = Does (seen index objects left)
-done_by false index objects left = Asks needs.ByZero
-
 pub frame_done : (index : ℕ → ℕ) (objects : List (Option Object)) (held left : Roots) (decoded : Decoded) (action : Action) (is : Bool) → is_plain action ≡ true
     → frame_left action (or_zero decoded.next) (or_zero decoded.target) held ≡ Some (left_as is left)
-    → frame_deed decoded (seen index objects held) action ≡ Some (done_by is index objects left)
+    → frame_deed decoded (seen index objects held) action ≡ Some (computed_deed is (seen index objects left))
 frame_done index objects held left decoded action is plain so =
     ap (option_map (of_frame (seen index objects held))) (left_read index held action (or_zero decoded.next) (or_zero decoded.target) plain ∙ ap (option_map (read_left index)) so)
     ∙ go is where
-      go : (is : Bool) → option_map (of_frame (seen index objects held)) (option_map (read_left index) (Some (left_as is left))) ≡ Some (done_by is index objects left)
+      go : (is : Bool) → option_map (of_frame (seen index objects held)) (option_map (read_left index) (Some (left_as is left))) ≡ Some (computed_deed is (seen index objects left))
       go true = refl
       go false = refl
 

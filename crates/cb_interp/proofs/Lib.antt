@@ -6,12 +6,14 @@ mod CallLaws
 mod ClassLaws
 mod ClassSteps
 mod FieldLaws
+mod FieldsFew
 mod FrameLeft
 mod FramesActed
 mod FramesKept
 mod Going
 mod GoingSteps
 mod Grown
+mod InterfaceLaws
 mod KeepLaws
 mod KeptAgain
 mod KeptCalls
@@ -24,9 +26,14 @@ mod KeptObjects
 mod KeptStates
 mod KeptSteps
 pub mod Leaving
+mod LeavingAsks
+mod LeavingNatives
+mod LinkedConstants
 mod LinkedFew
 mod LinkedFit
 mod LinkedMarks
+mod MadeActions
+mod MadeNames
 mod MakingSteps
 mod Moved
 mod NativesAnswers
@@ -83,13 +90,17 @@ mod TurnsNeedBegun
 mod TurnsNeedClasses
 mod TurnsNeedDivides
 mod TurnsNeedLoads
+mod TurnsNeedMakes
 mod TurnsNeedMaking
 mod TurnsNeedSerials
 mod TurnsNeedSites
+mod TurnsNeedThere
 mod TurnsNeedThrown
 mod TurnsNested
+mod TurnsNestedLevels
 mod TurnsNestedPlan
 mod TurnsNestedRoom
+mod TurnsNestedStack
 mod TurnsNestedTurn
 mod TurnsNumbers
 mod TurnsStand

@@ -167,9 +167,9 @@ module _ {Facts : Type 0} (rules : Rules Facts) (machine : Machine) (full : Stat
     ends_at stops.OutputFault end within low same says is_end =
         subst (λ end. Ended rules machine budget end full first later now taken took) (sym is_end)
         (ending ends.OutputFault within (low tt, same) (cut_out says))
-    ends_at stops.NotYet end within low same says is_end =
+    ends_at stops.NotYet end within low (same, leaves) says is_end =
         subst (λ end. Ended rules machine budget end full first later now taken took) (sym is_end)
-        (ending ends.NotYet within (low tt, same) (same_out says))
+        (ending ends.NotYet within (low tt, same, leaves) (same_out says))
 
     pub ends_spent : number ≡ budget → outcome before.state ≡ outcomes.Running → after_it ≡ before → took ≡ takes → Ended rules machine budget ends.BudgetSpent full first later now taken took
     ends_spent end goes same says =
@@ -228,7 +228,7 @@ stops_turn rules machine stops.Returned moment is = is
 stops_turn rules machine stops.Uncaught moment is = is
 stops_turn rules machine (stops.NoRoom reason) moment is = is
 stops_turn rules machine stops.OutputFault moment is = refl
-stops_turn rules machine stops.NotYet moment is = is
+stops_turn rules machine stops.NotYet moment is = absurd is
 
 pub stays_silent : (machine : Machine) (state : State) (stop : Stop) (taken : Option (List ℕ)) → (takes_turn stop → ⊥) → SaysBy machine state stop taken taken
 stays_silent machine state stops.Returned taken never = refl

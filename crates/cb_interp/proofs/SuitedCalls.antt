@@ -26,7 +26,7 @@ use Rattle.cb_shapes.specs.Sorts.{sort_of_elements}
 use Rattle.cb_shapes.specs.declared.sort.Sort.TheVariants as sorts
 use Rattle.cb_safety.proofs.Laws.{Stage, arguments_fit, stage_of}
 use Rattle.cb_interp.specs.Acting.{ArgumentsFit, acted, enter_deed}
-use Rattle.cb_interp.specs.Here.{GoesOn, HasElements, Here, LooksAtArrays, array_depth, deed_plan, here_within, invokes_interface, planned_as}
+use Rattle.cb_interp.specs.Here.{GoesOn, HasElements, Here, LooksAtArrays, array_depth, deed_plan, here_within, planned_as}
 use Rattle.cb_interp.specs.Steps.{view_of}
 use Rattle.cb_interp.specs.Suited.{HasRoom, HasWords, Suited}
 use Rattle.cb_interp.proofs.ActsAsSaid.{acts_so}
@@ -56,12 +56,12 @@ enters_upon machine state method count body =
 
 module _ (machine : Machine) (state : State) (decoded : Decoded) (at : Here machine state decoded)
     (goes : GoesOn decoded) (arrays : LooksAtArrays machine.program (view_of state) decoded)
-    (alone : invokes_interface decoded ≡ false) (advances : (limit : ℕ) → Advances (with_limit machine limit) state) where
+    (advances : (limit : ℕ) → Advances (with_limit machine limit) state) where
   plans : (limit method count : ℕ) (body : Body) → acted machine.program limit decoded (view_of state) ≡ Some (enter_deed limit (view_of state) method count body)
       → plan (with_limit machine limit) state ≡ Some (entered_upon (with_limit machine limit) state (without state.roots count).frames method (arguments_of state.roots count) body)
   plans limit method count body enters =
       (advances limit).is
-      ∙ sym (acts_so (with_limit machine limit) state decoded (here_within machine state decoded limit at) (advances limit).plan goes arrays alone (advances limit).is)
+      ∙ sym (acts_so (with_limit machine limit) state decoded (here_within machine state decoded limit at) (advances limit).plan goes arrays (advances limit).is)
       ∙ ap (planned_as (with_limit machine limit) state) enters
       ∙ enters_upon (with_limit machine limit) state method count body
 
@@ -93,14 +93,14 @@ module _ (machine : Machine) (state : State) (decoded : Decoded) (at : Here mach
 -- all that is asked for
 pub suits : (allows : ℕ → ℕ → Bool) (machine : Machine) (state : State) (decoded : Decoded) (at : Here machine state decoded)
     → ((one other : ℕ) → allows one other ≡ true) → IsTyped machine.program → IsSound machine.program → IsTypedState machine.program state → IsClosed (view_of state)
-    → GoesOn decoded → LooksAtArrays machine.program (view_of state) decoded → invokes_interface decoded ≡ false
+    → GoesOn decoded → LooksAtArrays machine.program (view_of state) decoded
     → ((limit : ℕ) → Advances (with_limit machine limit) state) → Suited allows machine.program decoded (view_of state)
-suits allows machine state decoded at all fits sound typed closed goes arrays alone advances = record {
+suits allows machine state decoded at all fits sound typed closed goes arrays advances = record {
   room = subst (λ (decoded : Decoded). HasRoom decoded (view_of state)) (sym at.is)
       (has_room_on machine state at.frame at.below at.insn fits sound typed at.quiet at.frames at.there);
   words = subst (λ (decoded : Decoded). HasWords allows machine.program decoded (view_of state)) (sym at.is)
       (has_words machine state at.frame at.below at.insn fits sound typed at.quiet at.frames at.there allows all closed);
-  arguments = arguments_suit machine state decoded at goes arrays alone advances;
+  arguments = arguments_suit machine state decoded at goes arrays advances;
 }
 
 -- and what typing says of the place: there is a next instruction, where it may be reached, and arrays are arrays

@@ -2,7 +2,7 @@
 use Rattle.std.proofs.Common.{◌≡◌, ◌∙◌, ap, refl, sym, subst, arith, ℕ, ◌+◌, ◌-◌, ◌*◌, ◌<◌, ◌==◌, pos, Bool, true, false, List, [], ◌∷◌, length, map, nat_le, nat_lt, replicate, zero, suc, Option, Some, None, slice_get}
 use Rattle.std.proofs.lemmas.Bool.{and_from, false≢true, le-leb, lt-ltb, ne_eqb}
 use Rattle.std.proofs.lemmas.List.{length-replicate}
-use Rattle.std.proofs.lemmas.Option.{same_Some}
+use Rattle.std.proofs.lemmas.Option.{none-some, same_Some}
 use Rattle.std.specs.Prelude.{option_and_then, option_map, slice_set, if◌then◌else◌}
 use Rattle.cb_classfile.specs.declared.body.Body.{Body}
 use Rattle.cb_classfile.specs.declared.method.Method.{Method}
@@ -49,6 +49,15 @@ pub body_so : (program : Linked) (number : ℕ) (member : Method) (body : Body)
 body_so program number member body there is = go (slice_get (methods_of program.classes) number) refl there where
   go : (found : Option (Numbered Method)) → slice_get (methods_of program.classes) number ≡ found → option_map (λ (own : Numbered Method). own.member) found ≡ Some member
       → body_of program number ≡ Some body
+  go None at none = absurd (cc none)
+  go (Some own) at some =
+      ap (option_and_then (λ (own : Numbered Method). own.member.body)) at ∙ ap (λ (member : Method). member.body) (same_Some own.member member some) ∙ is
+
+no_body : (program : Linked) (number : ℕ) (member : Method)
+    → option_map (λ (own : Numbered Method). own.member) (slice_get (methods_of program.classes) number) ≡ Some member → member.body ≡ None → body_of program number ≡ None
+no_body program number member there is = go (slice_get (methods_of program.classes) number) refl there where
+  go : (found : Option (Numbered Method)) → slice_get (methods_of program.classes) number ≡ found → option_map (λ (own : Numbered Method). own.member) found ≡ Some member
+      → body_of program number ≡ None
   go None at none = absurd (cc none)
   go (Some own) at some =
       ap (option_and_then (λ (own : Numbered Method). own.member.body)) at ∙ ap (λ (member : Method). member.body) (same_Some own.member member some) ∙ is
@@ -131,6 +140,29 @@ module _ (program : Linked) (index : ℕ → ℕ) (objects : List (Option Object
         ∙ ap (λ (class : ℕ). once_ready (machine_of program limit) state class (main_plan (machine_of program limit) state)) (sym same)
         ∙ failed_so (machine_of program limit) state class (main_plan (machine_of program limit) state) is
 
+    waits_on : outcome state ≡ outcomes.Running
+    waits_on = by held.argument refl where
+      by : (argument : ℕ) → held.argument ≡ argument → outcome state ≡ outcomes.Running
+      by zero is = absurd (omega (arith, some, is))
+      by (suc place) is =
+          let frames = no_frames none in
+          let waiting : (serial_of index (suc place) == 0) ≡ false = ne_eqb (suc (index (suc place))) 0 (λ same. absurd (omega (arith, same))) in
+          rw (frames, quiet, is, waiting) refl
+
+    -- main has code, since there is a next step
+    pub main_coded : is_ready (slice_get held.classes program.main_class) ≡ true → (limit method : ℕ) → method ≡ program.main_method → (member : Method)
+        → option_map (λ (own : Numbered Method). own.member) (slice_get (methods_of program.classes) method) ≡ Some member → member.body ≡ None
+        → IsLinked program → IsTyped program → IsTypedState program state → ⊥
+    main_coded ready limit method main member there is linked fits typed =
+        let advances : Advances (machine_of program limit) state = states_advance (machine_of program limit) state linked fits typed waits_on in
+        none-some advances.plan
+        (sym
+        (entering limit
+        ∙ ready_so (machine_of program limit) state program.main_class (main_plan (machine_of program limit) state) ready
+        ∙ ap (λ (method : ℕ). option_map (entered_from (machine_of program limit) state (with_argument state 0) [] method (Ref (serial_of index held.argument) ∷ [])) (body_of program method)) (sym main)
+        ∙ ap (option_map (entered_from (machine_of program limit) state (with_argument state 0) [] method (Ref (serial_of index held.argument) ∷ []))) (no_body program method member there is))
+        ∙ advances.is)
+
     module _ (ready : is_ready (slice_get held.classes program.main_class) ≡ true) (method : ℕ) (main : method ≡ program.main_method) (body : Body)
         (own : body_of program method ≡ Some body) where
       pub enters : (limit : ℕ)
@@ -161,7 +193,7 @@ module _ (program : Linked) (index : ℕ → ℕ) (objects : List (Option Object
 
       pub main_fits : IsLinked program → IsTyped program → IsTypedState program state → 0 < body.max_locals
       main_fits linked fits typed =
-          let waits : outcome state ≡ outcomes.Running = goes in
+          let waits : outcome state ≡ outcomes.Running = waits_on in
           let advances : Advances (machine_of program (suc slots)) state = states_advance (machine_of program (suc slots)) state linked fits typed waits in
           let same : advances.plan ≡ leaving next =
           same_Some advances.plan (leaving next) (sym advances.is ∙ enters (suc slots) ∙ ap (λ (room : Bool). Some (plan_by room)) room_there) in
@@ -170,15 +202,6 @@ module _ (program : Linked) (index : ℕ → ℕ) (objects : List (Option Object
           let code : fit.method.body ≡ body = within_body program method fit.method body fit.within own in
           let count : length entry.locals ≡ body.max_locals = fit.locals ∙ ap (λ (body : Body). body.max_locals) code in
           omega (arith, count)
-        where
-          goes : outcome state ≡ outcomes.Running
-          goes = by held.argument refl where
-            by : (argument : ℕ) → held.argument ≡ argument → outcome state ≡ outcomes.Running
-            by zero is = absurd (omega (arith, some, is))
-            by (suc place) is =
-                let frames = no_frames none in
-                let waiting : (serial_of index (suc place) == 0) ≡ false = ne_eqb (suc (index (suc place))) 0 (λ same. absurd (omega (arith, same))) in
-                rw (frames, quiet, is, waiting) refl
 
 -- ---- the frame of main
 

@@ -20,7 +20,7 @@ use Rattle.cb_link.specs.Slots.{field_basic, static_basic}
 use Rattle.cb_link.specs.declared.decoded.Decoded.{Decoded}
 use Rattle.cb_link.specs.declared.named.Named.{Named}
 use Rattle.cb_link.specs.declared.named.Named.TheVariants as meanings
-use Rattle.cb_machine.specs.Calling.{asked_sorts, by_method, calls, invokes_special, invokes_static, invokes_virtual}
+use Rattle.cb_machine.specs.Calling.{asked_sorts, by_method, calls, implementing, invokes_interface, invokes_special, invokes_static, invokes_virtual, is_private_method}
 use Rattle.cb_machine.specs.Creating.{is_size}
 use Rattle.cb_machine.specs.Machine.{Machine, class_declaring, method_numbered, or_zero}
 use Rattle.cb_machine.specs.Natives.{native_of, performed}
@@ -38,7 +38,7 @@ use Rattle.cb_shapes.specs.Sorts.{sort_of_elements}
 use Rattle.cb_shapes.specs.declared.action.Action.{Action}
 use Rattle.cb_shapes.specs.declared.action.Action.TheVariants as actions
 use Rattle.cb_shapes.specs.declared.sort.Sort.TheVariants as sorts
-use Rattle.cb_interp.specs.Acting.{Asks, Deed, Does, acted, acted_as, basic_on, call_deed, constant_deed, fits_on, get_deed, going_on, need_of, new_deed, of_frame, of_left, of_pended, on_field, on_kind, on_method, on_static, or_need, put_deed, receiver_deed, roots_left, sized, static_deed, when_ready, with_receiver, with_roots}
+use Rattle.cb_interp.specs.Acting.{Asks, Deed, Does, acted, acted_as, basic_on, call_deed, constant_deed, fits_on, get_deed, going_on, holder_kind, interface_deed, need_of, new_deed, of_frame, of_left, of_pended, on_field, on_kind, on_method, on_static, or_need, put_deed, receiver_deed, roots_left, running, sized, static_deed, when_ready, with_receiver, with_roots}
 use Rattle.cb_interp.specs.Classes.{behind_cast, behind_instance, behind_throw}
 use Rattle.cb_interp.specs.Framing.{ByZero, FrameLeft, Leaves, frame_left}
 use Rattle.cb_interp.specs.Going.{behind_get_static, behind_put_static, behind_return}
@@ -333,6 +333,41 @@ module _ (machine : Machine) (state : State) (frame : MethodFrame) (below : List
     go (meanings.Text text) names = none (rw names refl)
     go (meanings.Whole value) names = none (rw names refl)
 
+  -- invokeinterface
+  abbrev interface_done : ℕ → Named → Option Deed
+  interface_done index named = on_method (interface_deed machine.program machine.frames (view_of state) frame.method index) named
+
+  abbrev interface_by : ℕ → Option ℕ → Option Deed
+  interface_by index caller = option_and_then (λ caller. on_method (interface_deed machine.program machine.frames (view_of state) caller index) (named_here at_now)) caller
+
+  runs_here : running state.roots ≡ Some frame.method
+  runs_here = rw frames refl
+
+  of_interface : (index : ℕ) → plan machine state ≡ invokes_interface at_now index → asks_native (interface_by index (running state.roots)) ≡ Some method → Performing at_now method
+  of_interface index whole asked = go (named_here at_now) refl where
+    asks : asks_native (interface_done index (named_here at_now)) ≡ Some method
+    asks = ap (λ (caller : Option ℕ). asks_native (interface_by index caller)) (sym runs_here) ∙ asked
+
+    none : asks_native (interface_done index (named_here at_now)) ≡ None → Performing at_now method
+    none is = absurd (cc (sym is ∙ asks))
+
+    by : (number : ℕ) → named_here at_now ≡ meanings.Method number → (private : Bool) → is_private_method machine.program number ≡ private → Performing at_now method
+    by number names true private = none (rw (names, private) refl)
+    by number names false private =
+        let choose = implementing machine.program number (holder_kind machine.program frame.method index) in
+        let called : invokes_interface at_now index ≡ calls at_now choose number = rw (names, private) refl in
+        let own : asks_native (interface_done index (named_here at_now)) ≡ asks_native (receiver_deed machine.program machine.frames (view_of state) choose number) = rw (names, private) refl in
+        of_receiver choose number (whole ∙ called) (sym own ∙ asks)
+
+    go : (named : Named) → named_here at_now ≡ named → Performing at_now method
+    go (meanings.Method number) names = by number names (is_private_method machine.program number) refl
+    go meanings.Nothing names = none (rw names refl)
+    go (meanings.Static class slot) names = none (rw names refl)
+    go (meanings.Field class slot) names = none (rw names refl)
+    go (meanings.Kind kind) names = none (rw names refl)
+    go (meanings.Text text) names = none (rw names refl)
+    go (meanings.Whole value) names = none (rw names refl)
+
   abbrev deed : Action → Option Deed
   deed action = acted_as machine.program machine.frames decoded (view_of state) action
 
@@ -342,7 +377,7 @@ module _ (machine : Machine) (state : State) (frame : MethodFrame) (below : List
   by_action (actions.InvokeStatic index) so there whole asks = of_static whole asks
   by_action (actions.InvokeSpecial index) so there whole asks = of_special index whole so there asks
   by_action (actions.InvokeVirtual index) so there whole asks = of_virtual whole asks
-  by_action (actions.InvokeInterface index count) so there whole asks = absurd (cc asks)
+  by_action (actions.InvokeInterface index count) so there whole asks = of_interface index whole asks
   by_action (actions.Constant index) so there whole asks = never (deed (actions.Constant index)) (constant_none decoded (view_of state) decoded.named) asks
   by_action actions.Switch so there whole asks = absurd (cc asks)
   by_action (actions.LoadNumber elements) so there whole asks =

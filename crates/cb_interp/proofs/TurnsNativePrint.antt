@@ -1,5 +1,5 @@
 -- Natives that print a boolean, a char, a number or a newline.
-use Rattle.std.proofs.Common.{◌≡◌, ◌∙◌, ap, arith, refl, sym, ℕ, ◌≤◌, Bool, true, false, List, [], ◌∷◌, length, map, Option, Some}
+use Rattle.std.proofs.Common.{◌≡◌, ◌∙◌, ap, arith, refl, sym, ℕ, ◌≤◌, Bool, true, false, List, [], ◌∷◌, length, map, Option, Some, None}
 use Rattle.std.proofs.lemmas.List.{length-map}
 use Rattle.std.proofs.lemmas.Option.{same_Some}
 use Rattle.std.specs.Io.KnownBytes.{Appends}
@@ -118,6 +118,9 @@ module _ (program : Linked) (index : ℕ → ℕ) (objects : List (Option Object
 
   pub suits_here : suits print (top_stack held) ≡ true
   suits_here = sym (suits_read index print (top_stack held)) ∙ ap (λ (stack : List Value). suits print stack) (sym (reads_stack index held)) ∙ here.fits
+
+  pub goes_here : decoded.next ≡ None → ⊥
+  goes_here = here.goes
 
   pub enough_here : taken_by print ≤ length (top_stack held)
   enough_here = omega (arith, here.enough, ap length (reads_stack index held), length-map (top_stack held) (read_value index))

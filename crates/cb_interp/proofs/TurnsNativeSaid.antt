@@ -2,7 +2,7 @@
 use Rattle.std.proofs.Common.{◌≡◌, ◌∙◌, ap, refl, sym, subst, ℕ, ◌<◌, ◌≤◌, Bool, true, false, List, [], ◌∷◌, ◌++◌, drop, length, reverse, Option, Some, None, Result, OnErr, OnOk, Ok, Err}
 use Rattle.std.proofs.lemmas.Bool.{false≢true}
 use Rattle.std.proofs.lemmas.List.{drop-map, reverse-reverse}
-use Rattle.std.proofs.lemmas.Option.{same_Some, slice_get_within}
+use Rattle.std.proofs.lemmas.Option.{none-some, same_Some, slice_get_within}
 use Rattle.std.specs.Io.KnownBytes.{Appends}
 use Rattle.std.specs.Prelude.{is_err, option_and_then, option_map, slice_get}
 use Rattle.cb_frames.specs.Tops.{at_place as placed_at, changed_in, on_top, placed, stack_in, top_stack, with_stack as stack_changed}
@@ -77,6 +77,7 @@ Says machine state printer =
 pub record Printing (machine : Machine) (state : State) (printer : Printer state) (next : Option ℕ) : Type 0 where
   pub fits : printer.fits (top_stack state.roots) ≡ true
   pub enough : printer.count ≤ length (top_stack state.roots)
+  pub goes : next ≡ None → ⊥
   pub plans : (pc : ℕ) → next ≡ Some pc → plan machine state ≡ Some (leaving (printed_as printer.count (printer.text (top_stack state.roots)) pc state))
 
 module _ (now : Now) (frames : now.state.roots.frames ≡ OfMethod now.frame ∷ now.below)
@@ -87,6 +88,11 @@ module _ (now : Now) (frames : now.state.roots.frames ≡ OfMethod now.frame ∷
       ≡ Some (leaving (with_printed (with_frames now.state (OfMethod (at_place now.frame pc now.frame.locals rest) ∷ now.below)) (now.state.printed ++ utf8 text)))
   given rest text pc next =
       let there : behind_in (code_at now.machine.program now.frame.method) now.frame.pc ≡ Some pc = sym stands ∙ next in
+      rw there refl
+
+  none_given : (rest : List Value) (text : List ℕ) → now.next ≡ None → by_native now rest (prints_so now.state text) ≡ None
+  none_given rest text next =
+      let there : behind_in (code_at now.machine.program now.frame.method) now.frame.pc ≡ None = sym stands ∙ next in
       rw there refl
 
   stack_is : top_stack now.state.roots ≡ now.frame.stack
@@ -129,6 +135,12 @@ module _ (now : Now) (frames : now.state.roots.frames ≡ OfMethod now.frame ∷
     prints_here = record {
       fits = ap (λ (stack : List Value). printer.fits stack) (sym whole) ∙ says.fits;
       enough = subst (λ (stack : List Value). printer.count ≤ length stack) whole says.enough;
+      goes = λ next.
+          none-some own
+          (sym
+          (plans_by ∙ ap (option_and_then (by_native now performing.rest)) found.1 ∙ ap (by_native now performing.rest) gives
+          ∙ none_given performing.rest (printer.text (top_stack now.state.roots)) next)
+          ∙ planned);
       plans = λ pc next.
           plans_by ∙ ap (option_and_then (by_native now performing.rest)) found.1 ∙ ap (by_native now performing.rest) gives
           ∙ given performing.rest (printer.text (top_stack now.state.roots)) pc next

@@ -35,7 +35,8 @@ use Rattle.cb_safety.specs.Kinds.{Kinds, kinds_of}
 use Rattle.cb_interp.specs.Acting.{Asks, acted}
 use Rattle.cb_interp.specs.Effects.{has_sort}
 use Rattle.cb_interp.specs.Here.{Here}
-use Rattle.cb_interp.specs.Printing.{AreChars, HoldsUnits, IsUnit, array_of, as_line, behind_taken, is_text, is_text_of, native_text, referred_word, string_text, suits_text, text_of, text_on}
+use Rattle.cb_interp.specs.Leaving.{LeavesText}
+use Rattle.cb_interp.specs.Printing.{AreChars, HasOddArray, HoldsUnits, IsUnit, are_chars, array_of, as_line, behind_taken, is_text, is_text_of, native_text, prints_text, referred_word, string_text, suits_text, text_of, text_on}
 use Rattle.cb_interp.specs.Running.{MayRun, SaysBy, Turned}
 use Rattle.cb_interp.specs.Turning.{Outside, machine_of, state_of}
 use Rattle.cb_interp.specs.declared.need.Need.TheVariants as needs
@@ -88,6 +89,22 @@ module _ (index : ℕ → ℕ) (objects : List (Option Object)) (at : ℕ) (text
       go None there is = absurd (cc is)
       go (Some object) there is =
           units_of program objects (serial_of index array) object heap there (ap (λ kind. element_of program kind) (same_Some object.kind kind is) ∙ chars)
+
+    pub odd_so : (program : Linked) (kind : ℕ) → option_map (λ object. object.kind) (object_in objects (serial_of index array)) ≡ Some kind
+        → are_chars (element_of program kind) ≡ false → HasOddArray program objects (serial_of index at)
+    odd_so program kind is odd = go (object_in objects (serial_of index array)) refl is where
+      go : (found : Option Object) → object_in objects (serial_of index array) ≡ found → option_map (λ object. object.kind) found ≡ Some kind
+          → HasOddArray program objects (serial_of index at)
+      go None there is = absurd (cc is)
+      go (Some object) there is = record {
+        array = object;
+        there = ap (object_in objects) (sym same) ∙ there;
+        odd = ap (λ kind. are_chars (element_of program kind)) (same_Some object.kind kind is) ∙ odd;
+      }
+
+pub char_is : (found : Option Basic) → are_chars found ≡ true → found ≡ Some basics.Char
+char_is (Some basics.Char) is = refl
+char_is other is = absurd (false≢true is)
 
 -- ---- what a native that prints a string does
 
@@ -173,6 +190,9 @@ module _ (program : Linked) (index : ℕ → ℕ) (objects : List (Option Object
   pub string_here : has_sort sorts.Reference (slice_get (top_stack held) 0) ≡ true
   string_here = sort_on index objects (top_stack held) (sym (ap (λ (stack : List Value). suits_text objects stack) (reads_stack index held)) ∙ here.fits)
 
+  pub string_goes : decoded.next ≡ None → ⊥
+  string_goes = here.goes
+
   pub two_here : 1 < length (top_stack held)
   two_here = omega (arith, here.enough, ap length (reads_stack index held), length-map (top_stack held) (read_value index))
 
@@ -187,6 +207,23 @@ module _ (program : Linked) (index : ℕ → ℕ) (objects : List (Option Object
 
     text_is : as_line line (text_on objects (top_stack state.roots)) ≡ as_line line (string_text objects (serial_of index string))
     text_is = ap (λ (found : Option Value). as_line line (text_of objects found)) top_read
+
+    pub string_leaves : HasOddArray program objects (serial_of index string) → LeavesText (machine_of program limit) state
+    string_leaves odd = record {
+      decoded = decoded;
+      here = at;
+      method = method;
+      native = native_text line;
+      is = is;
+      asked = asks;
+      prints = prints line;
+      string = serial_of index string;
+      top = top_read;
+      odd = odd;
+    } where
+      prints : (line : Bool) → prints_text (native_text line) ≡ true
+      prints true = refl
+      prints false = refl
 
     pub string_turn : {Facts : Type 0} (rules : Rules Facts) (facts : Facts) (after : Roots) (pc : ℕ) (taken takes : Option (List ℕ)) → decoded.next ≡ Some pc
         → after ≡ behind_taken 2 pc held → Appends taken takes (utf8 (as_line line (string_text objects (serial_of index string))))

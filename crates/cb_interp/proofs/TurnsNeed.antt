@@ -59,17 +59,6 @@ counts_as own result before now is counts = subst (λ (result : Turn). CountsFau
     );
   }
 
--- and where nothing is done none is
-pub counts_none : (count : ℕ) (result : Turn) → (Faulted result → ⊥) → CountsFaults count count (Faulted result)
-counts_none count result fine = record {
-  never_falls = omega arith;
-  exact = λ low. (λ fails. absurd (fine fails), λ rises. absurd (omega (arith, rises)));
-}
-
-pub not_yet_fine : (result : Turn) → IfErr result (λ stop. stop ≡ stops.NotYet) → Faulted result → ⊥
-not_yet_fine (Ok done) waits fails = cc
-not_yet_fine (Err stop) waits fails = cc
-
 -- ---- steps
 
 pub steps_on : (machine : Machine) (state : State) (decoded : Decoded) → Here machine state decoded → IsLinked machine.program → IsTyped machine.program

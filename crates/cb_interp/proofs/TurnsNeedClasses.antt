@@ -40,7 +40,7 @@ use Rattle.cb_safety.specs.States.{IsTypedState}
 use Rattle.cb_shapes.specs.Shapes.{action_of}
 use Rattle.cb_shapes.specs.declared.action.Action.TheVariants as actions
 use Rattle.cb_verify.specs.Typed.{IsTyped}
-use Rattle.cb_interp.specs.Here.{Here, interface_in}
+use Rattle.cb_interp.specs.Here.{Here}
 use Rattle.cb_interp.specs.Loading.{IsClassHere, LoadsClass, laid, loads_class, new_class}
 use Rattle.cb_interp.specs.Steps.{StandsBefore, view_of}
 use Rattle.cb_interp.specs.Turning.{Asked, Moment, Outside, RoomMade, TurnMade, TurnRefused, machine_of, moment_of, state_of}
@@ -120,7 +120,7 @@ module _ (program : Linked) (limit : ℕ) (index : ℕ → ℕ) (kept : List (Op
     class_room at linked fits allows all = go (loads_so decoded.action here.loads) where
       go : Loads decoded.action → 0 < top_room held
       go (Constant number is) =
-          let suits = typed_suits machine state decoded at linked fits typed allows all (ap interface_in is) in
+          let suits = typed_suits machine state decoded at linked fits typed allows all in
           subst (λ (room : ℕ). 0 < room) (room_read index held) (suits.room.lays (actions.Constant number) is refl)
 
   pub class_known_turn : {Facts : Type 0} (rules : Rules Facts) (facts : Facts) (at : Here machine state decoded) (known : ℕ) (after : Roots)

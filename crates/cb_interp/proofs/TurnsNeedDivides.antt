@@ -200,12 +200,6 @@ text_count program text view =
     ∷ Some (object_of constant_strings (kind_of_site program constant_strings) (Reference (length view.objects + 1) ∷ [])) ∷ [])
 
 -- the table of a typed state has as many entries as there are texts
-pub texts_there : (program : Linked) (count : ℕ) → count ≡ length program.constants → (count ≡ 0 → ⊥) → 0 < length program.constants
-texts_there program count is some = go (length program.constants) is where
-  go : (texts : ℕ) → count ≡ texts → 0 < texts
-  go zero none = absurd (some none)
-  go (suc texts) more = omega arith
-
 pub message_there : (program : Linked) (index : ℕ → ℕ) (kept : List (Option Object)) (held : Roots) (outside : Outside)
     → IsTypedState program (state_of (seen index kept held) outside) → 0 < length program.constants → 0 < length held.tables.constants
 message_there program index kept held outside typed some =

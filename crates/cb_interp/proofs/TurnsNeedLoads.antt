@@ -4,7 +4,7 @@ use Rattle.std.proofs.Math.Nat.{min-eq_left}
 use Rattle.std.proofs.lemmas.Bool.{false≢true}
 use Rattle.std.proofs.lemmas.List.{length-map}
 use Rattle.std.proofs.lemmas.List.Sums.{sum_by-cons}
-use Rattle.std.proofs.lemmas.Option.{same_Some, slice_get-map}
+use Rattle.std.proofs.lemmas.Option.{none-some, same_Some, slice_get-map}
 use Rattle.std.specs.Prelude.{option_map, slice_get}
 use Rattle.std.specs.declared.result.Result.TheVariants.{Err, Ok}
 use Rattle.cb_frames.specs.Tops.{at_place as placed_at, changed_in, on_top, placed, pushed, room_in, top_room, with_stack}
@@ -41,7 +41,7 @@ use Rattle.cb_shapes.specs.declared.action.Action.{Action}
 use Rattle.cb_shapes.specs.declared.action.Action.TheVariants as actions
 use Rattle.cb_unwind.specs.Strings.{IsNew, constant_or_new, new_constant, units_of, with_constant}
 use Rattle.cb_verify.specs.Typed.{IsTyped}
-use Rattle.cb_interp.specs.Here.{Here, interface_in}
+use Rattle.cb_interp.specs.Here.{Here}
 use Rattle.cb_interp.specs.Loading.{IsTextHere, LoadsNew, laid, loads_by, loads_new}
 use Rattle.cb_interp.specs.Placing.{with_view}
 use Rattle.cb_interp.specs.Steps.{StandsBefore, view_of}
@@ -50,7 +50,7 @@ use Rattle.cb_interp.specs.declared.load_turns.Loading.{Loading}
 use Rattle.cb_interp.proofs.Acts.{now}
 use Rattle.cb_interp.proofs.TurnsMade.{quiet_turn}
 use Rattle.cb_interp.proofs.TurnsMaking.{room_read}
-use Rattle.cb_interp.proofs.TypedActs.{typed_suits}
+use Rattle.cb_interp.proofs.TypedActs.{typed_goes, typed_suits}
 
 -- ---- tables that are read
 
@@ -149,6 +149,15 @@ loads_so (Some action) loads = go action loads where
   go (actions.Constant index) loads = Constant index refl
   go other loads = absurd (false≢true loads)
 
+-- it goes on at a next place
+pub load_goes : (machine : Machine) (state : State) (decoded : Decoded) → Here machine state decoded → IsLinked machine.program → IsTyped machine.program
+    → IsTypedState machine.program state → loads_by decoded.action ≡ true → decoded.next ≡ None → ⊥
+load_goes machine state decoded at linked fits typed loads none = go (loads_so decoded.action loads) where
+  go : Loads decoded.action → ⊥
+  go (Constant index is) =
+      let next = typed_goes machine state decoded at linked fits typed (actions.Constant index) is refl in
+      none-some next.0 (sym none ∙ next.1)
+
 module _ (machine : Machine) (state : State) (decoded : Decoded) (at : Here machine state decoded) (loading : Loading) (here : IsTextHere machine.program decoded loading) where
   abbrev at_now : Now
   at_now = now machine state at.frame at.below at.insn at.frames
@@ -201,7 +210,7 @@ module _ (program : Linked) (limit : ℕ) (index : ℕ → ℕ) (kept : List (Op
     load_room at linked fits allows all = go (loads_so decoded.action here.loads) where
       go : Loads decoded.action → 0 < top_room held
       go (Constant number is) =
-          let suits = typed_suits machine state decoded at linked fits typed allows all (ap interface_in is) in
+          let suits = typed_suits machine state decoded at linked fits typed allows all in
           subst (λ (room : ℕ). 0 < room) (room_read index held) (suits.room.lays (actions.Constant number) is refl)
 
   pub known_turn : {Facts : Type 0} (rules : Rules Facts) (facts : Facts) (at : Here machine state decoded) (known : ℕ) (after : Roots)

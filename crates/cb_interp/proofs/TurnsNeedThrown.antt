@@ -17,7 +17,7 @@ use Rattle.cb_link.specs.declared.decoded.Decoded.{Decoded}
 use Rattle.cb_link.specs.declared.named.Named.{Named}
 use Rattle.cb_link.specs.declared.named.Named.TheVariants as meanings
 use Rattle.cb_machine.specs.Arrays.{is_index}
-use Rattle.cb_machine.specs.Calling.{asked_sorts}
+use Rattle.cb_machine.specs.Calling.{asked_sorts, implementing, is_private_method}
 use Rattle.cb_machine.specs.Creating.{is_size}
 use Rattle.cb_machine.specs.Machine.{class_declaring, method_numbered, or_zero}
 use Rattle.cb_machine.specs.Natives.{native_of}
@@ -37,7 +37,7 @@ use Rattle.cb_shapes.specs.declared.action.Action.{Action}
 use Rattle.cb_shapes.specs.declared.action.Action.TheVariants as actions
 use Rattle.cb_shapes.specs.declared.sort.Sort.{Sort}
 use Rattle.cb_shapes.specs.declared.sort.Sort.TheVariants as sorts
-use Rattle.cb_interp.specs.Acting.{Asks, Deed, Does, acted, acted_as, arrays_deed, basic_on, call_deed, constant_deed, enter_deed, fits_on, frame_deed, going_on, need_of, of_frame, of_left, of_pended, on_field, on_kind, on_method, on_static, or_need, receiver_deed, roots_left, sized, static_deed, when_ready, with_roots}
+use Rattle.cb_interp.specs.Acting.{Asks, Deed, Does, acted, acted_as, arrays_deed, basic_on, call_deed, constant_deed, enter_deed, fits_on, frame_deed, going_on, holder_kind, implementing_deed, interface_deed, need_of, of_frame, of_left, of_pended, on_field, on_kind, on_method, on_static, or_need, receiver_deed, roots_left, running, sized, static_deed, when_ready, with_roots}
 use Rattle.cb_interp.specs.Classes.{behind_cast, behind_instance, behind_throw, cast, cast_to, is_instance_in, pended, told_kind}
 use Rattle.cb_interp.specs.Framing.{ByZero, FrameLeft, Leaves, frame_left}
 use Rattle.cb_interp.specs.Going.{behind_get_static, behind_put_static, behind_return}
@@ -283,6 +283,11 @@ receiver_fine program limit view choose method =
     then_each DeedFine (λ held. received program limit view choose (length held.0) (reverse held.0)) (λ held. received_fine program limit view choose (length held.0) (reverse held.0))
     (taken (asked_sorts program method ++ sorts.Reference ∷ []) (top_stack view.roots))
 
+interface_fine : (program : Linked) (limit : ℕ) (view : View) (caller index method : ℕ) → Each DeedFine (interface_deed program limit view caller index method)
+interface_fine program limit view caller index method =
+    choice (Each DeedFine) (is_private_method program method) (Some (Asks (needs.Throws incompatible_class_change))) (implementing_deed program limit view caller index method) change_thrown
+    (receiver_fine program limit view (implementing program method (holder_kind program caller index)) method)
+
 -- ---- instructions
 
 arrays_fine : (view : View) (dimensions : ℕ) → Each DeedFine (arrays_deed view dimensions)
@@ -354,7 +359,9 @@ module _ (program : Linked) (limit : ℕ) (decoded : Decoded) (view : View) wher
   fine (actions.InvokeVirtual index) =
       on_method_fine (λ method. receiver_deed program limit view (λ kind. select program kind method) method)
       (λ method. receiver_fine program limit view (λ kind. select program kind method) method) decoded.named
-  fine (actions.InvokeInterface index count) = tt
+  fine (actions.InvokeInterface index count) =
+      then_each DeedFine (λ caller. on_method (interface_deed program limit view caller index) decoded.named)
+      (λ caller. on_method_fine (interface_deed program limit view caller index) (interface_fine program limit view caller index) decoded.named) (running view.roots)
   fine (actions.Compute computation) = framed (actions.Compute computation)
   fine actions.Null = framed actions.Null
   fine (actions.Load sort local) = framed (actions.Load sort local)

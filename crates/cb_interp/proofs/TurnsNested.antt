@@ -1,21 +1,21 @@
--- Arrays of an inner dimension are placed one after the other, and the outer array refers to each.
-use Rattle.std.proofs.Common.{◌≡◌, ◌∙◌, add-one, ap, refl, sym, arith, ℕ, zero, suc, ◌+◌, ◌<◌, Bool, true, false, List, [], ◌∷◌, ◌++◌, append_assoc, length, map, replicate, Option, Some, None, IsTrue, slice_get, slice_set}
+-- Arrays are placed one after the other, and other arrays refer to them: one by one into the words of an array, those of all arrays of a
+-- dimension, and those of all dimensions.
+use Rattle.std.proofs.Common.{◌≡◌, ◌∙◌, add-one, ap, refl, sym, arith, ℕ, zero, suc, ◌+◌, ◌-◌, ◌<◌, Bool, true, false, List, [], ◌∷◌, ◌++◌, append_assoc, length, map, replicate, Option, Some, None, IsTrue, slice_get, slice_set}
+use Rattle.std.specs.Prelude.{option_map, take}
 use Rattle.std.proofs.lemmas.Bool.{false≢true}
-use Rattle.std.proofs.lemmas.List.{length-append, length-replicate, replicate_more}
+use Rattle.std.proofs.lemmas.List.{append-nil, length-append, length-replicate, replicate_more}
+use Rattle.std.proofs.lemmas.Option.{none-some, same_Some}
 use Rattle.std.specs.List.{range_with_len}
-use Rattle.cb_heap.proofs.Laws.{content_of_object, may_point_there, placed_there, there_before}
+use Rattle.cb_heap.proofs.Laws.{content_of_object, held_alike, may_point_there, placed_there, residents_content, there_before}
 use Rattle.cb_heap.specs.Kept.{content_at, contents_at, is_held, is_reference, with_content}
 use Rattle.cb_heap.specs.Rules.{Rules}
 use Rattle.cb_heap.specs.Store.{ReadsAsBefore, may_point}
 use Rattle.cb_heap.specs.Reading.{serial_of}
 use Rattle.cb_link.specs.Program.{Linked}
-use Rattle.cb_machine.specs.Creating.{blank_element}
-use Rattle.cb_machine.specs.Machine.{kind_of_site}
 use Rattle.cb_machine.specs.Plans.{object_of}
 use Rattle.cb_plain.specs.State.{Content, Object, Reference}
 use Rattle.cb_plain.specs.Updates.{object_in, with_contents_in}
-use Rattle.cb_interp.specs.Nested.{knows_rows, nested_objects, new_array, with_row}
-use Rattle.cb_interp.specs.declared.nested_turns.Nested.{Nested}
+use Rattle.cb_interp.specs.Nested.{knows_rows, new_array, with_row, with_rows}
 use Rattle.cb_interp.proofs.TurnsStarting.{still}
 use Rattle.cb_interp.proofs.TurnsStartingTexts.{held_there}
 
@@ -73,11 +73,11 @@ module _ (objects : List (Option Object)) (serial turn : ℕ) (new : Object) (ho
 
 -- ---- an object that stands behind some
 
-in_middle : (before : List (Option Object)) (object : Object) (rest : List (Option Object)) → object_in (before ++ Some object ∷ rest) (suc (length before)) ≡ Some object
+pub in_middle : (before : List (Option Object)) (object : Object) (rest : List (Option Object)) → object_in (before ++ Some object ∷ rest) (suc (length before)) ≡ Some object
 in_middle [] object rest = refl
 in_middle (entry ∷ before) object rest = in_middle before object rest
 
-changed_middle : (before : List (Option Object)) (object : Object) (rest : List (Option Object)) (contents : List Content)
+pub changed_middle : (before : List (Option Object)) (object : Object) (rest : List (Option Object)) (contents : List Content)
     → with_contents_in (before ++ Some object ∷ rest) (suc (length before)) contents ≡ before ++ Some (object_of object.site object.kind contents) ∷ rest
 changed_middle [] object rest contents = refl
 changed_middle (entry ∷ before) object rest contents = ap (λ (objects : List (Option Object)). entry ∷ objects) (changed_middle before object rest contents)
@@ -100,14 +100,40 @@ held_before [] further (suc place) held = absurd (false≢true held)
 held_before (entry ∷ before) further (suc zero) held = held
 held_before (entry ∷ before) further (suc (suc place)) held = held_before before further (suc place) held
 
+-- what is held is held where one more is put into a word of it
+pub row_held : (program : Linked) (objects : List (Option Object)) (serial turn site size own : ℕ) → IsTrue (is_held objects own) → IsTrue (is_held (with_row program objects serial turn site size) own)
+row_held program objects serial turn site size own held =
+    held_alike (with_row program objects serial turn site size) (objects ++ Some (new_array program site size) ∷ []) own
+    (residents_content (objects ++ Some (new_array program site size) ∷ []) serial turn (Reference (length objects + 1)))
+    ∙ held_before objects (Some (new_array program site size) ∷ []) own held
+
+changed_length : (objects : List (Option Object)) (serial : ℕ) (contents : List Content) → length (with_contents_in objects serial contents) ≡ length objects
+changed_length objects zero contents = refl
+changed_length [] (suc place) contents = refl
+changed_length (entry ∷ objects) (suc zero) contents = refl
+changed_length (entry ∷ objects) (suc (suc place)) contents = ap suc (changed_length objects (suc place) contents)
+
+pub row_length : (program : Linked) (objects : List (Option Object)) (serial turn site size : ℕ) → length (with_row program objects serial turn site size) ≡ length objects + 1
+row_length program objects serial turn site size =
+    let more : List (Option Object) = objects ++ Some (new_array program site size) ∷ [] in
+    changed_length more serial (slice_set (contents_at more serial) turn (Reference (length objects + 1))) ∙ length-append objects (Some (new_array program site size) ∷ [])
+
 pub reads_on : (before objects : List (Option Object)) (first second third : ℕ → ℕ) → ((serial : ℕ) → IsTrue (is_held before serial) → IsTrue (is_held objects serial))
     → ReadsAsBefore before first second → ReadsAsBefore objects second third → ReadsAsBefore before first third
 reads_on before objects first second third more one two place held =
     still objects second third two place (serial_of first place) (one place held) (more (serial_of first place) held)
 
+-- what stands before an object of a serial
+pub front_taken : (front back objects : List (Option Object)) (serial : ℕ) → objects ≡ front ++ back → serial ≡ length front + 1 → take (serial - 1) objects ≡ front
+front_taken front back objects serial is at =
+    ap (take (serial - 1)) is ∙ ap (λ (count : ℕ). take count (front ++ back)) (let same : serial - 1 ≡ length front = omega (arith, at) in same) ∙ go front where
+      go : (front : List (Option Object)) → take (length front) (front ++ back) ≡ front
+      go [] = refl
+      go (entry ∷ front) = ap (λ (objects : List (Option Object)). entry ∷ objects) (go front)
+
 -- ---- contents of which the first words refer to the objects from a serial on
 
-abbrev filled : (first done count : ℕ) → List Content
+abbrev pub filled : (first done count : ℕ) → List Content
 filled first zero count = replicate count (Reference 0)
 filled first (suc done) zero = []
 filled first (suc done) (suc count) = Reference first ∷ filled (first + 1) done count
@@ -138,58 +164,151 @@ filled_next first (suc done) (suc count) low =
     ap (λ (serial : ℕ). Reference first ∷ slice_set (filled (first + 1) done count) done (Reference serial)) same
     ∙ ap (λ (rest : List Content). Reference first ∷ rest) (filled_next (first + 1) done count (omega (arith, low)))
 
--- ---- the outer array and some of the inner ones, behind the objects that were there
+-- ---- an array that stands among others
 
-module _ (program : Linked) (nested : Nested) where
-  abbrev outer : (first done : ℕ) → Object
-  outer first done = object_of nested.outer (kind_of_site program nested.outer) (filled first done nested.count)
+record StandsIn (objects : List (Option Object)) (serial : ℕ) (array : Object) : Type 0 where
+  before : List (Option Object)
+  rest : List (Option Object)
+  is : objects ≡ before ++ Some array ∷ rest
+  at : serial ≡ length before + 1
 
-  abbrev inner : Object
-  inner = new_array program nested.inner nested.size
+stands_in : (objects : List (Option Object)) (serial : ℕ) (array : Object) → object_in objects serial ≡ Some array → StandsIn objects serial array
+stands_in objects zero array is = absurd (none-some array is)
+stands_in [] (suc place) array is = absurd (none-some array is)
+stands_in (entry ∷ objects) (suc zero) array is = record { before = []; rest = objects; is = ap (λ (entry : Option Object). entry ∷ objects) is; at = refl }
+stands_in (entry ∷ objects) (suc (suc place)) array is =
+    let further = stands_in objects (suc place) array is in
+    let at = further.at in
+    record { before = entry ∷ further.before; rest = further.rest; is = ap (λ (objects : List (Option Object)). entry ∷ objects) further.is; at = omega (arith, at) }
 
-  abbrev pub placed_rows : List (Option Object) → ℕ → List (Option Object)
-  placed_rows before done = before ++ Some (outer (length before + 2) done) ∷ replicate done (Some inner)
+-- the first of its words refer to new arrays
+abbrev pub filled_so : Linked → List (Option Object) → (serial count done site size : ℕ) → List (Option Object)
+filled_so program objects serial count done site size =
+    with_contents_in objects serial (filled (length objects + 1) done count) ++ replicate done (Some (new_array program site size))
 
-  pub first_rows : blank_element program (kind_of_site program nested.outer) ≡ Reference 0 → (before : List (Option Object))
-      → before ++ Some (new_array program nested.outer nested.count) ∷ [] ≡ placed_rows before 0
-  first_rows nulls before =
-      ap (λ (content : Content). before ++ Some (object_of nested.outer (kind_of_site program nested.outer) (replicate nested.count content)) ∷ []) nulls
+module _ (program : Linked) (array : Object) (count site size : ℕ) where
+  abbrev child : Object
+  child = new_array program site size
 
-  pub rows_count : (before : List (Option Object)) (done : ℕ) → length (placed_rows before done) ≡ length before + 1 + done
-  rows_count before done =
-      let both : length (placed_rows before done) ≡ length before + suc (length (replicate done (Some inner))) =
-      length-append before (Some (outer (length before + 2) done) ∷ replicate done (Some inner)) in
-      let some : length (replicate done (Some inner)) ≡ done = length-replicate done (Some inner) in
-      omega (arith, both, some)
+  module _ (before rest : List (Option Object)) where
+    abbrev all : List (Option Object)
+    all = before ++ Some array ∷ rest
 
-  pub row_there : (before : List (Option Object)) (done : ℕ) → done < nested.count
-      → IsTrue (is_reference (content_at (placed_rows before done) (length before + 1) done))
-  row_there before done low =
-      ap (λ (serial : ℕ). is_reference (content_at (placed_rows before done) serial done)) (add-one (length before))
-      ∙ ap is_reference (content_of_object (placed_rows before done) (suc (length before)) done (outer (length before + 2) done)
-      (in_middle before (outer (length before + 2) done) (replicate done (Some inner))))
-      ∙ filled_hold (length before + 2) done nested.count done low
+    abbrev first : ℕ
+    first = length all + 1
 
-  pub next_rows : (before : List (Option Object)) (done : ℕ) → done < nested.count
-      → with_row program (placed_rows before done) (length before + 1) done nested.inner nested.size ≡ placed_rows before (done + 1)
-  next_rows before done low =
-      let first : ℕ = length before + 2 in
-      let count = rows_count before done in
-      let serial : length (placed_rows before done) + 1 ≡ first + done = omega (arith, count) in
-      ap (λ (objects : List (Option Object)). with_content objects (length before + 1) done (Reference (length (placed_rows before done) + 1)))
-      (append_assoc before (Some (outer first done) ∷ replicate done (Some inner)) (Some inner ∷ []))
-      ∙ set_middle before (outer first done) (replicate done (Some inner) ++ Some inner ∷ []) done (Reference (length (placed_rows before done) + 1))
-      ∙ ap (λ (serial : ℕ). before ++ Some (object_of nested.outer (kind_of_site program nested.outer) (slice_set (filled first done nested.count) done (Reference serial)))
-      ∷ (replicate done (Some inner) ++ Some inner ∷ [])) serial
-      ∙ ap (λ (contents : List Content). before ++ Some (object_of nested.outer (kind_of_site program nested.outer) contents)
-      ∷ (replicate done (Some inner) ++ Some inner ∷ [])) (filled_next first done nested.count low)
-      ∙ ap (λ (rest : List (Option Object)). before ++ Some (outer first (suc done)) ∷ rest) (replicate_more done (Some inner))
-      ∙ ap (λ (next : ℕ). before ++ Some (outer first next) ∷ replicate (done + 1) (Some inner)) (sym (add-one done))
+    abbrev partly : ℕ → Object
+    partly done = object_of array.site array.kind (filled first done count)
 
-  pub all_rows : (before : List (Option Object)) → placed_rows before nested.count ≡ before ++ nested_objects program (length before) nested
-  all_rows before =
-      ap (λ (contents : List Content). before ++ Some (object_of nested.outer (kind_of_site program nested.outer) contents) ∷ replicate nested.count (Some inner))
-      (all_filled (length before + 2) nested.count)
+    abbrev placed_rows : ℕ → List (Option Object)
+    placed_rows done = before ++ Some (partly done) ∷ (rest ++ replicate done (Some child))
+
+    filled_is : (done : ℕ) → filled_so program all (length before + 1) count done site size ≡ placed_rows done
+    filled_is done =
+        ap (λ (serial : ℕ). with_contents_in all serial (filled first done count) ++ replicate done (Some child)) (add-one (length before))
+        ∙ ap (λ (objects : List (Option Object)). objects ++ replicate done (Some child)) (changed_middle before array rest (filled first done count))
+        ∙ append_assoc before (Some (partly done) ∷ rest) (replicate done (Some child))
+
+    rows_count : (done : ℕ) → length (placed_rows done) + 1 ≡ first + done
+    rows_count done =
+        let whole : length (placed_rows done) ≡ length before + suc (length (rest ++ replicate done (Some child))) =
+        length-append before (Some (partly done) ∷ (rest ++ replicate done (Some child))) in
+        let both : length (rest ++ replicate done (Some child)) ≡ length rest + length (replicate done (Some child)) = length-append rest (replicate done (Some child)) in
+        let some : length (replicate done (Some child)) ≡ done = length-replicate done (Some child) in
+        let start : length all ≡ length before + suc (length rest) = length-append before (Some array ∷ rest) in
+        omega (arith, whole, both, some, start)
+
+    row_in : (done : ℕ) → done < count → IsTrue (is_reference (content_at (placed_rows done) (length before + 1) done))
+    row_in done low =
+        ap (λ (serial : ℕ). is_reference (content_at (placed_rows done) serial done)) (add-one (length before))
+        ∙ ap is_reference (content_of_object (placed_rows done) (suc (length before)) done (partly done)
+        (in_middle before (partly done) (rest ++ replicate done (Some child))))
+        ∙ filled_hold first done count done low
+
+    one_more : (done : ℕ) → (before ++ Some (partly done) ∷ (rest ++ replicate done (Some child))) ++ Some child ∷ []
+        ≡ before ++ Some (partly done) ∷ (rest ++ replicate (done + 1) (Some child))
+    one_more done =
+        append_assoc before (Some (partly done) ∷ (rest ++ replicate done (Some child))) (Some child ∷ [])
+        ∙ ap (λ (rest : List (Option Object)). before ++ Some (partly done) ∷ rest)
+        (append_assoc rest (replicate done (Some child)) (Some child ∷ [])
+        ∙ ap (λ (children : List (Option Object)). rest ++ children) (replicate_more done (Some child)))
+
+    rows_next : (done : ℕ) → done < count → with_row program (placed_rows done) (length before + 1) done site size ≡ placed_rows (done + 1)
+    rows_next done low =
+        ap (λ (objects : List (Option Object)). with_content objects (length before + 1) done (Reference (length (placed_rows done) + 1))) (one_more done)
+        ∙ set_middle before (partly done) (rest ++ replicate (done + 1) (Some child)) done (Reference (length (placed_rows done) + 1))
+        ∙ ap (λ (serial : ℕ). before ++ Some (object_of array.site array.kind (slice_set (filled first done count) done (Reference serial))) ∷ (rest ++ replicate (done + 1) (Some child)))
+        (rows_count done)
+        ∙ ap (λ (contents : List Content). before ++ Some (object_of array.site array.kind contents) ∷ (rest ++ replicate (done + 1) (Some child)))
+        (filled_next first done count low ∙ ap (λ (next : ℕ). filled first next count) (sym (add-one done)))
+
+    rows_first : array.contents ≡ replicate count (Reference 0) → all ≡ placed_rows 0
+    rows_first blank =
+        ap (λ (contents : List Content). before ++ Some (object_of array.site array.kind contents) ∷ rest) blank
+        ∙ ap (λ (rest : List (Option Object)). before ++ Some (partly 0) ∷ rest) (sym (append-nil rest))
+
+  module _ (objects : List (Option Object)) (serial : ℕ) (is : object_in objects serial ≡ Some array) where
+    stands : StandsIn objects serial array
+    stands = stands_in objects serial array is
+
+    abbrev so : ℕ → List (Option Object)
+    so done = filled_so program objects serial count done site size
+
+    so_is : (done : ℕ) → so done ≡ placed_rows stands.before stands.rest done
+    so_is done =
+        ap (λ (objects : List (Option Object)). filled_so program objects serial count done site size) stands.is
+        ∙ ap (λ (serial : ℕ). filled_so program (stands.before ++ Some array ∷ stands.rest) serial count done site size) stands.at
+        ∙ filled_is stands.before stands.rest done
+
+    fill_there : (done : ℕ) → done < count → IsTrue (is_reference (content_at (so done) serial done))
+    fill_there done low =
+        ap (λ (objects : List (Option Object)). is_reference (content_at objects serial done)) (so_is done)
+        ∙ ap (λ (serial : ℕ). is_reference (content_at (placed_rows stands.before stands.rest done) serial done)) stands.at
+        ∙ row_in stands.before stands.rest done low
+
+    fill_next : (done : ℕ) → done < count → with_row program (so done) serial done site size ≡ so (done + 1)
+    fill_next done low =
+        ap (λ (objects : List (Option Object)). with_row program objects serial done site size) (so_is done)
+        ∙ ap (λ (serial : ℕ). with_row program (placed_rows stands.before stands.rest done) serial done site size) stands.at
+        ∙ rows_next stands.before stands.rest done low ∙ sym (so_is (done + 1))
+
+    fill_first : array.contents ≡ replicate count (Reference 0) → objects ≡ so 0
+    fill_first blank = stands.is ∙ rows_first stands.before stands.rest blank ∙ sym (so_is 0)
+
+    fill_last : so count ≡ with_rows program objects serial count site size
+    fill_last =
+        ap (λ (contents : List Content). with_contents_in objects serial contents ++ replicate count (Some child)) (all_filled (length objects + 1) count)
+
+-- an object of which the contents are told
+pub record HasContents (objects : List (Option Object)) (serial : ℕ) (contents : List Content) : Type 0 where
+  pub array : Object
+  pub there : object_in objects serial ≡ Some array
+  pub holds : array.contents ≡ contents
+
+pub has_contents : (objects : List (Option Object)) (serial : ℕ) (contents : List Content) → option_map (λ object. object.contents) (object_in objects serial) ≡ Some contents
+    → HasContents objects serial contents
+has_contents objects serial contents is = go (object_in objects serial) refl is where
+  go : (found : Option Object) → object_in objects serial ≡ found → option_map (λ object. object.contents) found ≡ Some contents → HasContents objects serial contents
+  go None at is = absurd (none-some contents is)
+  go (Some array) at is = record { array = array; there = at; holds = same_Some array.contents contents is }
+
+module _ (program : Linked) (objects : List (Option Object)) (serial count site size : ℕ)
+    (blank : option_map (λ object. object.contents) (object_in objects serial) ≡ Some (replicate count (Reference 0))) where
+  own : HasContents objects serial (replicate count (Reference 0))
+  own = has_contents objects serial (replicate count (Reference 0)) blank
+
+  pub filling_there : (done : ℕ) → done < count → IsTrue (is_reference (content_at (filled_so program objects serial count done site size) serial done))
+  filling_there done low = fill_there program own.array count site size objects serial own.there done low
+
+  pub filling_next : (done : ℕ) → done < count → with_row program (filled_so program objects serial count done site size) serial done site size
+      ≡ filled_so program objects serial count (done + 1) site size
+  filling_next done low = fill_next program own.array count site size objects serial own.there done low
+
+  pub filling_first : objects ≡ filled_so program objects serial count 0 site size
+  filling_first = fill_first program own.array count site size objects serial own.there own.holds
+
+  pub filling_last : filled_so program objects serial count count site size ≡ with_rows program objects serial count site size
+  filling_last = fill_last program own.array count site size objects serial own.there
 
 -- what a store knows when one more was placed
 pub knows_next : {Facts : Type 0} (rules : Rules Facts) (facts : Facts) (site size count : ℕ)
@@ -198,3 +317,11 @@ knows_next {Facts} rules facts site size count = go count facts ∙ ap (knows_ro
   go : (count : ℕ) (facts : Facts) → rules.placed (knows_rows rules facts site size count) site size ≡ knows_rows rules facts site size (suc count)
   go zero facts = refl
   go (suc count) facts = go count (rules.placed facts site size)
+
+-- so many, and so many more
+pub knows_more : {Facts : Type 0} (rules : Rules Facts) (facts : Facts) (site size some more : ℕ)
+    → knows_rows rules (knows_rows rules facts site size some) site size more ≡ knows_rows rules facts site size (some + more)
+knows_more {Facts} rules facts site size zero more = let same : more ≡ 0 + more = omega arith in ap (knows_rows rules facts site size) same
+knows_more {Facts} rules facts site size (suc some) more =
+    let same : suc (some + more) ≡ suc some + more = omega arith in
+    knows_more rules (rules.placed facts site size) site size some more ∙ ap (knows_rows rules facts site size) same

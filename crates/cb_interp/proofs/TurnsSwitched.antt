@@ -1,7 +1,7 @@
 -- A turn in which a switch is done.
 use Rattle.std.proofs.Common.{◌≡◌, ◌∙◌, ap, refl, sym, ℕ, true, false, List, [], ◌∷◌, Option, Some, None}
 use Rattle.std.proofs.lemmas.Bool.{false≢true}
-use Rattle.std.proofs.lemmas.Option.{same_Some}
+use Rattle.std.proofs.lemmas.Option.{none-some, same_Some}
 use Rattle.std.specs.Prelude.{is_some, option_map}
 use Rattle.cb_frames.specs.Limited.{Limited}
 use Rattle.cb_frames.specs.Tops.{placed, topmost}
@@ -34,6 +34,13 @@ top_again index held = go held.frames refl where
   go [] is = rw is refl
   go (OfMethod frame ∷ below) is = rw is refl
   go (Initialising class place ∷ below) is = rw is refl
+
+-- where an instruction stands it has an operand
+pub operand_there : (program : Linked) (limit : ℕ) (index : ℕ → ℕ) (objects : List (Option Object)) (held : Roots) (outside : Outside) (decoded : Decoded)
+    → Here (machine_of program limit) (state_of (seen index objects held) outside) decoded → None ≡ operand_here program held → ⊥
+operand_there program limit index objects held outside decoded here none =
+    none-some here.insn.operand
+    (none ∙ sym (ap (operand_of program) (top_again index held)) ∙ ap (operand_of program) (ap topmost here.frames) ∙ ap (option_map (λ insn. insn.operand)) here.there)
 
 module _ (program : Linked) (index : ℕ → ℕ) (objects : List (Option Object)) (before : Limited) (outside : Outside) (decoded : Decoded) where
   abbrev state : State

@@ -1,6 +1,6 @@
 -- Turns in which an initialisation looks at a class that comes before.
-use Rattle.std.proofs.Common.{◌≡◌, ◌∙◌, ◌⊎◌, inl, inr, ap, arith, refl, sym, ℕ, ◌+◌, ◌<◌, List, [], ◌∷◌, length, map, nat_lt, slice_get, true, Option, Some}
-use Rattle.std.proofs.lemmas.Bool.{lt-ltb}
+use Rattle.std.proofs.Common.{◌≡◌, ◌∙◌, ◌⊎◌, inl, inr, ap, arith, refl, sym, ℕ, ◌+◌, ◌<◌, List, [], ◌∷◌, length, map, nat_lt, slice_get, false, true, Option, Some}
+use Rattle.std.proofs.lemmas.Bool.{false≢true, lt-ltb}
 use Rattle.cb_frames.specs.Tops.{placed, topmost}
 use Rattle.cb_frames.specs.declared.frame.Frame.TheVariants as shown
 use Rattle.cb_heap.proofs.Laws.{reads_placed}
@@ -15,8 +15,9 @@ use Rattle.cb_machine.specs.Steps.{plan}
 use Rattle.cb_plain.specs.State.{Frame, Initialising, Object, OfMethod, Roots, State}
 use Rattle.cb_plain.specs.Updates.{with_frames}
 use Rattle.cb_plain.specs.declared.class_state.ClassState.{ClassState}
-use Rattle.cb_plain.specs.declared.class_state.ClassState.TheVariants.{Busy, Done, Untouched}
-use Rattle.cb_unwind.specs.Initialised.{IsOnTop}
+use Rattle.cb_plain.specs.declared.class_state.ClassState.TheVariants.{Busy, Done, Failed, Untouched}
+use Rattle.cb_unwind.specs.Initialised.{IsOnTop, initialised}
+use Rattle.cb_interp.specs.Initials.{fails, is_untouched}
 use Rattle.cb_interp.specs.Turning.{Outside, TurnMade, machine_of, moment_of, state_of}
 use Rattle.cb_interp.proofs.TurnsFrameInit.{initial_plan}
 use Rattle.cb_interp.proofs.TurnsMade.{quiet_turn}
@@ -86,6 +87,25 @@ module _ (program : Linked) (limit : ℕ) (index : ℕ → ℕ) (objects : List 
     go : (frames : List Frame) → held.frames ≡ frames → 0 < length frames
     go [] is = absurd (cc (top ∙ ap topmost is))
     go (frame ∷ below) is = omega arith
+
+-- what a class's state is by whether it was looked at
+pub new_by : (now : ClassState) → is_untouched now ≡ true → now ≡ Untouched
+new_by Untouched is = refl
+new_by other is = absurd (false≢true is)
+
+pub past_by : (now : ClassState) → is_untouched now ≡ false → (now ≡ Failed → ⊥) → (now ≡ Busy) ⊎ (now ≡ Done)
+past_by Busy is fine = inl refl
+past_by Done is fine = inr refl
+past_by Failed is fine = absurd (fine refl)
+past_by Untouched is fine = absurd (false≢true (sym is))
+
+-- none that failed is looked at, where the next step isn't to fail
+pub never_failed : (program : Linked) (limit : ℕ) (held : Roots) (class place parent : ℕ) → IsOnTop held class place → place < length (initial_parents program.classes class)
+    → slice_get (initial_parents program.classes class) place ≡ Some parent → slice_get held.classes parent ≡ Some Failed → fails (initialised program limit held) ≡ false → ⊥
+never_failed program limit held class place parent top before there failed goes =
+    let low = lt-ltb place (length (initial_parents program.classes class)) before in
+    let is : fails (initialised program limit held) ≡ true = rw (sym top, low, there, failed) refl in
+    false≢true (sym goes ∙ is)
 
 -- nothing but the place changes
 pub passed_turn : {Facts : Type 0} (rules : Rules Facts) (program : Linked) (limit : ℕ) (index : ℕ → ℕ) (objects : List (Option Object)) (held after : Roots) (outside : Outside) (facts : Facts)

@@ -10,6 +10,7 @@ pub mod Going
 pub mod Here
 pub mod Initials
 pub mod Keeping
+pub mod Leaving
 pub mod Loading
 pub mod Making
 pub mod Needing

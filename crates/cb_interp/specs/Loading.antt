@@ -72,6 +72,12 @@ pub record MayPlace (program : Linked) (text : ℕ) : Type 0 where
   pub elements : shape program (kind_of_site program constant_characters) ≡ Elements false
   pub field : shape program (kind_of_site program constant_strings) ≡ Fields (true ∷ [])
 
+-- and so may the object of a class, of which the one field is a number
+pub record MayPlaceClass (program : Linked) : Type 0 where
+  pub sites : class_objects < length (site_kinds program)
+  pub low : kind_of_site program class_objects < length program.kinds
+  pub field : shape program (kind_of_site program class_objects) ≡ Fields (false ∷ [])
+
 -- whether an instruction loads a constant
 abbrev pub loads_by : Option Action → Bool
 loads_by (Some (actions.Constant index)) = true

@@ -3,15 +3,20 @@ use Rattle.std.specs.Prelude.{◌≡◌, ◌<◌, ◌^◌, ◌&&◌, ℤ, pos, �
 use Rattle.cb_frames.specs.Tops.{placed, top_stack}
 use Rattle.cb_heap.specs.Kept.{content_at, contents_at, is_held, is_reference}
 use Rattle.cb_io.specs.Utf8.{utf8}
+use Rattle.cb_kinds.specs.declared.basic.Basic.{Basic}
+use Rattle.cb_kinds.specs.declared.basic.Basic.TheVariants as basics
 use Rattle.cb_library.specs.Rows.{Kind, Performed}
 use Rattle.cb_library.specs.Text.{print_stream_class}
 use Rattle.cb_library.specs.declared.native.Native.{Native}
 use Rattle.cb_library.specs.declared.native.Native.TheVariants as natives
+use Rattle.cb_link.specs.Program.{Linked}
+use Rattle.cb_machine.specs.Arrays.{element_of}
+use Rattle.cb_machine.specs.Natives.{native_of}
 use Rattle.cb_machine.specs.Texts.{digits, truth, unit_of}
 use Rattle.cb_plain.specs.declared.value.Value.{Value}
 use Rattle.cb_plain.specs.declared.value.Value.TheVariants.{Int, Long, Ref}
 use Rattle.cb_plain.specs.State.{Content, Number, Object, Reference, Roots, State}
-use Rattle.cb_plain.specs.Updates.{with_printed, with_roots}
+use Rattle.cb_plain.specs.Updates.{object_in, with_printed, with_roots}
 use Rattle.cb_shapes.specs.declared.sort.Sort.TheVariants as sorts
 use Rattle.cb_interp.specs.Effects.{has_sort, stacked}
 use Rattle.cb_interp.specs.declared.printing.Print.{Print}
@@ -39,6 +44,19 @@ native_as (prints.Int true) = natives.PrintlnInt
 native_as (prints.Long false) = natives.PrintLong
 native_as (prints.Long true) = natives.PrintlnLong
 native_as prints.Line = natives.Println
+
+-- whether a native prints a value so
+abbrev pub prints_value : Native → Bool
+prints_value natives.PrintBoolean = true
+prints_value natives.PrintlnBoolean = true
+prints_value natives.PrintChar = true
+prints_value natives.PrintlnChar = true
+prints_value natives.PrintInt = true
+prints_value natives.PrintlnInt = true
+prints_value natives.PrintLong = true
+prints_value natives.PrintlnLong = true
+prints_value natives.Println = true
+prints_value other = false
 
 -- the number on top of a stack, 0 where none stands there, and whether it is what is printed
 abbrev number_in : Option Value → ℤ
@@ -88,6 +106,15 @@ printed_as count text pc state = with_printed (with_roots state (behind_taken co
 abbrev pub native_text : Bool → Native
 native_text false = natives.PrintString
 native_text true = natives.PrintlnString
+
+abbrev pub prints_text : Native → Bool
+prints_text natives.PrintString = true
+prints_text natives.PrintlnString = true
+prints_text other = false
+
+-- no native that a method is passes a test
+abbrev pub IsNoneOf : (Native → Bool) → Linked → ℕ → Type 0
+IsNoneOf test program method = (native : Native) → native_of program method ≡ Some native → test native ≡ false
 
 -- the units of an array of chars, and the array to which the first word of a string refers
 abbrev unit_in : Content → ℕ
@@ -142,3 +169,13 @@ pub record AreChars (objects : List (Option Object)) (string array : ℕ) : Type
   pub same : (string ≡ 0 → ⊥) → array ≡ array_of objects string
   pub held : IsTrue (is_held objects array)
   pub units : HoldsUnits objects array
+
+-- or it has other elements
+abbrev pub are_chars : Option Basic → Bool
+are_chars (Some basics.Char) = true
+are_chars other = false
+
+pub record HasOddArray (program : Linked) (objects : List (Option Object)) (string : ℕ) : Type 0 where
+  pub array : Object
+  pub there : object_in objects (array_of objects string) ≡ Some array
+  pub odd : are_chars (element_of program array.kind) ≡ false

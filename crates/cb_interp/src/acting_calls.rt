@@ -176,7 +176,7 @@ pub(crate) fn invokes_virtual<S: Store>(
 }
 
 /// A method that was selected is called with so many arguments from the stack.
-fn calls<S: Store>(
+pub(crate) fn calls<S: Store>(
     program: &Program,
     store: &S,
     roots: &mut Roots,

@@ -1,5 +1,5 @@
 // What instructions on the topmost frame alone do, as whole steps, and those that go on elsewhere.
-ghost use Rattle.std.specs.Prelude.{◌≡◌, ◌≤◌, ◌<◌, ℕ, is_some, length, option_map, slice_get, true, IsTrue, OnErr, Some};
+ghost use Rattle.std.specs.Prelude.{◌≡◌, ◌≤◌, ◌<◌, ℕ, false, is_some, length, option_map, slice_get, true, IsTrue, OnErr, Some};
 ghost use Rattle.cb_frames.specs.Tops.{left, runs_method, top_room};
 ghost use Rattle.cb_heap.specs.Kept.{is_held};
 ghost use Rattle.cb_heap.specs.Reading.{read_roots, read_value, seen};
@@ -9,7 +9,7 @@ ghost use Rattle.cb_link.specs.Named.{IsThere};
 ghost use Rattle.cb_machine.specs.Machine.{or_zero};
 ghost use Rattle.cb_shapes.specs.declared.action.Action.TheVariants as actions;
 ghost use Rattle.cb_shapes.specs.declared.test.Condition.TheVariants as conditions;
-ghost use Rattle.cb_interp.specs.Acting.{constant_deed, deed_by, frame_deed, get_deed, need_of, on_static, put_deed};
+ghost use Rattle.cb_interp.specs.Acting.{computed_deed, constant_deed, deed_by, frame_deed, get_deed, need_of, on_static, put_deed};
 ghost use Rattle.cb_interp.specs.Framing.{growth_at, is_plain};
 ghost use Rattle.cb_interp.specs.Going.{behind_return};
 ghost use Rattle.cb_interp.specs.Objects.{object_on};
@@ -31,27 +31,50 @@ pub(crate) fn computes<S: Store>(
     store: &S,
     roots: &mut Roots,
     decoded: &Decoded,
-    action: Action,
+    action: &Action,
 ) -> Result<(), Need>
-    requires plain { is_plain action ≡ true }
+    requires plain { is_plain action.now ≡ true }
     requires there { is_some (frame_deed decoded.now (seen (S.index store.now)
-        (S.kept store.now) roots.old.roots) action) ≡ true }
+        (S.kept store.now) roots.old.roots) action.now) ≡ true }
     requires runs { runs_method roots.old.roots ≡ true }
-    requires room { growth_at action (read_roots
+    requires room { growth_at action.now (read_roots
         (S.index store.now) roots.old.roots) ≤ top_room roots.old.roots }
     ensures deed { frame_deed decoded.now (seen (S.index store.now)
-        (S.kept store.now) roots.old.roots) action ≡ Some (deed_by result (seen (S.index store.now)
+        (S.kept store.now) roots.old.roots) action.now ≡ Some (deed_by result (seen (S.index store.now)
         (S.kept store.now) roots.new.roots)) }
     ensures same { OnErr result (roots.new ≡ roots.old) }
     ensures limit { roots.new.limit ≡ roots.old.limit }
 {
-    let next = place_or_zero(decoded.next);
-    let target = place_or_zero(decoded.target);
-    if frame_step(roots, action, next, target) {
+    if is_computed(store, roots, decoded, action) {
         Ok(())
     } else {
         Err(Need::ByZero)
     }
+}
+
+/// The same, and whether it is done: a division by zero changes nothing.
+pub(crate) fn is_computed<S: Store>(
+    store: &S,
+    roots: &mut Roots,
+    decoded: &Decoded,
+    action: &Action,
+) -> bool
+    requires plain { is_plain action.now ≡ true }
+    requires there { is_some (frame_deed decoded.now (seen (S.index store.now)
+        (S.kept store.now) roots.old.roots) action.now) ≡ true }
+    requires runs { runs_method roots.old.roots ≡ true }
+    requires room { growth_at action.now (read_roots
+        (S.index store.now) roots.old.roots) ≤ top_room roots.old.roots }
+    ensures deed { frame_deed decoded.now (seen (S.index store.now)
+        (S.kept store.now) roots.old.roots) action.now ≡ Some (computed_deed result (seen (S.index store.now)
+        (S.kept store.now) roots.new.roots)) }
+    ensures same { result ≡ false → roots.new ≡ roots.old }
+    ensures limit { roots.new.limit ≡ roots.old.limit }
+{
+    let _ = store;
+    let next = place_or_zero(decoded.next);
+    let target = place_or_zero(decoded.target);
+    frame_step(roots, action, next, target)
 }
 
 /// `if_acmpeq`, `if_acmpne`

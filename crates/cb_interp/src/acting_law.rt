@@ -1,5 +1,5 @@
 // What is done of an instruction is the machine's step, and typed states have what is asked for.
-ghost use Rattle.std.specs.Prelude.{◌≡◌, ℕ, Bool, false, true, Some};
+ghost use Rattle.std.specs.Prelude.{◌≡◌, ℕ, Bool, true, Some};
 ghost use Rattle.cb_link.specs.declared.decoded.Decoded.{Decoded};
 ghost use Rattle.cb_machine.specs.Machine.{Machine};
 ghost use Rattle.cb_machine.specs.Plans.{Plan};
@@ -9,7 +9,7 @@ ghost use Rattle.cb_safety.specs.Linked.{IsLinked};
 ghost use Rattle.cb_safety.specs.States.{IsTypedState};
 ghost use Rattle.cb_verify.specs.Typed.{IsTyped};
 ghost use Rattle.cb_interp.specs.Acting.{acted};
-ghost use Rattle.cb_interp.specs.Here.{Acts, GoesOn, Here, LooksAtArrays, invokes_interface, planned_as};
+ghost use Rattle.cb_interp.specs.Here.{Acts, GoesOn, Here, LooksAtArrays, planned_as};
 ghost use Rattle.cb_interp.specs.Steps.{view_of};
 ghost use Rattle.cb_interp.specs.Suited.{Suited};
 
@@ -19,7 +19,6 @@ pub fn acts_as_said()
     ensures { (machine : Machine) (state : State) (decoded : Decoded)
         (at : Here machine state decoded) (own : Plan) → GoesOn decoded
         → LooksAtArrays machine.program (view_of state) decoded
-        → invokes_interface decoded ≡ false
         → plan machine state ≡ Some own
         → planned_as machine state (acted machine.program machine.frames decoded (view_of state)) ≡ Some own }
 {}
@@ -29,12 +28,11 @@ pub fn acts_as_said()
 pub fn typed_states_act()
     ensures there { (machine : Machine) (state : State) (decoded : Decoded)
         → Here machine state decoded → IsLinked machine.program → IsTyped machine.program
-        → IsTypedState machine.program state → invokes_interface decoded ≡ false
-        → Acts machine state decoded }
+        → IsTypedState machine.program state → Acts machine state decoded }
     ensures suited { (allows : ℕ → ℕ → Bool) (machine : Machine) (state : State)
         (decoded : Decoded) → Here machine state decoded
         → ((one other : ℕ) → allows one other ≡ true)
         → IsLinked machine.program → IsTyped machine.program
-        → IsTypedState machine.program state → invokes_interface decoded ≡ false
+        → IsTypedState machine.program state
         → Suited allows machine.program decoded (view_of state) }
 {}

@@ -13,25 +13,25 @@ use cb_shapes::Computation;
 
 /// Does to the stack of the topmost frame what a computation does, and says whether it has: a division by zero changes nothing
 /// (JVMS §6.5).
-pub fn compute(roots: &mut Roots, computation: Computation) -> bool
-    requires there { is_some (computed_on computation (top_stack roots.old.roots)) ≡ true }
-    requires room { growth_of computation ≤ top_room roots.old.roots }
-    ensures behind { behind_computation computation roots.old.roots ≡ Some roots.new.roots }
+pub fn compute(roots: &mut Roots, computation: &Computation) -> bool
+    requires there { is_some (computed_on computation.now (top_stack roots.old.roots)) ≡ true }
+    requires room { growth_of computation.now ≤ top_room roots.old.roots }
+    ensures behind { behind_computation computation.now roots.old.roots ≡ Some roots.new.roots }
     ensures limit { roots.new.limit ≡ roots.old.limit }
-    ensures gave { gave computation roots.old.roots ≡ Some result }
+    ensures gave { gave computation.now roots.old.roots ≡ Some result }
 {
     match computation {
         Computation::Nothing => true,
-        Computation::IntConstant(number) => int_constant(roots, number),
-        Computation::LongConstant(number) => long_constant(roots, number),
-        Computation::OfInts(op) => of_ints(roots, op),
-        Computation::OfLongs(op) => of_longs(roots, op),
-        Computation::ShiftLong(op) => shift_long(roots, op),
+        Computation::IntConstant(number) => int_constant(roots, *number),
+        Computation::LongConstant(number) => long_constant(roots, *number),
+        Computation::OfInts(op) => of_ints(roots, *op),
+        Computation::OfLongs(op) => of_longs(roots, *op),
+        Computation::ShiftLong(op) => shift_long(roots, *op),
         Computation::NegateInt => negate_int(roots),
         Computation::NegateLong => negate_long(roots),
         Computation::IntToLong => int_to_long(roots),
         Computation::LongToInt => long_to_int(roots),
-        Computation::MakeNarrow(to) => make_narrow(roots, to),
+        Computation::MakeNarrow(to) => make_narrow(roots, *to),
         Computation::CompareLongs => compare_longs(roots),
     }
 }

@@ -24,10 +24,8 @@ ghost use Rattle.cb_interp.specs.Turning.{Outside, TurnMade, TurnRefused, machin
 ghost use Rattle.cb_interp.specs.declared.stop.Stop.TheVariants as stops;
 
 use crate::Stop;
-use crate::linked::linked_programs_fit;
-use crate::load_turns::{
-    CONSTANT_CHARACTERS, CONSTANT_STRINGS, STRING_WORDS, may_place, text_words,
-};
+use crate::linked::{linked_constants, linked_programs_fit};
+use crate::load_turns::{CONSTANT_CHARACTERS, CONSTANT_STRINGS, STRING_WORDS, text_words};
 use crate::stopping::stopped;
 use cb_frames::Roots;
 use cb_heap::{NoRoom, Store};
@@ -79,15 +77,11 @@ pub(crate) fn divide_need<S: Store>(
     ensures allows { S.allows store.new ≡ S.allows store.old }
     ensures shapes { S.shapes store.new ≡ S.shapes store.old }
 {
-    if program.constant_count() == DIVIDE_MESSAGE {
-        return Err(Stop::NotYet);
-    }
+    linked_constants();
     if roots.table(Table::Constants, DIVIDE_MESSAGE) != 0 {
         stopped(divide_known(program, store, roots, request))
-    } else if may_place(program, DIVIDE_MESSAGE) {
-        stopped(divide_new(program, store, roots, request))
     } else {
-        Err(Stop::NotYet)
+        stopped(divide_new(program, store, roots, request))
     }
 }
 

@@ -29,6 +29,6 @@ pub enum End {
     OutputFault,
     /// Memory was not to be had.
     OutOfMemory,
-    /// The next step is one of those that aren't done yet.
+    /// The next step performs a native that isn't done yet.
     NotYet,
 }

@@ -129,7 +129,7 @@ fn enters_main<S: Store>(
     let method = program.main_method();
     match &program.method(method).body {
         Some(body) => enters_first(program, store, roots, request, method, body),
-        None => Err(Stop::NotYet),
+        None => unreachable!(),
     }
 }
 

@@ -9,7 +9,7 @@
 //! memory, and each takes constant time where it doesn't say otherwise.
 //!
 //! A run goes by turns (`Turning`): room is made for what the next step places, by whatever rule the store has, and the step is made. There
-//! are those in which an exception is thrown or unwinds, an object or an array is made (`Making`) or arrays of two dimensions are
+//! are those in which an exception is thrown or unwinds, an object or an array is made (`Making`) or arrays of several dimensions are
 //! (`Nested`), a class begins or goes on to be initialised (`Initials`), and a switch is done; `Fit` says what a linked program says of what
 //! they place. That turns come to what is kept of the state of the machine that never frees is a law (`turns_stand`), which rests on what a
 //! step does to what is kept of a state (`Keeping`, `Changing`, `Within`), at every instruction and native.
@@ -21,6 +21,7 @@
 mod acting;
 mod acting_calls;
 mod acting_frames;
+mod acting_interfaces;
 mod acting_law;
 mod acting_objects;
 mod arguments;

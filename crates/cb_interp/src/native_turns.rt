@@ -1,12 +1,13 @@
 // Turns of a run in which a native is performed.
-ghost use Rattle.std.specs.Prelude.{◌≡◌, ◌<◌, ◌≤◌, ◌⊎◌, length, IfErr, IsErrOf, OnErr, OnOk, Some};
+ghost use Rattle.std.specs.Prelude.{◌≡◌, ◌<◌, ◌≤◌, length, IfErr, IsErrOf, OnErr, OnOk, Some};
 ghost use Rattle.cb_frames.specs.Limited.{with_roots};
 ghost use Rattle.cb_frames.specs.Tops.{top_stack};
 ghost use Rattle.cb_heap.specs.Reading.{seen};
 ghost use Rattle.cb_io.specs.Faults.{CountsFaults};
 ghost use Rattle.cb_interp.specs.Acting.{Asks, acted};
 ghost use Rattle.cb_interp.specs.Here.{Here};
-ghost use Rattle.cb_interp.specs.Printing.{behind_taken, taken_by};
+ghost use Rattle.cb_interp.specs.Leaving.{NativeStops};
+ghost use Rattle.cb_interp.specs.Printing.{IsNoneOf, behind_taken, prints_value, taken_by};
 ghost use Rattle.cb_interp.specs.Running.{MayRun, SaysBy, Turned};
 ghost use Rattle.cb_interp.specs.Turning.{Outside, machine_of, state_of};
 ghost use Rattle.cb_interp.specs.declared.need.Need.TheVariants as needs;
@@ -48,7 +49,8 @@ pub(crate) fn native_turn<S: Store, O: Sink>(
     ensures left { IfErr result (λ stop. SaysBy (machine_of program.now roots.old.limit) (state_of
         (seen (S.index store.now) (S.kept store.now) roots.old.roots) outside) stop
         (O.taken out.old) (O.taken out.new)) }
-    ensures only { IfErr result (λ stop. (stop ≡ stops.OutputFault) ⊎ (stop ≡ stops.NotYet)) }
+    ensures only { IfErr result (λ stop. NativeStops (machine_of program.now roots.old.limit)
+        (state_of (seen (S.index store.now) (S.kept store.now) roots.old.roots) outside) stop) }
     ensures output { CountsFaults (O.faults out.old) (O.faults out.new)
         (IsErrOf result stops.OutputFault) }
     ensures limit { roots.new.limit ≡ roots.old.limit }
@@ -57,7 +59,7 @@ pub(crate) fn native_turn<S: Store, O: Sink>(
         return string_turn(program, store, roots, out, decoded, method);
     };
     let Some(next) = decoded.next else {
-        return Err(Stop::NotYet);
+        unreachable!()
     };
     if write_print(roots, print, out).is_err() {
         return Err(Stop::OutputFault);
@@ -67,7 +69,7 @@ pub(crate) fn native_turn<S: Store, O: Sink>(
 }
 
 /// A turn in which the native for which the instruction at the topmost frame's place asks is performed, where it prints a string. Any other
-/// is `NotYet`. Takes time in the units of the string.
+/// is `NotYet`, and so is a string that has an array of something else than chars, which no string has. Takes time in the units of the string.
 fn string_turn<S: Store, O: Sink>(
     program: &Program,
     store: &S,
@@ -84,6 +86,7 @@ fn string_turn<S: Store, O: Sink>(
         (S.index store.now) (S.kept store.now) roots.old.roots) outside) decoded.now }
     requires asked { acted program.now roots.old.limit decoded.now (seen (S.index store.now)
         (S.kept store.now) roots.old.roots) ≡ Some (Asks (needs.Performs method)) }
+    requires other { IsNoneOf prints_value program.now method }
     ensures made { OnOk result (Turned S.rules (machine_of program.now roots.old.limit) outside
         (seen (S.index store.now) (S.kept store.now) roots.old.roots) (seen (S.index store.now)
         (S.kept store.now) roots.new.roots) (S.facts store.now) (S.facts store.now)
@@ -92,7 +95,8 @@ fn string_turn<S: Store, O: Sink>(
     ensures left { IfErr result (λ stop. SaysBy (machine_of program.now roots.old.limit) (state_of
         (seen (S.index store.now) (S.kept store.now) roots.old.roots) outside) stop
         (O.taken out.old) (O.taken out.new)) }
-    ensures only { IfErr result (λ stop. (stop ≡ stops.OutputFault) ⊎ (stop ≡ stops.NotYet)) }
+    ensures only { IfErr result (λ stop. NativeStops (machine_of program.now roots.old.limit)
+        (state_of (seen (S.index store.now) (S.kept store.now) roots.old.roots) outside) stop) }
     ensures output { CountsFaults (O.faults out.old) (O.faults out.new)
         (IsErrOf result stops.OutputFault) }
     ensures limit { roots.new.limit ≡ roots.old.limit }
@@ -101,7 +105,7 @@ fn string_turn<S: Store, O: Sink>(
         return Err(Stop::NotYet);
     };
     let Some(next) = decoded.next else {
-        return Err(Stop::NotYet);
+        unreachable!()
     };
     let at = reference_at(roots, 0);
     let Some(array) = chars_of(program, store, at) else {

@@ -52,6 +52,19 @@ pub(crate) fn give_for_two(roots: &mut Roots, value: Value)
     roots.push(value);
 }
 
+/// Puts a value in place of the topmost ones, as many as come to `last` and one.
+pub(crate) fn give_for(roots: &mut Roots, last: u32, value: Value)
+    requires few { last < 255 }
+    requires there { last < length (top_stack roots.old.roots) }
+    ensures { roots.new ≡ with_roots roots.old (stacked roots.old.roots (value ∷ drop (last + 1)
+        (top_stack roots.old.roots))) }
+{
+    for _ in 0..last {
+        roots.pop();
+    }
+    give_for_one(roots, value);
+}
+
 /// Puts two values on the stack, the second upon the first.
 pub(crate) fn push_two(roots: &mut Roots, first: Value, second: Value)
     requires { 1 < top_room roots.old.roots }

@@ -1,5 +1,5 @@
 // Turns of a run in which an initialisation looks at a class that comes before, of which static fields have strings as constants.
-ghost use Rattle.std.specs.Prelude.{◌≡◌, ◌⊎◌, ◌+◌, ◌<◌, ◌≤◌, ◌^◌, ℕ, false, length, true, IfErr, IsErrOf, OnOk, Some};
+ghost use Rattle.std.specs.Prelude.{◌≡◌, ◌+◌, ◌<◌, ◌≤◌, ◌^◌, ℕ, false, length, true, IfErr, IsErrOf, OnOk, Some};
 ghost use Rattle.cb_frames.specs.Tops.{placed};
 ghost use Rattle.cb_heap.specs.Closed.{IsClosed};
 ghost use Rattle.cb_heap.specs.Reading.{seen};
@@ -15,10 +15,10 @@ ghost use Rattle.cb_machine.specs.Sites.{constant_characters};
 ghost use Rattle.cb_machine.specs.Steps.{plan};
 ghost use Rattle.cb_plain.specs.Depth.{has_room};
 ghost use Rattle.cb_plain.specs.Updates.{with_frames};
-ghost use Rattle.cb_plain.specs.declared.class_state.ClassState.TheVariants as states;
-ghost use Rattle.cb_unwind.specs.Initialised.{IsOnTop};
+ghost use Rattle.cb_unwind.specs.Initialised.{IsOnTop, initialised};
 ghost use Rattle.cb_interp.specs.Arguments.{Covers};
 ghost use Rattle.cb_interp.specs.Fit.{ShapesOf};
+ghost use Rattle.cb_interp.specs.Initials.{fails, is_untouched};
 ghost use Rattle.cb_interp.specs.Running.{MayRun, StopsBy};
 ghost use Rattle.cb_interp.specs.TextStatics.{HasSerials, MayPlaceOwn, first_plan, wants_behind};
 ghost use Rattle.cb_interp.specs.Turning.{Outside, TurnMade, TurnRefused, facts_behind, machine_of, moment_of, state_of};
@@ -26,10 +26,11 @@ ghost use Rattle.cb_interp.specs.declared.stop.Stop.TheVariants as stops;
 
 use crate::Stop;
 use crate::frame_turns::{linked_frames, throws_at};
+use crate::linked::linked_constants;
 use crate::sites::STACK_OVERFLOW;
 use crate::stopping::stopped;
 use crate::text_statics::ask_own;
-use crate::text_turns::{begin_placed, may_begin_texts};
+use crate::text_turns::begin_placed;
 use cb_frames::Roots;
 use cb_heap::{NoRoom, Store};
 use cb_link::Program;
@@ -52,6 +53,7 @@ pub(crate) fn looks_at_parent<S: Store>(
     requires top { IsOnTop roots.old.roots class place }
     requires class { class < length program.now.classes }
     requires before { place < length (initial_parents program.now.classes class) }
+    requires goes { fails (initialised program.now roots.old.limit roots.old.roots) ≡ false }
     ensures made { OnOk result (TurnMade S.rules (machine_of program.now roots.old.limit) (moment_of
         (seen (S.index store.old) (S.kept store.old) roots.old.roots) outside (S.facts store.old))
         (moment_of (seen (S.index store.new) (S.kept store.new) roots.new.roots) outside
@@ -69,27 +71,16 @@ pub(crate) fn looks_at_parent<S: Store>(
 {
     linked_frames();
     let parent = program.parent(class, place as usize);
-    let now = roots.state(parent);
-    if is_past(now) {
-        passes_parent(program, store, roots, place);
-        return Ok(());
-    }
-    if is_untouched(now) {
+    if is_untouched(roots.state(parent)) {
         return behind_texts(program, store, roots, request, place, parent);
     }
-    Err(Stop::NotYet)
-}
-
-/// Whether a class is being initialised, or is done.
-fn is_past(now: ClassState) -> bool
-    ensures { result ≡ true → (now ≡ states.Busy) ⊎ (now ≡ states.Done) }
-{
-    matches!(now, ClassState::Busy | ClassState::Done)
+    passes_parent(program, store, roots, place);
+    Ok(())
 }
 
 /// Whether a class wasn't looked at yet.
 fn is_untouched(now: ClassState) -> bool
-    ensures { result ≡ true → now ≡ states.Untouched }
+    ensures { result ≡ is_untouched now }
 {
     matches!(now, ClassState::Untouched)
 }
@@ -116,7 +107,6 @@ fn passes_parent<S: Store>(program: &Program, store: &S, roots: &mut Roots, plac
 }
 
 /// One that wasn't looked at yet: it begins to be initialised, or a StackOverflowError is thrown where there is no room for its frame.
-/// `NotYet` where a string has 2^32 units or more.
 fn behind_texts<S: Store>(
     program: &Program,
     store: &mut S,
@@ -152,9 +142,7 @@ fn behind_texts<S: Store>(
     ensures allows { S.allows store.new ≡ S.allows store.old }
     ensures shapes { S.shapes store.new ≡ S.shapes store.old }
 {
-    if !may_begin_texts(program, class) {
-        return Err(Stop::NotYet);
-    }
+    linked_constants();
     if !roots.has_room(0) {
         return throws_at(program, store, roots, request, STACK_OVERFLOW);
     }

@@ -1,5 +1,5 @@
 // What natives that print a boolean, a char or a number write.
-ghost use Rattle.std.specs.Prelude.{◌≡◌, ◌<◌, ◌==◌, [], ◌∷◌, length, pos, true, IfSome, IsAscii, IsErr, OnErr, OnOk, Some};
+ghost use Rattle.std.specs.Prelude.{◌≡◌, ◌<◌, ◌==◌, [], ◌∷◌, length, pos, true, IfSome, IsAscii, IsErr, OnErr, OnOk, Some, IfNone, false};
 ghost use Rattle.std.specs.Io.KnownBytes.{Appends};
 ghost use Rattle.cb_arith.specs.Bits.{low_bits};
 ghost use Rattle.cb_frames.specs.Tops.{top_stack};
@@ -8,7 +8,8 @@ ghost use Rattle.cb_io.specs.Sink.{AppendsProperPrefix};
 ghost use Rattle.cb_io.specs.Utf8.{utf8};
 ghost use Rattle.cb_machine.specs.Natives.{native_of};
 ghost use Rattle.cb_machine.specs.Texts.{digits, truth, unit_of};
-ghost use Rattle.cb_interp.specs.Printing.{as_line, native_as, stream_native, suits, units_on};
+ghost use Rattle.cb_library.specs.declared.native.Native.{Native};
+ghost use Rattle.cb_interp.specs.Printing.{IsNoneOf, as_line, native_as, prints_value, stream_native, suits, units_on};
 
 use crate::operands::{int_at, long_at};
 use cb_arith::{Narrow, narrow};
@@ -45,7 +46,8 @@ pub(crate) enum Print {
 /// What a method prints, if it is a native that prints a boolean, a char, a number or a newline.
 pub(crate) fn print_of(program: &Program, method: u32) -> Option<Print>
     requires { method < length program.now.methods }
-    ensures { IfSome result (λ print. native_of program.now method ≡ Some (native_as print)) }
+    ensures is { IfSome result (λ print. native_of program.now method ≡ Some (native_as print)) }
+    ensures other { IfNone result (IsNoneOf prints_value program.now method) }
 {
     if program.class_of(method) != PRINT_STREAM {
         return None;
@@ -55,7 +57,9 @@ pub(crate) fn print_of(program: &Program, method: u32) -> Option<Print>
 
 /// What the method at a place of java/io/PrintStream prints, in the order of the library's table.
 fn print_at(place: u32) -> Option<Print>
-    ensures { IfSome result (λ print. stream_native place ≡ Some (native_as print)) }
+    ensures is { IfSome result (λ print. stream_native place ≡ Some (native_as print)) }
+    ensures other { IfNone result ((native : Native) → stream_native place ≡ Some native
+        → prints_value native ≡ false) }
 {
     match place {
         0 => Some(Print::Truth { line: false }),

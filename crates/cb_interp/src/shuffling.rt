@@ -11,10 +11,10 @@ use cb_plain::Value;
 use cb_shapes::Shuffle;
 
 /// Moves what stands on the stack of the topmost frame (JVMS §6.5, pop to swap).
-pub fn shuffle(roots: &mut Roots, how: Shuffle)
-    requires there { is_some (behind_shuffle how roots.old.roots) ≡ true }
-    requires room { growth how (top_stack roots.old.roots) ≤ top_room roots.old.roots }
-    ensures behind { behind_shuffle how roots.old.roots ≡ Some roots.new.roots }
+pub fn shuffle(roots: &mut Roots, how: &Shuffle)
+    requires there { is_some (behind_shuffle how.now roots.old.roots) ≡ true }
+    requires room { growth how.now (top_stack roots.old.roots) ≤ top_room roots.old.roots }
+    ensures behind { behind_shuffle how.now roots.old.roots ≡ Some roots.new.roots }
     ensures limit { roots.new.limit ≡ roots.old.limit }
 {
     match how {

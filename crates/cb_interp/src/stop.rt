@@ -12,6 +12,6 @@ pub enum Stop {
     NoRoom(NoRoom),
     /// A write of what the step prints failed.
     OutputFault,
-    /// The step is one of those that aren't done yet.
+    /// The step performs a native that isn't done yet.
     NotYet,
 }

@@ -1,5 +1,5 @@
 // The text of strings, written piece by piece.
-ghost use Rattle.std.specs.Prelude.{◌≡◌, ◌<◌, ◌≤◌, ◌+◌, ◌++◌, ◌⊎◌, ℕ, Bool, List, [], drop, length, pos, slice_get, take, true, IfSome, IsErr, IsTrue, OnErr, OnOk, Some};
+ghost use Rattle.std.specs.Prelude.{◌≡◌, ◌<◌, ◌≤◌, ◌+◌, ◌++◌, ◌⊎◌, ℕ, Bool, List, [], drop, length, pos, slice_get, take, true, IfSome, IsErr, IsTrue, OnErr, OnOk, Some, IfNone, false};
 ghost use Rattle.std.specs.Char.Utf16.{is_high_surrogate};
 ghost use Rattle.std.specs.Io.KnownBytes.{Appends};
 ghost use Rattle.cb_heap.specs.Kept.{content_at, contents_at, is_held};
@@ -10,7 +10,8 @@ ghost use Rattle.cb_io.specs.Utf8.{utf8};
 ghost use Rattle.cb_machine.specs.Natives.{native_of};
 ghost use Rattle.cb_plain.specs.State.{Number};
 ghost use Rattle.cb_safety.specs.Heap.{IsHeap};
-ghost use Rattle.cb_interp.specs.Printing.{AreChars, HoldsUnits, as_line, is_text, native_text, stream_native, string_text, units_at};
+ghost use Rattle.cb_library.specs.declared.native.Native.{Native};
+ghost use Rattle.cb_interp.specs.Printing.{AreChars, HasOddArray, HoldsUnits, IsNoneOf, are_chars, as_line, is_text, native_text, prints_text, stream_native, string_text, units_at};
 
 use crate::printing::{NEWLINE, PRINT_STREAM, write_text};
 use crate::words::value_at;
@@ -26,7 +27,8 @@ const PIECE: usize = 256;
 /// Whether a method prints a string, and a newline behind it.
 pub(crate) fn line_of(program: &Program, method: u32) -> Option<bool>
     requires { method < length program.now.methods }
-    ensures { IfSome result (λ line. native_of program.now method ≡ Some (native_text line)) }
+    ensures is { IfSome result (λ line. native_of program.now method ≡ Some (native_text line)) }
+    ensures other { IfNone result (IsNoneOf prints_text program.now method) }
 {
     if program.class_of(method) != PRINT_STREAM {
         return None;
@@ -36,7 +38,9 @@ pub(crate) fn line_of(program: &Program, method: u32) -> Option<bool>
 
 /// Whether the method at a place of java/io/PrintStream prints a string, and a newline behind it.
 fn line_at(place: u32) -> Option<bool>
-    ensures { IfSome result (λ line. stream_native place ≡ Some (native_text line)) }
+    ensures is { IfSome result (λ line. stream_native place ≡ Some (native_text line)) }
+    ensures other { IfNone result ((native : Native) → stream_native place ≡ Some native
+        → prints_text native ≡ false) }
 {
     match place {
         4 => Some(false),
@@ -50,8 +54,10 @@ fn line_at(place: u32) -> Option<bool>
 pub(crate) fn chars_of<S: Store>(program: &Program, store: &S, at: u64) -> Option<u64>
     requires text { is_text (S.kept store.now) (serial_of (S.index store.now) at) ≡ true }
     requires heap { IsHeap program.now (S.kept store.now) }
-    ensures { IfSome result (λ array. AreChars (S.kept store.now) (serial_of
+    ensures chars { IfSome result (λ array. AreChars (S.kept store.now) (serial_of
         (S.index store.now) at) (serial_of (S.index store.now) array)) }
+    ensures odd { IfNone result (HasOddArray program.now (S.kept store.now) (serial_of
+        (S.index store.now) at)) }
 {
     if at == 0 {
         return Some(0);
@@ -60,10 +66,15 @@ pub(crate) fn chars_of<S: Store>(program: &Program, store: &S, at: u64) -> Optio
     if array == 0 {
         return Some(0);
     }
-    match program.element(store.kind(array)) {
-        Some(Basic::Char) => Some(array),
-        _ => None,
-    }
+    let found = program.element(store.kind(array));
+    if is_char(found) { Some(array) } else { None }
+}
+
+/// Whether elements are chars.
+fn is_char(element: Option<Basic>) -> bool
+    ensures { result ≡ are_chars element }
+{
+    matches!(element, Some(Basic::Char))
 }
 
 /// Writes a string as UTF-8, `null` for null, by the place of the array of its chars. After a failed call a proper prefix of it was taken.

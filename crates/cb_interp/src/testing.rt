@@ -10,18 +10,18 @@ use cb_shapes::{Condition, Test};
 
 /// Takes from the stack of the topmost frame what a condition looks at, and says whether it holds (JVMS §6.5, ifeq to if_icmple, ifnull
 /// and ifnonnull). Whether two references are one is for a store to say.
-pub fn test(roots: &mut Roots, condition: Condition) -> bool
-    requires there { is_some (tested_on condition (top_stack roots.old.roots)) ≡ true }
-    requires one { compares_references condition ≡ false }
-    ensures behind { behind_test condition roots.old.roots ≡ Some roots.new.roots }
+pub fn test(roots: &mut Roots, condition: &Condition) -> bool
+    requires there { is_some (tested_on condition.now (top_stack roots.old.roots)) ≡ true }
+    requires one { compares_references condition.now ≡ false }
+    ensures behind { behind_test condition.now roots.old.roots ≡ Some roots.new.roots }
     ensures limit { roots.new.limit ≡ roots.old.limit }
-    ensures told { told condition roots.old.roots ≡ Some result }
+    ensures told { told condition.now roots.old.roots ≡ Some result }
 {
     match condition {
         Condition::Always => true,
-        Condition::WithZero(how) => with_zero(roots, how),
-        Condition::OfInts(how) => of_ints(roots, how),
-        Condition::IsNull(is) => is_null(roots, is),
+        Condition::WithZero(how) => with_zero(roots, *how),
+        Condition::OfInts(how) => of_ints(roots, *how),
+        Condition::IsNull(is) => is_null(roots, *is),
         Condition::AreSame(_) => false,
     }
 }

@@ -3,10 +3,8 @@ ghost use Rattle.std.specs.Prelude.{◌≡◌, ◌<◌, ◌≤◌, ℕ, false, l
 ghost use Rattle.cb_link.specs.Named.{static_initial};
 ghost use Rattle.cb_link.specs.Slots.{statics};
 ghost use Rattle.cb_unwind.specs.Strings.{IsNew};
-ghost use Rattle.cb_interp.specs.Loading.{MayPlace};
 ghost use Rattle.cb_interp.specs.TextStatics.{IsNamedBefore, MayPlaceOwn, own_text, text_of};
 
-use crate::load_turns::may_place;
 use cb_frames::Roots;
 use cb_link::{Named, Program};
 use cb_plain::Table;
@@ -91,29 +89,4 @@ pub(crate) fn new_at(program: &Program, roots: &Roots, class: u32, slot: u32) ->
         return None;
     }
     Some(text)
-}
-
-/// Whether the strings that are constants of static fields of a class may be placed. Takes time in the static fields of the program.
-pub(crate) fn may_place_own(program: &Program, class: u32) -> bool
-    ensures { result ≡ true → MayPlaceOwn program.now class }
-{
-    let count = program.static_count();
-    for slot in 0..count {
-        if !may_place_at(program, class, slot) {
-            return false;
-        }
-    }
-    true
-}
-
-/// Whether the string of a static field may be placed, if it has one.
-fn may_place_at(program: &Program, class: u32, slot: u32) -> bool
-    requires { slot < length (statics program.now.classes) }
-    ensures { result ≡ true → (text : ℕ) → own_text program.now class slot ≡ Some text
-        → (text < length program.now.constants) × MayPlace program.now text }
-{
-    match own_text(program, class, slot) {
-        Some(text) => text < program.constant_count() && may_place(program, text),
-        None => true,
-    }
 }

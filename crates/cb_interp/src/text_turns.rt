@@ -21,10 +21,9 @@ ghost use Rattle.cb_interp.specs.declared.stop.Stop.TheVariants as stops;
 
 use crate::Stop;
 use crate::frame_turns::throws_at;
-use crate::load_turns::CONSTANT_CHARACTERS;
+use crate::linked::linked_constants;
 use crate::sites::STACK_OVERFLOW;
 use crate::stopping::stopped;
-use crate::text_slots::may_place_own;
 use crate::text_statics::{ask_own, place_own};
 use cb_frames::Roots;
 use cb_heap::{NoRoom, Store};
@@ -32,8 +31,8 @@ use cb_link::Program;
 use cb_plain::{ClassState, Request};
 
 /// A turn in which a class begins to be initialised upon the frames that stand, with strings as the constants of static fields, or a
-/// StackOverflowError is thrown where there is no room for its frame (JVMS §5.5). `NotYet` where a string has 2^32 units or more.
-/// Takes time in the square of the static fields of the program, and in the units of strings that are new.
+/// StackOverflowError is thrown where there is no room for its frame (JVMS §5.5). Takes time in the square of the static fields of the
+/// program, and in the units of strings that are new.
 pub(crate) fn begins_texts<S: Store>(
     program: &Program,
     store: &mut S,
@@ -66,21 +65,11 @@ pub(crate) fn begins_texts<S: Store>(
     ensures allows { S.allows store.new ≡ S.allows store.old }
     ensures shapes { S.shapes store.new ≡ S.shapes store.old }
 {
-    if !may_begin_texts(program, class) {
-        return Err(Stop::NotYet);
-    }
+    linked_constants();
     if !roots.has_room(0) {
         return throws_at(program, store, roots, request, STACK_OVERFLOW);
     }
     stopped(begins_asked(program, store, roots, request, class))
-}
-
-/// Whether the strings that are constants of static fields of a class may be placed. Takes time in the static fields of the program.
-pub(crate) fn may_begin_texts(program: &Program, class: u32) -> bool
-    ensures sites { result ≡ true → constant_characters < length (site_kinds program.now) }
-    ensures may { result ≡ true → MayPlaceOwn program.now class }
-{
-    program.site_count() > CONSTANT_CHARACTERS && may_place_own(program, class)
 }
 
 /// The same where there is room for its frame, and all strings may be placed.

@@ -110,11 +110,11 @@ holder_name now index = holder_named now.machine.program now.frame.method index
 
 -- invokeinterface selects where the object's class implements the interface, and else ends as where several are selected. A private
 -- method can't be invoked so, whatever the object (§6.5 invokeinterface)
-abbrev implementing : Linked → ℕ → Option ℕ → ℕ → Selected
+abbrev pub implementing : Linked → ℕ → Option ℕ → ℕ → Selected
 implementing program method None kind = chosen.Several
 implementing program method (Some interface) kind = if instance program kind interface then select program kind method else chosen.Several
 
-abbrev is_private_method : Linked → ℕ → Bool
+abbrev pub is_private_method : Linked → ℕ → Bool
 is_private_method program method = method_is (ranked_methods program.classes) (λ own. is_private own.visibility) method
 
 abbrev calls_interface : Now → ℕ → Named → Option Plan

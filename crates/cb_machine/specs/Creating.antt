@@ -80,16 +80,16 @@ abbrev pub is_size : Value → Bool
 is_size (Int (pos size)) = true
 is_size other = false
 
-abbrev size_in : Value → ℕ
+abbrev pub size_in : Value → ℕ
 size_in (Int (pos size)) = size
 size_in other = 0
 
-abbrev makes_sized : Now → List ℕ → List Value → Option Plan
+abbrev pub makes_sized : Now → List ℕ → List Value → Option Plan
 makes_sized now sizes rest =
     let plan = leaving now.state in
     option_and_then (leaves_with now (Ref plan.next ∷ rest)) (with_arrays now.machine now.frame.method now.frame.pc 0 1 sizes plan)
 
-abbrev makes_taken : Now → List Value × List Value → Option Plan
+abbrev pub makes_taken : Now → List Value × List Value → Option Plan
 makes_taken now taken =
     if list_all is_size taken.0 then makes_sized now (reverse (map size_in taken.0)) taken.1
     else Some (throws now.machine now.state negative_size)

@@ -9,6 +9,7 @@ use Rattle.cb_heap.specs.Kept.{keep, residents}
 use Rattle.cb_heap.specs.Reading.{View, seen, serial_of}
 use Rattle.cb_heap.specs.declared.no_room.NoRoom.TheVariants as rooms
 use Rattle.cb_interp.specs.Keeping.{kept_state}
+use Rattle.cb_interp.specs.Leaving.{Leaves}
 use Rattle.cb_interp.specs.Running.{Ended, outside_of}
 use Rattle.cb_interp.specs.Steps.{view_of}
 use Rattle.cb_interp.specs.Texts.{TellsException, exception_units}
@@ -146,6 +147,7 @@ module _ (main : List ℕ) (program : Linked) (first : Moment (Unit {0})) (index
       run.said,
       run.out,
       LeavesOut run.count run.ends.0
+          (subst (Leaves (machine_of program)) (before_whole ends.NotYet run run.ends.1) run.ends.2)
           (told_is causes.NotYet cause text run.said (line (refusal_text (NotYet (utf8 main)))) same is ∙ same_told ends.NotYet run causes.NotYet (line (refusal_text (NotYet (utf8 main))))),
     )
     leaves_so run OutOfMemory is = no_memory ends.NotYet run run.out

@@ -26,7 +26,7 @@ ends_run_whole main program ending (Returns count within returns is) = whole_by 
 ends_run_whole main program ending (Throws count serial object units within throws there tells is) = whole_by ending _ is refl
 ends_run_whole main program ending (Spends runs is) = whole_by ending _ is refl
 ends_run_whole main program ending (Fills count below fills is) = whole_by ending _ is refl
-ends_run_whole main program ending (LeavesOut count below is) = whole_by ending _ is refl
+ends_run_whole main program ending (LeavesOut count below leaves is) = whole_by ending _ is refl
 
 runs_class_whole : (files : Option Files) (folder main : List ℕ) (ending : Ending) → RunsClass files folder main ending → IsWhole ending
 runs_class_whole files folder main ending (Stopped library refusal reason known stops says is) = whole_by ending _ is refl

@@ -3,6 +3,7 @@ use Rattle.std.specs.Prelude.{◌≡◌, ◌<◌, ◌≤◌, ◌++◌, ℕ, IsTr
 use Rattle.std.specs.Fmt.{decimal}
 use Rattle.cb_heap.specs.declared.no_room.NoRoom.{NoRoom}
 use Rattle.cb_heap.specs.declared.no_room.NoRoom.TheVariants.{Full, ReportFault, OutOfMemory as NoMemory}
+use Rattle.cb_interp.specs.Leaving.{Leaves}
 use Rattle.cb_interp.specs.Running.{Prints}
 use Rattle.cb_interp.specs.Steps.{view_of}
 use Rattle.cb_interp.specs.Texts.{exception_units}
@@ -49,7 +50,7 @@ full_line ReportFault = []
 full_line NoMemory = []
 
 -- so it ends: `main` returns; an exception finds no handler; the steps are spent; what the next step places takes more words than are
--- counted; or the next step is one of those that aren't done yet, of the program of a main class
+-- counted; or the next step performs a native that isn't done yet, of the program of a main class
 pub data EndsRun (main : List ℕ) (program : Linked) (ending : Ending) : Type 0 where
   Returns : (count : ℕ) → count ≤ most_steps → outcome (state_at program count) ≡ outcomes.Returned
       → ending ≡ told causes.Returned (state_at program count).printed [] → EndsRun main program ending
@@ -61,7 +62,7 @@ pub data EndsRun (main : List ℕ) (program : Linked) (ending : Ending) : Type 0
   Fills : (count : ℕ) → count < most_steps → IsTrue (one_has_reached most_words (request (machine_of program) (state_at program count)))
       → ending ≡ told causes.HeapFull (state_at program count).printed (full_line (no_room_in (view_of (state_at program count))))
       → EndsRun main program ending
-  LeavesOut : (count : ℕ) → count < most_steps
+  LeavesOut : (count : ℕ) → count < most_steps → Leaves (machine_of program) (state_at program count)
       → ending ≡ told causes.NotYet (state_at program count).printed (line (refusal_text (NotYet (utf8 main)))) → EndsRun main program ending
 
 -- and so it is cut short: no memory is to be had, or a write of what a step prints fails

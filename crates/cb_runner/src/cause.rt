@@ -10,7 +10,7 @@ pub enum Cause {
     BudgetSpent,
     /// What the next step of the program places takes more words than there may be. What was printed before stands.
     HeapFull,
-    /// The next step of the program is one of those that aren't done yet. What was printed before stands.
+    /// The next step of the program performs a native that isn't done yet. What was printed before stands.
     NotYet,
     /// The words are no command.
     Usage,

@@ -9,7 +9,7 @@ use Rattle.cb_interp.proofs.acting.act_on_classes.Goals as goal
 pub gets_static-requires-clause-room : goal.gets_static-requires-clause-room
 gets_static-requires-clause-room g c =
     subst (λ room. 0 < room) (room_read (g.S.Store.index c.args.store.now) c.args.roots.now.roots)
-    (c.requires.suited.room.lays c.args.action c.requires.is (ap lays_one c.in-GetStatic.is))
+    (c.requires.suited.room.lays c.args.action.now c.requires.is (ap lays_one c.in-GetStatic.is))
 
 pub invokes_static-requires-clause-fit : goal.invokes_static-requires-clause-fit
 invokes_static-requires-clause-fit g c = λ method count numbered body low is has enters.
@@ -28,3 +28,9 @@ invokes_virtual-requires-clause-fit g c = λ method count numbered body low is h
     c.requires.suited.arguments method count numbered body low is has
     (λ limit. ap (option_and_then (acted_as c.args.program.now limit c.args.decoded.now (seen (g.S.Store.index c.args.store.now) (g.S.Store.kept c.args.store.now) c.args.roots.now.roots)))
     (c.requires.is ∙ ap Some c.in-InvokeVirtual.is) ∙ enters limit)
+
+pub invokes_interface-requires-clause-fit : goal.invokes_interface-requires-clause-fit
+invokes_interface-requires-clause-fit g c = λ method count numbered body low is has enters.
+    c.requires.suited.arguments method count numbered body low is has
+    (λ limit. ap (option_and_then (acted_as c.args.program.now limit c.args.decoded.now (seen (g.S.Store.index c.args.store.now) (g.S.Store.kept c.args.store.now) c.args.roots.now.roots)))
+    (c.requires.is ∙ ap Some c.in-InvokeInterface.is) ∙ enters limit)

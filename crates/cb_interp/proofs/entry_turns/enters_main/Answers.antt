@@ -1,5 +1,5 @@
 use Rattle.std.proofs.Common.{rules}
-use Rattle.cb_interp.proofs.TurnsEntered.{body_so, enters, main_fits}
+use Rattle.cb_interp.proofs.TurnsEntered.{body_so, enters, main_coded, main_fits}
 use Rattle.cb_interp.proofs.entry_turns.enters_main.Goals as goal
 
 pub enters_first-requires : goal.enters_first-requires
@@ -22,3 +22,9 @@ enters_first-requires g c κs within =
         ),
       ),
     )
+
+pub unreachable-requires : goal.unreachable-requires
+unreachable-requires g c =
+    main_coded c.args.program.now (g.S.Store.index c.args.store.now) (g.S.Store.kept c.args.store.now) c.args.roots.now.roots g.outside c.requires.1.1.1.0 c.requires.1.1.1.1.0
+    c.requires.1.1.1.1.1.0 c.requires.1.1.1.1.1.1 c.args.roots.now.limit c.main_method-method.result c.main_method-method.ensures.begins c.method.result.now c.method.ensures c.in-None.is
+    c.requires.1.0.linked c.requires.1.0.fits c.requires.1.0.typed

@@ -56,7 +56,7 @@ looks_at_parent-requires g c κs within = (
           c.requires.1.1.1.1,
           (
             class_below c.args.program.now (g.S.Store.index c.args.store.now) (g.S.Store.kept c.args.store.now) c.args.roots.now.roots g.outside c.requires.1.0.typed c.args.class c.args.place c.requires.1.1.1.1,
-            c.numbers_at.ensures.texts c.if-numbers_at.false,
+            (c.numbers_at.ensures.texts c.if-numbers_at.false, sym c.fails_next.ensures ∙ c.if-fails_next.false),
           ),
         ),
       ),

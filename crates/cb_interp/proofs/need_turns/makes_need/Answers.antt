@@ -1,4 +1,6 @@
 use Rattle.std.proofs.Common.{◌∙◌, sym}
+use Rattle.cb_heap.specs.Reading.{seen}
+use Rattle.cb_interp.proofs.TurnsNeedMakes.{makes_others}
 use Rattle.cb_interp.proofs.need_turns.makes_need.Goals as goal
 
 pub new_need-requires : goal.new_need-requires
@@ -14,7 +16,10 @@ array_need-requires g c = λ κs lives. (
 )
 
 pub nested_need-requires : goal.nested_need-requires
-nested_need-requires g c = λ κs lives. (
-  lives,
-  (c.requires.1.0, (c.requires.1.1.0, (c.requires.1.1.1.0, (sym c.is_nested.ensures ∙ c.if-is_nested.true, c.requires.1.1.1.1)))),
-)
+nested_need-requires g c = λ κs lives.
+    let makes =
+    makes_others c.args.program.now c.args.roots.now.limit c.args.decoded.now (seen (g.S.Store.index c.args.store.now) (g.S.Store.kept c.args.store.now) c.args.roots.now.roots)
+    c.requires.1.1.1.1 (sym c.is_new.ensures ∙ c.if-is_new.false) (sym c.is_new_array.ensures ∙ c.if-is_new_array.false) in (
+      lives,
+      (c.requires.1.0, (c.requires.1.1.0, (c.requires.1.1.1.0, (makes, c.requires.1.1.1.1)))),
+    )

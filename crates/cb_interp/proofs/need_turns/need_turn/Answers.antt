@@ -3,7 +3,7 @@ use Rattle.cb_heap.specs.Reading.{seen}
 use Rattle.cb_interp.specs.Acting.{Asks}
 use Rattle.cb_interp.specs.Here.{need_plan}
 use Rattle.cb_interp.specs.Turning.{machine_of, state_of}
-use Rattle.cb_interp.proofs.TurnsNeed.{counts_none, not_yet_fine}
+use Rattle.cb_interp.proofs.LeavingAsks.{begins_low, switches_so}
 use Rattle.cb_interp.proofs.TurnsNeedThrown.{thrown_site}
 use Rattle.cb_interp.proofs.need_turns.need_turn.Goals as goal
 
@@ -16,23 +16,33 @@ throw_need-requires g c = λ κs lives. (
       c.requires.1.1.0,
       (
         thrown_site c.args.program.now c.args.roots.now.limit c.args.decoded.now (seen (g.S.Store.index c.args.store.now) (g.S.Store.kept c.args.store.now) c.args.roots.now.roots)
-            c.in-Throws.site (c.requires.1.1.1.1.1.0 ∙ ap (λ need. Some (Asks need)) c.in-Throws.is),
+            c.in-Throws.site (c.requires.1.1.1.1.0 ∙ ap (λ need. Some (Asks need)) c.in-Throws.is),
         c.requires.1.1.1.1.1.1 ∙ ap (need_plan (machine_of c.args.program.now c.args.roots.now.limit) (state_of (seen (g.S.Store.index c.args.store.now) (g.S.Store.kept c.args.store.now) c.args.roots.now.roots) g.outside)) c.in-Throws.is,
       ),
     ),
   ),
 )
 
-pub begin_need-requires : goal.begin_need-requires
-begin_need-requires g c = λ κs lives. (
+pub begins_class-requires : goal.begins_class-requires
+begins_class-requires g c = λ κs lives. (
   lives,
-  (c.requires.1.0, (c.requires.1.1.0, c.requires.1.1.1.1.1.1 ∙ ap (need_plan (machine_of c.args.program.now c.args.roots.now.limit) (state_of (seen (g.S.Store.index c.args.store.now) (g.S.Store.kept c.args.store.now) c.args.roots.now.roots) g.outside)) c.in-Begins.is)),
+  (
+    c.requires.1.0,
+    (
+      c.requires.1.1.0,
+      (
+        c.requires.1.1.1.1.1.1 ∙ ap (need_plan (machine_of c.args.program.now c.args.roots.now.limit) (state_of (seen (g.S.Store.index c.args.store.now) (g.S.Store.kept c.args.store.now) c.args.roots.now.roots) g.outside)) c.in-Begins.is,
+        begins_low c.args.program.now c.args.roots.now.limit c.args.decoded.now (g.S.Store.index c.args.store.now) (g.S.Store.kept c.args.store.now) c.args.roots.now.roots g.outside
+            c.in-Begins.class c.requires.1.0.typed (c.requires.1.1.1.1.0 ∙ ap (λ need. Some (Asks need)) c.in-Begins.is),
+      ),
+    ),
+  ),
 )
 
 pub makes_need-requires : goal.makes_need-requires
 makes_need-requires g c = λ κs lives. (
   lives,
-  (c.requires.1.0, (c.requires.1.1.0, (c.requires.1.1.1.0, c.requires.1.1.1.1.1.0 ∙ ap (λ need. Some (Asks need)) c.in-Makes.is))),
+  (c.requires.1.0, (c.requires.1.1.0, (c.requires.1.1.1.0, c.requires.1.1.1.1.0 ∙ ap (λ need. Some (Asks need)) c.in-Makes.is))),
 )
 
 pub divide_need-requires : goal.divide_need-requires
@@ -48,10 +58,22 @@ divide_need-requires g c = λ κs lives. (
 )
 
 pub loads_need-requires : goal.loads_need-requires
-loads_need-requires g c = λ κs lives. (lives, (c.requires.1.0, (c.requires.1.1.0, c.requires.1.1.1.0)))
+loads_need-requires g c = λ κs lives. (
+  lives,
+  (c.requires.1.0, (c.requires.1.1.0, (c.requires.1.1.1.0, c.requires.1.1.1.1.0 ∙ ap (λ need. Some (Asks need)) c.in-Loads.is))),
+)
 
 pub switch_need-requires : goal.switch_need-requires
-switch_need-requires g c = λ κs lives. (lives, (c.requires.1.0, c.requires.1.1.1.0))
+switch_need-requires g c = λ κs lives. (
+  lives,
+  (
+    c.requires.1.0,
+    (
+      c.requires.1.1.1.0,
+      switches_so c.args.program.now c.args.roots.now.limit c.args.decoded.now (seen (g.S.Store.index c.args.store.now) (g.S.Store.kept c.args.store.now) c.args.roots.now.roots) (c.requires.1.1.1.1.0 ∙ ap (λ need. Some (Asks need)) c.in-Switches.is),
+    ),
+  ),
+)
 
-pub returns-in-Switches-clause-counted : goal.returns-in-Switches-clause-counted
-returns-in-Switches-clause-counted g c = counts_none (g.S.Store.faults c.args.store.now) c.switch_need.result (not_yet_fine c.switch_need.result c.switch_need.ensures.waits)
+pub unreachable-requires : goal.unreachable-requires
+unreachable-requires g c = c.requires.1.1.1.1.1.0 c.in-Performs.field-0 c.in-Performs.is

@@ -3,8 +3,8 @@ use Rattle.cb_interp.proofs.need_turns.need_turn.Given as goal
 abbrev pub ghost-throw_need : goal.ghost-throw_need
 ghost-throw_need g a = g.outside
 
-abbrev pub ghost-begin_need : goal.ghost-begin_need
-ghost-begin_need g a = g.outside
+abbrev pub ghost-begins_class : goal.ghost-begins_class
+ghost-begins_class g a = g.outside
 
 abbrev pub ghost-makes_need : goal.ghost-makes_need
 ghost-makes_need g a = g.outside

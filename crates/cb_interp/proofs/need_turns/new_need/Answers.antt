@@ -1,26 +1,48 @@
 use Rattle.std.proofs.Common.{◌∙◌, sym}
 use Rattle.std.proofs.lemmas.Bool.{false≢true}
 use Rattle.cb_heap.specs.Reading.{seen}
+use Rattle.cb_machine.specs.Machine.{kind_of_site}
 use Rattle.cb_safety.proofs.Laws.{typed_states_are_closed}
 use Rattle.cb_interp.specs.Needing.{IsObjectHere}
-use Rattle.cb_interp.specs.Turning.{state_of}
-use Rattle.cb_interp.proofs.TurnsNeedMaking.{object_placed, object_plan, object_room}
+use Rattle.cb_interp.specs.Running.{StopsBy}
+use Rattle.cb_interp.specs.Turning.{machine_of, moment_of, state_of}
+use Rattle.cb_interp.proofs.TurnsNeed.{counts_as, made_as, stops_as}
+use Rattle.cb_interp.proofs.TurnsNeedMaking.{object_placed, object_plan, object_room, object_there}
 use Rattle.cb_interp.proofs.TurnsNeedSites.{site_low}
+use Rattle.cb_interp.proofs.TurnsNeedThere.{site_kind_low}
 use Rattle.cb_interp.proofs.need_turns.new_need.Goals as goal
+
+pub object_here-making-requires-clause-makes : goal.object_here-making-requires-clause-makes
+object_here-making-requires-clause-makes g c =
+    let runs = c.requires.1.0 in
+    (object_there c.args.program.now c.args.roots.now.limit (g.S.Store.index c.args.store.now) (g.S.Store.kept c.args.store.now) c.args.roots.now.roots g.outside c.args.decoded.now c.requires.1.1.1.0
+    runs.linked runs.fits runs.typed (c.linked_programs.ensures.whole c.args.program.now runs.linked) c.requires.1.1.1.1.0).0
+
+pub object_here-making-requires-clause-next : goal.object_here-making-requires-clause-next
+object_here-making-requires-clause-next g c =
+    let runs = c.requires.1.0 in
+    (object_there c.args.program.now c.args.roots.now.limit (g.S.Store.index c.args.store.now) (g.S.Store.kept c.args.store.now) c.args.roots.now.roots g.outside c.args.decoded.now c.requires.1.1.1.0
+    runs.linked runs.fits runs.typed (c.linked_programs.ensures.whole c.args.program.now runs.linked) c.requires.1.1.1.1.0).1
+
+pub object_here-making-requires-clause-few : goal.object_here-making-requires-clause-few
+object_here-making-requires-clause-few g c = c.fields_are_few.ensures c.args.program.now c.requires.1.0.linked
 
 pub make_object_turn-requires : goal.make_object_turn-requires
 make_object_turn-requires g c = λ κs lives.
     let runs = c.requires.1.0 in
-    let making = c.in-Some.making in
-    let here : IsObjectHere c.args.program.now c.args.roots.now.roots c.args.decoded.now making = c.in-Some.ensures in
+    let making = c.object_here-making.result in
+    let here : IsObjectHere c.args.program.now c.args.roots.now.roots c.args.decoded.now making = c.object_here-making.ensures in
+    let tells = c.dimensions_are_told.ensures c.args.program.now runs.linked runs.fits in
+    let kind =
+    site_kind_low c.args.program.now c.args.roots.now.limit (g.S.Store.index c.args.store.now) (g.S.Store.kept c.args.store.now) c.args.roots.now.roots g.outside c.args.decoded.now c.requires.1.1.1.0
+    runs.linked runs.fits runs.typed tells 0 making.site here.here in
     let placed =
-    object_placed c.args.program.now (g.S.Store.shapes c.args.store.now) c.args.roots.now.roots c.args.decoded.now making
-    (c.linked_programs_fit.ensures.objects c.args.program.now (g.S.Store.shapes c.args.store.now) runs.linked runs.shaped) here in
+    object_placed c.args.program.now (g.S.Store.shapes c.args.store.now) making.site (kind_of_site c.args.program.now making.site) making.size runs.shaped kind here.sized in
     let low = site_low c.args.program.now here.here.method here.here.pc 0 making.site here.here.is in (
       lives,
       (
         object_plan c.args.program.now c.args.roots.now.limit (g.S.Store.index c.args.store.now) (g.S.Store.kept c.args.store.now) c.args.roots.now.roots g.outside c.args.decoded.now c.requires.1.1.1.0
-            (c.sites_are_told.ensures c.args.program.now runs.linked runs.fits) c.requires.1.1.1.1.0 c.requires.1.1.1.1.1 making here,
+            tells c.requires.1.1.1.1.0 c.requires.1.1.1.1.1 making here,
         (
           low,
           (
@@ -43,3 +65,18 @@ make_object_turn-requires g c = λ κs lives.
         ),
       ),
     )
+
+pub returns-clause-made : goal.returns-clause-made
+returns-clause-made g c = made_as c.make_object_turn.result c.stopped.result _ c.stopped.ensures c.make_object_turn.ensures.made
+
+pub returns-clause-stopped : goal.returns-clause-stopped
+returns-clause-stopped g c =
+    stops_as c.make_object_turn.result c.stopped.result
+    (λ stop. StopsBy g.S.Store.rules (machine_of c.args.program.now c.args.roots.now.limit) stop
+    (moment_of (seen (g.S.Store.index c.args.store.now) (g.S.Store.kept c.args.store.now) c.args.roots.now.roots) g.outside (g.S.Store.facts c.args.store.now))
+    (moment_of (seen (g.S.Store.index c.make_object_turn.new.store) (g.S.Store.kept c.make_object_turn.new.store) c.make_object_turn.new.roots.roots) g.outside
+    (g.S.Store.facts c.make_object_turn.new.store)))
+    c.stopped.ensures c.make_object_turn.ensures.refused
+
+pub returns-clause-counted : goal.returns-clause-counted
+returns-clause-counted g c = counts_as c.make_object_turn.result c.stopped.result _ _ c.stopped.ensures c.make_object_turn.ensures.counted

@@ -36,8 +36,8 @@ begins_asked-requires g c κs lives = (
         (
           c.requires.1.1.1.1,
           (
-            c.may_begin_texts.ensures.sites c.if-not-may_begin_texts.false,
-            (c.may_begin_texts.ensures.may c.if-not-may_begin_texts.false, sym c.has_room.ensures ∙ c.if-not-has_room.false),
+            c.linked_constants.ensures.sites c.args.program.now c.requires.1.0.linked,
+            (c.linked_constants.ensures.own c.args.program.now (g.S.Store.shapes c.args.store.now) c.requires.1.0.linked c.requires.1.0.fits c.requires.1.0.shaped c.args.class, sym c.has_room.ensures ∙ c.if-not-has_room.false),
           ),
         ),
       ),

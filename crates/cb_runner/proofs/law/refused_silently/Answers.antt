@@ -37,7 +37,7 @@ run_unrefused main program ending (Returns count within returns is) refused = un
 run_unrefused main program ending (Throws count serial object units within throws there tells is) refused = uncaught_apart object.kind (other_cause ending _ is refused)
 run_unrefused main program ending (Spends runs is) refused = spent_apart (other_cause ending _ is refused)
 run_unrefused main program ending (Fills count below fills is) refused = full_apart (other_cause ending _ is refused)
-run_unrefused main program ending (LeavesOut count below is) refused = undone_apart (other_cause ending _ is refused)
+run_unrefused main program ending (LeavesOut count below leaves is) refused = undone_apart (other_cause ending _ is refused)
 
 silent_run : (files : Option Files) (folder main : List ℕ) (ending : Ending) → RunsClass files folder main ending → ending.cause ≡ Refused → (ending.out ≡ []) × (ending.read ≡ 0)
 silent_run files folder main ending (Stopped library refusal reason known stops says is) refused = (ap (λ e. e.out) is, ap (λ e. e.read) is)
