@@ -32,6 +32,7 @@ pub enum IntOp {
 /// What an operation gives for two ints, the left one first, or `None` where it would divide by zero (JVMS §6.5).
 ///
 /// The least int divided by -1 is itself, with the remainder 0. A shift goes as far as the low 5 bits of `b` say.
+#[inline(always)]
 pub fn int_op(op: IntOp, a: i32, b: i32) -> Option<i32>
     ensures exact { result ≡ int_op op a b }
     ensures none { IsNone result ↔ (IsTrue (int_divides op) × (b ≡ pos 0)) }

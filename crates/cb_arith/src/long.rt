@@ -26,6 +26,7 @@ pub enum LongOp {
 /// What an operation gives for two longs, the left one first, or `None` where it would divide by zero (JVMS §6.5).
 ///
 /// The least long divided by -1 is itself, with the remainder 0.
+#[inline(always)]
 pub fn long_op(op: LongOp, a: i64, b: i64) -> Option<i64>
     ensures exact { result ≡ long_op op a b }
     ensures none { IsNone result ↔ (IsTrue (long_divides op) × (b ≡ pos 0)) }

@@ -5,6 +5,7 @@ ghost use Rattle.cb_arith.specs.Narrowing.{narrow};
 use crate::narrower::Narrow;
 
 /// The value that the low bits of an int have in a narrower type, as an int (JVMS §6.5).
+#[inline(always)]
 pub fn narrow(to: Narrow, a: i32) -> i32
     ensures exact { result ≡ narrow to a }
 {

@@ -5,6 +5,7 @@ ghost use Rattle.cb_arith.specs.Order.{compare};
 use std::cmp::Ordering;
 
 /// `lcmp`: -1 where the first is less, 0 where they are the same, 1 where it is greater (JVMS §6.5).
+#[inline(always)]
 pub fn compare(a: i64, b: i64) -> i32
     ensures exact { result ≡ compare a b }
     ensures less { (result ≡ neg_ℤ (pos 1)) ↔ (a <ℤ b) }

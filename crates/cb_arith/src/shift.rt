@@ -14,6 +14,7 @@ pub enum ShiftOp {
 }
 
 /// A long shifted as far as the low 6 bits of `by` say (JVMS §6.5).
+#[inline(always)]
 pub fn long_shift(op: ShiftOp, a: i64, by: i32) -> i64
     ensures exact { result ≡ long_shift op a by }
 {

@@ -1,5 +1,6 @@
 mod Changed
 mod Entered
+mod Entering
 mod Laid
 pub mod Laws
 mod Moved
@@ -7,5 +8,7 @@ mod Named
 mod Parted
 mod Parts
 mod Same
+mod Searched
+mod Slotted
 mod Stacked
 mod Tables

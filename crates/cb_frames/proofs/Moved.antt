@@ -1,13 +1,16 @@
 -- Slots in which some are wiped or others pasted, step by step.
-use Rattle.std.proofs.Common.{◌≡◌, ◌∙◌, sym, refl, ap, arith, ℕ, ℤ, suc, ◌+◌, ◌-◌, ◌<◌, ◌≤◌, List, [], ◌∷◌, ◌++◌, length, drop, take, get_or, slice_range, slice_set, length-append, length-drop, append_assoc}
+use Rattle.std.proofs.Common.{◌≡◌, ◌∙◌, sym, refl, ap, arith, ℕ, suc, ◌+◌, ◌-◌, ◌<◌, ◌≤◌, ◌⊎◌, inl, inr, List, [], ◌∷◌, ◌++◌, length, drop, take, get_or, map, slice_range, slice_set, length-append, length-drop, append_assoc}
 use Rattle.std.specs.List.{flat_map}
 use Rattle.std.proofs.lemmas.Grind.{flat_map-append}
-use Rattle.std.proofs.lemmas.List.{append-nil, drop-drop, drop_at, drop_more, get_or_append_left, get_or-take, length-replicate, length-take-le, replicate_more, set-append_right, take-append-drop, take_at}
+use Rattle.std.proofs.lemmas.List.{append-nil, drop-drop, drop_at, drop_more, get_or-map, get_or_append_left, get_or-take, length-replicate, length-take-le, replicate_more, set-append_right, take-append-drop, take_at}
 use Rattle.std.proofs.lemmas.List.Edits.{between_more, between_none, sets-eq}
 use Rattle.cb_plain.specs.declared.value.Value.{Value}
-use Rattle.cb_plain.specs.declared.value.Value.TheVariants as values
 use Rattle.cb_plain.specs.Depth.{slots_of}
+use Rattle.cb_frames.specs.declared.slot.Kind.{Kind}
+use Rattle.cb_frames.specs.declared.slot.Kind.TheVariants as kinds
+use Rattle.cb_frames.specs.declared.slot.Slot.{Slot}
 use Rattle.cb_frames.specs.Inner.{blank, blanks, pasted, wiped}
+use Rattle.cb_frames.specs.Slots.{value_in, value_of}
 use Rattle.cb_frames.proofs.Parts.{dropped_behind, joined_parts}
 
 -- one more slot wiped
@@ -91,43 +94,45 @@ slots_within xs from i to low high =
     omega (arith, ap length all, length-append (flat_map slots_of (slice_range xs from i)) (flat_map slots_of (slice_range xs i to)))
 
 -- a value that takes one slot
-pub one_slot : (value : Value) → ((number : ℤ) → value ≡ values.Long number → ⊥) → slots_of value ≡ value ∷ []
-one_slot (values.Int number) short = refl
-one_slot (values.Long number) short = absurd (short number refl)
-one_slot (values.Ref to) short = refl
+pub one_slot : (kind : Kind) (word : ℕ) → (kind ≡ kinds.Int) ⊎ (kind ≡ kinds.Ref) → slots_of (value_in kind word) ≡ value_in kind word ∷ []
+one_slot kinds.Int word short = refl
+one_slot kinds.Long word short = elim short [ inl is ↦ cc | inr is ↦ cc ]
+one_slot kinds.Ref word short = refl
 
 -- one value more spread
-pub spread_more : (xs slots now : List Value) (from to i end at next : ℕ) → from ≤ i → i < end → end ≤ to
-    → to + length (flat_map slots_of (slice_range xs from end)) ≤ length xs
-    → slots ≡ pasted xs to (flat_map slots_of (slice_range xs from i)) → at ≡ to + length (flat_map slots_of (slice_range xs from i))
-    → now ≡ pasted slots at (slots_of (get_or slots i blank)) → next ≡ at + length (slots_of (get_or slots i blank))
-    → (now ≡ pasted xs to (flat_map slots_of (slice_range xs from (i + 1)))) × (next ≡ to + length (flat_map slots_of (slice_range xs from (i + 1))))
-spread_more xs slots now from to i end at next low high order inside was place is behind =
-    let read : get_or slots i blank ≡ get_or xs i blank = ap (λ all. get_or all i blank) was ∙ pasted_read xs to i (flat_map slots_of (slice_range xs from i)) blank (omega arith) (omega arith) in
-    let more : flat_map slots_of (slice_range xs from i) ++ slots_of (get_or slots i blank) ≡ flat_map slots_of (slice_range xs from (i + 1)) =
-    ap (λ item. flat_map slots_of (slice_range xs from i) ++ slots_of item) read ∙ slots_more_at xs from i low (omega arith) in (
-      is
-          ∙ ap (λ all. pasted all at (slots_of (get_or slots i blank))) was
-          ∙ ap (λ n. pasted (pasted xs to (flat_map slots_of (slice_range xs from i))) n (slots_of (get_or slots i blank))) place
-          ∙ pasted_more xs to (flat_map slots_of (slice_range xs from i)) (slots_of (get_or slots i blank)) (omega arith)
-          ∙ ap (pasted xs to) more,
-      omega (arith, behind, place, ap length more, length-append (flat_map slots_of (slice_range xs from i)) (slots_of (get_or slots i blank))),
-    )
+module _ (xs slots : List Value) (from to i end at : ℕ) (item : Value) (low : from ≤ i) (high : i < end) (order : end ≤ to)
+    (inside : to + length (flat_map slots_of (slice_range xs from end)) ≤ length xs)
+    (was : slots ≡ pasted xs to (flat_map slots_of (slice_range xs from i))) (place : at ≡ to + length (flat_map slots_of (slice_range xs from i)))
+    (read : item ≡ get_or slots i blank) where
+  read_first : item ≡ get_or xs i blank
+  read_first = read ∙ ap (λ all. get_or all i blank) was ∙ pasted_read xs to i (flat_map slots_of (slice_range xs from i)) blank (omega arith) (omega arith)
 
-pub spread_fits : (xs slots : List Value) (from to i end at : ℕ) → from ≤ i → i < end → end ≤ to
-    → to + length (flat_map slots_of (slice_range xs from end)) ≤ length xs
-    → slots ≡ pasted xs to (flat_map slots_of (slice_range xs from i)) → at ≡ to + length (flat_map slots_of (slice_range xs from i))
-    → length slots ≡ length xs → at + length (slots_of (get_or slots i blank)) ≤ length slots
-spread_fits xs slots from to i end at low high order inside was place size =
-    let read : get_or slots i blank ≡ get_or xs i blank = ap (λ all. get_or all i blank) was ∙ pasted_read xs to i (flat_map slots_of (slice_range xs from i)) blank (omega arith) (omega arith) in
-    let more : flat_map slots_of (slice_range xs from i) ++ slots_of (get_or slots i blank) ≡ flat_map slots_of (slice_range xs from (i + 1)) =
-    ap (λ item. flat_map slots_of (slice_range xs from i) ++ slots_of item) read ∙ slots_more_at xs from i low (omega arith) in
-    omega (
-      arith,
-      ap length more,
-      length-append (flat_map slots_of (slice_range xs from i)) (slots_of (get_or slots i blank)),
-      slots_within xs from (i + 1) end (omega arith) (omega arith),
-    )
+  item_more : flat_map slots_of (slice_range xs from i) ++ slots_of item ≡ flat_map slots_of (slice_range xs from (i + 1))
+  item_more = ap (λ one. flat_map slots_of (slice_range xs from i) ++ slots_of one) read_first ∙ slots_more_at xs from i low (omega arith)
+
+  pub spread_more : (now : List Value) (next : ℕ) → now ≡ pasted slots at (slots_of item) → next ≡ at + length (slots_of item)
+      → (now ≡ pasted xs to (flat_map slots_of (slice_range xs from (i + 1)))) × (next ≡ to + length (flat_map slots_of (slice_range xs from (i + 1))))
+  spread_more now next is behind = (
+    is
+        ∙ ap (λ all. pasted all at (slots_of item)) was
+        ∙ ap (λ n. pasted (pasted xs to (flat_map slots_of (slice_range xs from i))) n (slots_of item)) place
+        ∙ pasted_more xs to (flat_map slots_of (slice_range xs from i)) (slots_of item) (omega arith)
+        ∙ ap (pasted xs to) item_more,
+    omega (arith, behind, place, ap length item_more, length-append (flat_map slots_of (slice_range xs from i)) (slots_of item)),
+  )
+
+  pub spread_fits : at + length (slots_of item) ≤ length xs
+  spread_fits =
+      omega (
+        arith,
+        ap length item_more,
+        length-append (flat_map slots_of (slice_range xs from i)) (slots_of item),
+        slots_within xs from (i + 1) end (omega arith) (omega arith),
+      )
+
+-- what a slot that is read holds
+pub slot_read : (slots : List Slot) (i : ℕ) (slot : Slot) (item : Value) → i < length slots → slot ≡ get_or slots i slot → value_of slot ≡ get_or (map value_of slots) i item
+slot_read slots i slot item inside read = sym (get_or-map value_of slots i slot item inside ∙ ap value_of (sym read))
 
 -- what lies in front of what is pasted, and behind it
 pub pasted_front : (xs : List Value) (at : ℕ) (others : List Value) → at ≤ length xs → take at (pasted xs at others) ≡ take at xs
@@ -135,9 +140,3 @@ pasted_front xs at others inside = take_at (take at xs) (others ++ drop (at + le
 
 pub pasted_rest : (xs : List Value) (at : ℕ) (others : List Value) → at ≤ length xs → drop at (pasted xs at others) ≡ others ++ drop (at + length others) xs
 pasted_rest xs at others inside = drop_at (take at xs) (others ++ drop (at + length others) xs) at (length-take-le at xs inside)
-
-pub pasted_behind : (xs : List Value) (at : ℕ) (others : List Value) → at ≤ length xs → drop (at + length others) (pasted xs at others) ≡ drop (at + length others) xs
-pasted_behind xs at others inside =
-    sym (drop-drop (length others) at (pasted xs at others))
-    ∙ ap (drop (length others)) (pasted_rest xs at others inside)
-    ∙ drop_at others (drop (at + length others) xs) (length others) refl

@@ -1,23 +1,15 @@
 -- Parts of lists, where the lists are changed elsewhere or within.
-use Rattle.std.proofs.Common.{◌≡◌, ◌∙◌, sym, refl, ap, arith, ℕ, zero, suc, ◌+◌, ◌-◌, ◌<◌, ◌≤◌, List, [], ◌∷◌, ◌++◌, length, drop, take, replicate, slice_range, slice_set, length-append, length-drop}
-use Rattle.std.proofs.lemmas.List.{drop-drop, drop-set-add, drop-set-lt, drop_at, length-replicate, length-take-le, replicate-append-replicate, set_split, take-set-le, take-take, take_at}
+use Rattle.std.proofs.Common.{◌≡◌, ◌∙◌, sym, refl, ap, arith, ℕ, zero, suc, ◌+◌, ◌-◌, ◌<◌, ◌≤◌, List, [], ◌∷◌, ◌++◌, length, drop, take, replicate, slice_range, slice_set}
+use Rattle.std.proofs.lemmas.List.{drop-drop, drop-set-add, drop-set-lt, drop_at, length-take-le, take-set-le, take-take, take_at}
 use Rattle.std.proofs.lemmas.Slice.{between_is}
 
 module _ {X : Type 0} where
-  -- parts of lists that begin, or go on, in the same way
+  -- parts of lists that begin in the same way
   pub same_front : (xs ys : List X) (end n : ℕ) → take end xs ≡ take end ys → n ≤ end → take n xs ≡ take n ys
   same_front xs ys end n same within = sym (take-take n end xs within) ∙ ap (take n) same ∙ take-take n end ys within
 
   pub same_part : (xs ys : List X) (end from to : ℕ) → take end xs ≡ take end ys → to ≤ end → slice_range xs from to ≡ slice_range ys from to
   same_part xs ys end from to same within = between_is xs from to ∙ ap (drop from) (same_front xs ys end to same within) ∙ sym (between_is ys from to)
-
-  pub same_behind : (xs ys : List X) (end n : ℕ) → drop end xs ≡ drop end ys → end ≤ n → drop n xs ≡ drop n ys
-  same_behind xs ys end n same past =
-      let at : n ≡ end + (n - end) = omega arith in
-      ap (λ k. drop k xs) at ∙ sym (drop-drop (n - end) end xs) ∙ ap (drop (n - end)) same ∙ drop-drop (n - end) end ys ∙ ap (λ k. drop k ys) (sym at)
-
-  pub same_part_behind : (xs ys : List X) (end from to : ℕ) → drop end xs ≡ drop end ys → end ≤ from → slice_range xs from to ≡ slice_range ys from to
-  same_part_behind xs ys end from to same past = ap (take (to - from)) (same_behind xs ys end from same past)
 
   -- parts next to each other
   pub taken_of_none : (n : ℕ) → take n (let none : List X = [] in none) ≡ []
@@ -38,9 +30,6 @@ module _ {X : Type 0} where
       ∙ sym (take_sum (middle - from) (to - middle) (drop from xs))
       ∙ ap (λ k. take k (drop from xs)) (sym size)
 
-  pub front_joined : (xs : List X) (from to : ℕ) → from ≤ to → take from xs ++ slice_range xs from to ≡ take to xs
-  front_joined xs from to order = sym (take_sum from (to - from) xs) ∙ ap (λ k. take k xs) (let e : from + (to - from) ≡ to = omega arith in e)
-
   -- parts with an item changed
   pub part_set_above : (xs : List X) (from to i : ℕ) (item : X) → to ≤ i → slice_range (slice_set xs i item) from to ≡ slice_range xs from to
   part_set_above xs from to i item above = same_part (slice_set xs i item) xs to from to (take-set-le to xs i item above) (omega arith)
@@ -58,14 +47,7 @@ module _ {X : Type 0} where
   pub part_set_within : (xs : List X) (from to i : ℕ) (item : X) → from + i < to → slice_range (slice_set xs (from + i) item) from to ≡ slice_set (slice_range xs from to) i item
   part_set_within xs from to i item within = ap (take (to - from)) (drop-set-add from xs i item) ∙ take_set (drop from xs) (to - from) i item (omega arith)
 
-  -- so many of a list that begins with others
-  pub taken_behind : (xs ys : List X) (n : ℕ) → length xs ≤ n → take n (xs ++ ys) ≡ xs ++ take (n - length xs) ys
-  taken_behind [] ys n past = ap (λ k. take k ys) (let e : n ≡ n - 0 = omega arith in e)
-  taken_behind (x ∷ xs) ys zero past = absurd (omega (arith, past))
-  taken_behind (x ∷ xs) ys (suc n) past =
-      let less : suc n - suc (length xs) ≡ n - length xs = omega arith in
-      ap (λ rest. x ∷ rest) (taken_behind xs ys n (omega (arith, past))) ∙ ap (λ k. x ∷ (xs ++ take k ys)) (sym less)
-
+  -- what is behind the items that a list begins with
   pub dropped_behind : (xs ys : List X) (n : ℕ) → length xs ≤ n → drop n (xs ++ ys) ≡ drop (n - length xs) ys
   dropped_behind [] ys n past = ap (λ k. drop k ys) (let e : n ≡ n - 0 = omega arith in e)
   dropped_behind (x ∷ xs) ys zero past = absurd (omega (arith, past))
@@ -80,43 +62,3 @@ module _ {X : Type 0} where
 
     pub filled_rest : drop from (take from xs ++ (replicate (to - from) item ++ drop to xs)) ≡ replicate (to - from) item ++ drop to xs
     filled_rest = drop_at (take from xs) (replicate (to - from) item ++ drop to xs) from (length-take-le from xs (omega arith))
-
-    pub filled_behind : drop to (take from xs ++ (replicate (to - from) item ++ drop to xs)) ≡ drop to xs
-    filled_behind =
-        let at : to ≡ from + (to - from) = omega arith in
-        ap (λ k. drop k (take from xs ++ (replicate (to - from) item ++ drop to xs))) at
-        ∙ sym (drop-drop (to - from) from (take from xs ++ (replicate (to - from) item ++ drop to xs)))
-        ∙ ap (drop (to - from)) filled_rest
-        ∙ drop_at (replicate (to - from) item) (drop to xs) (to - from) (length-replicate (to - from) item)
-
-    pub filled_length : length (take from xs ++ (replicate (to - from) item ++ drop to xs)) ≡ length xs
-    filled_length =
-        omega (
-          arith,
-          length-append (take from xs) (replicate (to - from) item ++ drop to xs),
-          length-append (replicate (to - from) item) (drop to xs),
-          length-replicate (to - from) item,
-          length-take-le from xs (omega arith),
-          length-drop to xs,
-        )
-
-    -- where what follows was filled with the same
-    pub filled_part : (end : ℕ) → to ≤ end → slice_range xs to end ≡ replicate (end - to) item
-        → slice_range (take from xs ++ (replicate (to - from) item ++ drop to xs)) from end ≡ replicate (end - from) item
-    filled_part end past free =
-        let size : length (replicate (to - from) item) ≡ to - from = length-replicate (to - from) item in
-        let sum : (to - from) + (end - to) ≡ end - from = omega arith in
-        let left : end - from - length (replicate (to - from) item) ≡ end - to = omega arith in
-        ap (take (end - from)) filled_rest
-        ∙ taken_behind (replicate (to - from) item) (drop to xs) (end - from) (omega arith)
-        ∙ ap (λ k. replicate (to - from) item ++ take k (drop to xs)) left
-        ∙ ap (λ rest. replicate (to - from) item ++ rest) free
-        ∙ replicate-append-replicate (to - from) (end - to) item
-        ∙ ap (λ k. replicate k item) sum
-
-  -- a single place that is filled
-  pub one_filled : (xs : List X) (i n : ℕ) (item : X) → n ≡ i + 1 → i < length xs → slice_set xs i item ≡ take i xs ++ (replicate (n - i) item ++ drop n xs)
-  one_filled xs i n item next inside =
-      let one : n - i ≡ 1 = omega arith in
-      let at : n ≡ suc i = omega arith in
-      set_split xs i item inside ∙ ap (λ k. take i xs ++ (item ∷ drop k xs)) (sym at) ∙ ap (λ k. take i xs ++ (replicate k item ++ drop n xs)) (sym one)

@@ -5,8 +5,8 @@ use Rattle.std.proofs.lemmas.List.Edits.{length-between}
 use Rattle.std.proofs.lemmas.Slice.{between_from_start}
 use Rattle.cb_plain.specs.declared.table.Table.{Table}
 use Rattle.cb_plain.specs.declared.table.Table.TheVariants as tables
-use Rattle.cb_plain.specs.Roots.{table_in, with_entry}
-use Rattle.cb_plain.specs.State.{Roots, Tables}
+use Rattle.cb_plain.specs.Roots.{table_in}
+use Rattle.cb_plain.specs.State.{Tables}
 use Rattle.cb_frames.specs.declared.object_tables.Starts.{Starts}
 use Rattle.cb_frames.specs.declared.sizes.RootSizes.{RootSizes}
 use Rattle.cb_frames.specs.Beginning.{blank_tables}

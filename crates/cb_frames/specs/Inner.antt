@@ -1,6 +1,6 @@
 -- Frames as they lie in one list of slots, the lowest first: each has its local variables, its stack with the topmost value last, and free
--- slots, which hold the int 0.
-use Rattle.std.specs.Prelude.{◌≡◌, pos, ℕ, ◌+◌, ◌*◌, ◌-◌, ◌^◌, ◌<◌, ◌≤◌, List, [], ◌∷◌, ◌++◌, drop, length, replicate, reverse, slice_range, take}
+-- slots, which may hold anything.
+use Rattle.std.specs.Prelude.{◌≡◌, pos, ℕ, ◌+◌, ◌*◌, ◌-◌, ◌^◌, ◌<◌, ◌≤◌, List, [], ◌∷◌, ◌++◌, drop, length, nat_le, replicate, reverse, slice_range, take, if◌then◌else◌}
 use Rattle.cb_plain.specs.declared.value.Value.{Value}
 use Rattle.cb_plain.specs.declared.value.Value.TheVariants as values
 use Rattle.cb_plain.specs.Depth.{slots_each}
@@ -27,27 +27,30 @@ frames_in slots top [] = []
 frames_in slots top (below ∷ rest) = frame_as top.what slots top ∷ frames_in slots below rest
 
 -- a frame begins where the one below it ends
-pub record IsPlaced (slots : List Value) (from : ℕ) (at : Standing) : Type 0 where
+pub record IsPlaced (from : ℕ) (at : Standing) : Type 0 where
   pub begins : at.base ≡ from
   pub locals : at.base ≤ at.floor
   pub stack : at.floor ≤ at.next
   pub room : at.next ≤ at.end
-  pub free : slice_range slots at.next at.end ≡ blanks (at.end - at.next)
   pub empty : at.what ≡ whats.Class → at.end ≡ at.base
 
-abbrev pub AreStacked : List Value → Standing → List Standing → Type 0
-AreStacked slots top [] = (top.next ≡ 0) × (top.end ≡ 0)
-AreStacked slots top (below ∷ rest) = IsPlaced slots below.end top × AreStacked slots below rest
+abbrev pub AreStacked : Standing → List Standing → Type 0
+AreStacked top [] = (top.next ≡ 0) × (top.end ≡ 0)
+AreStacked top (below ∷ rest) = IsPlaced below.end top × AreStacked below rest
 
--- frames that lie in so many slots, of which those above the topmost one are free
-pub record AreLaid (limit : ℕ) (slots : List Value) (top : Standing) (below : List Standing) (free : ℕ) : Type 0 where
+-- frames that lie in so many slots
+pub record AreLaid (limit slots : ℕ) (top : Standing) (below : List Standing) (free : ℕ) : Type 0 where
   pub few : limit < 2 ^ 32
   pub count : length below ≡ limit
-  pub size : length slots ≡ slots_each * limit
+  pub size : slots ≡ slots_each * limit
   pub within : free ≤ length below
-  pub inside : top.end ≤ length slots
-  pub stacked : AreStacked slots top (drop free below)
-  pub above : drop top.end slots ≡ blanks (length slots - top.end)
+  pub inside : top.end ≤ slots
+  pub stacked : AreStacked top (drop free below)
+
+-- where the used slots end in the frame that a slot belongs to
+abbrev pub used_to : Standing → List Standing → ℕ → ℕ
+used_to top [] slot = 0
+used_to top (below ∷ rest) slot = if nat_le top.base slot then top.next else used_to below rest slot
 
 -- the same slots with the int 0 from one place to another
 abbrev pub wiped : List Value → ℕ → ℕ → List Value

@@ -5,4 +5,5 @@ pub mod Inner
 pub mod InnerTables
 pub mod Limited
 pub mod Named
+pub mod Slots
 pub mod Tops

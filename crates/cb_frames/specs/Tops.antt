@@ -1,6 +1,7 @@
 -- The topmost frame: what there is of it, and roots with it changed, entered or left (JVMS §2.6).
 use Rattle.std.specs.Prelude.{ℕ, ◌+◌, ◌-◌, Bool, true, false, List, [], ◌∷◌, Option, Some, None, drop, length, reverse, slice_set, take}
 use Rattle.cb_plain.specs.declared.value.Value.{Value}
+use Rattle.cb_plain.specs.declared.value.Value.TheVariants as values
 use Rattle.cb_plain.specs.Depth.{frame_of}
 use Rattle.cb_plain.specs.Roots.{with_frames}
 use Rattle.cb_plain.specs.State.{Frame, Initialising, OfMethod, Roots}
@@ -41,6 +42,11 @@ top_stack roots = on_top [] stack_in roots.frames
 
 abbrev pub top_room : Roots → ℕ
 top_room roots = on_top 0 room_in roots.frames
+
+-- whether a value is a long
+abbrev pub is_long : Value → Bool
+is_long (values.Long number) = true
+is_long other = false
 
 -- whether a method's frame is the topmost one
 abbrev pub is_method : Frame → Bool

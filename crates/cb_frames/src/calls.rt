@@ -10,7 +10,7 @@ use crate::{Deep, Frame, Roots};
 impl Roots {
     /// Enters a method with so many local variables and so many words of a stack, at its first place (JVMS §2.6). The topmost values of
     /// the stack that runs are its arguments and go from there into its local variables, a long into two; the others hold the int 0.
-    /// `Deep` where there is no room for the frame, which changes nothing. Takes time in the arguments.
+    /// `Deep` where there is no room for the frame, which changes nothing. Takes time in the local variables.
     pub fn enter(
         &mut self,
         method: u32,
@@ -55,7 +55,7 @@ impl Roots {
         self.frames.has_room(slots as usize)
     }
 
-    /// Leaves the topmost frame. Takes time in its slots.
+    /// Leaves the topmost frame.
     pub fn leave(&mut self)
         requires { 0 < length self.old.roots.frames }
         ensures { self.new ≡ with_roots self.old (left self.old.roots) }
@@ -64,6 +64,7 @@ impl Roots {
     }
 
     /// Which frame is the topmost one, `None` where none stands.
+    #[inline(always)]
     pub fn top(&self) -> Option<Frame>
         ensures { result ≡ topmost self.now.roots.frames }
     {
@@ -71,6 +72,7 @@ impl Roots {
     }
 
     /// Puts the topmost frame at a place of its code, or of its initialisation.
+    #[inline(always)]
     pub fn set_place(&mut self, place: u32)
         requires { 0 < length self.old.roots.frames }
         ensures { self.new ≡ with_roots self.old (placed self.old.roots place) }

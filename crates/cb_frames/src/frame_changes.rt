@@ -21,8 +21,9 @@ impl FrameStack {
         let base = self.top.end;
         let next = self.top.next;
         let first = next - arguments;
-        spread(&mut self.slots, first, arguments, base);
-        wipe(&mut self.slots, first, next);
+        let given = spread(&mut self.slots, first, arguments, base);
+        let floor = base + locals;
+        wipe(&mut self.slots, given, floor);
         self.top.next = first;
         self.free -= 1;
         self.below[self.free] = self.top;
@@ -31,9 +32,9 @@ impl FrameStack {
             number: method,
             place: 0,
             base,
-            floor: base + locals,
-            next: base + locals,
-            end: base + locals + stack,
+            floor,
+            next: floor,
+            end: floor + stack,
         };
     }
 
@@ -61,7 +62,6 @@ impl FrameStack {
         requires { 0 < length self.old.frames }
         ensures { self.new ≡ holding self.old (drop 1 self.old.frames) }
     {
-        wipe(&mut self.slots, self.top.base, self.top.next);
         self.top = self.below[self.free];
         self.free += 1;
     }

@@ -7,8 +7,9 @@ ghost use Rattle.cb_frames.specs.Held.{with_change};
 ghost use Rattle.cb_frames.specs.Tops.{at_place, topmost};
 
 use crate::Frame;
+use crate::slot::{Kind, Slot};
 use crate::standing::{Standing, What};
-use cb_plain::{OutOfMemory, Value};
+use cb_plain::OutOfMemory;
 use std::alloc::Global;
 use std::marker::Model;
 
@@ -16,11 +17,11 @@ use std::marker::Model;
 const SLOTS_EACH: usize = 64;
 
 /// Frames that stand on one another, with the most that may stand. All their slots lie one behind another, those of the lowest frame
-/// first, and the free ones hold the int 0.
+/// first, and the free ones may hold anything.
 #[derive(Drop)]
 pub(crate) struct FrameStack {
     pub(crate) limit: u32,
-    pub(crate) slots: Vec<Value>,
+    pub(crate) slots: Vec<Slot>,
     pub(crate) top: Standing,
     // Those below the topmost one are behind the places that are free, the lowest last, and behind it one that is no frame.
     pub(crate) below: Vec<Standing>,
@@ -28,15 +29,16 @@ pub(crate) struct FrameStack {
 }
 
 impl Model for FrameStack {
-    ghost use Rattle.std.specs.Prelude.{drop};
+    ghost use Rattle.std.specs.Prelude.{drop, length, map};
     ghost use Rattle.cb_frames.specs.Held.{Held};
     ghost use Rattle.cb_frames.specs.Inner.{frames_in, AreLaid};
+    ghost use Rattle.cb_frames.specs.Slots.{value_of};
 
     ghost Value = { Held };
 
-    ghost view = { λ stack. record { limit = stack.limit; frames = frames_in stack.slots.items stack.top (drop stack.free stack.below.items) } };
+    ghost view = { λ stack. record { limit = stack.limit; frames = frames_in (map value_of stack.slots.items) stack.top (drop stack.free stack.below.items) } };
 
-    ghost invariant = { λ stack. AreLaid stack.limit stack.slots.items stack.top stack.below.items stack.free };
+    ghost invariant = { λ stack. AreLaid stack.limit (length stack.slots.items) stack.top stack.below.items stack.free };
 }
 
 impl FrameStack {
@@ -45,7 +47,11 @@ impl FrameStack {
         ensures { IfOk result (λ stack. stack ≡ record { limit = limit; frames = [] }) }
     {
         let count = limit as usize;
-        let slots = vec![in alloc; Value::Int(0); SLOTS_EACH * count]?;
+        let blank = Slot {
+            kind: Kind::Int,
+            word: 0,
+        };
+        let slots = vec![in alloc; blank; SLOTS_EACH * count]?;
         let below = vec![in alloc; Standing::bottom(); count]?;
         Ok(FrameStack {
             limit,
@@ -54,6 +60,18 @@ impl FrameStack {
             below,
             free: count,
         })
+    }
+
+    /// No frames, and room for none.
+    #[inline(always)]
+    pub(crate) fn none(alloc: Global) -> FrameStack {
+        FrameStack {
+            limit: 0,
+            slots: Vec::new(alloc),
+            top: Standing::bottom(),
+            below: Vec::new(alloc),
+            free: 0,
+        }
     }
 
     /// How many slots the frames have together.
@@ -73,6 +91,7 @@ impl FrameStack {
     }
 
     /// Which frame is the topmost one.
+    #[inline(always)]
     pub(crate) fn top(&self) -> Option<Frame>
         ensures { result ≡ topmost self.now.frames }
     {
@@ -92,6 +111,7 @@ impl FrameStack {
     }
 
     /// Puts the topmost frame at a place.
+    #[inline(always)]
     pub(crate) fn set_place(&mut self, place: u32)
         ensures { self.new ≡ with_change self.old (at_place place) }
     {

@@ -22,6 +22,7 @@ mod operands;
 mod references;
 mod roots;
 mod sizes;
+mod slot;
 mod slots;
 mod standing;
 

@@ -85,6 +85,21 @@ impl ObjectTables {
         })
     }
 
+    /// Tables without places.
+    #[inline(always)]
+    pub(crate) fn none(alloc: Global) -> ObjectTables {
+        ObjectTables {
+            all: Vec::new(alloc),
+            starts: Starts {
+                classes: 0,
+                integers: 0,
+                longs: 0,
+                characters: 0,
+                booleans: 0,
+            },
+        }
+    }
+
     /// The object at a place of a table, 0 where there is none yet.
     pub(crate) fn get(&self, which: Table, i: u32) -> u64
         requires { i < length (table_in self.now which) }

@@ -1,39 +1,69 @@
 // The local variables and the stack of the topmost frame.
-ghost use Rattle.std.specs.Prelude.{◌≡◌, ◌<◌, ◌+◌, [], ◌∷◌, drop, length, slice_get, slice_set, Some};
+ghost use Rattle.std.specs.Prelude.{◌≡◌, ◌<◌, ◌+◌, [], ◌∷◌, drop, length, slice_get, slice_set, Some, ℕ, ℤ};
+ghost use Rattle.cb_plain.specs.declared.value.Value.{Value};
+ghost use Rattle.cb_plain.specs.declared.value.Value.TheVariants as values;
 ghost use Rattle.cb_frames.specs.Held.{with_change};
-ghost use Rattle.cb_frames.specs.Tops.{locals_in, on_top, room_in, stack_in, with_locals, with_stack};
+ghost use Rattle.cb_frames.specs.Tops.{is_long, locals_in, on_top, room_in, stack_in, with_locals, with_stack};
 
-use crate::arguments::wipe;
 use crate::frame_stack::FrameStack;
+use crate::slot::{Slot, int_in, is_long, long_in, slot_of, value_in};
 use cb_plain::Value;
 
 impl FrameStack {
     /// A local variable.
+    #[inline(always)]
     pub(crate) fn local(&self, i: u32) -> Value
         requires { i < length (on_top [] locals_in self.now.frames) }
         ensures { slice_get (on_top [] locals_in self.now.frames) i ≡ Some result }
     {
-        copy_of(&self.slots[self.top.base + i as usize])
+        let slot = &self.slots[self.top.base + i as usize];
+        value_in(slot.kind, slot.word)
+    }
+
+    /// The number in a local variable, where it holds an int.
+    #[inline(always)]
+    pub(crate) fn int_local(&self, i: u32) -> i32
+        requires { i < length (on_top [] locals_in self.now.frames) }
+        ensures { (number : ℤ) → slice_get (on_top [] locals_in self.now.frames) i ≡ Some (values.Int number) → result ≡ number }
+    {
+        int_in(self.slots[self.top.base + i as usize].word)
     }
 
     /// Gives a local variable another value.
+    #[inline(always)]
     pub(crate) fn set_local(&mut self, i: u32, value: Value)
         requires { i < length (on_top [] locals_in self.old.frames) }
         ensures { self.new ≡ with_change self.old (with_locals (λ locals. slice_set locals i value)) }
     {
-        self.slots[self.top.base + i as usize] = value;
+        self.slots[self.top.base + i as usize] = slot_of(value);
     }
 
     /// Puts a value on the stack.
+    #[inline(always)]
     pub(crate) fn push(&mut self, value: Value)
         requires { 0 < on_top 0 room_in self.old.frames }
         ensures { self.new ≡ with_change self.old (with_stack (λ stack. value ∷ stack)) }
     {
-        self.slots[self.top.next] = value;
+        self.slots[self.top.next] = slot_of(value);
+        self.top.next += 1;
+    }
+
+    /// Puts the value of a local variable on the stack.
+    #[inline(always)]
+    pub(crate) fn push_local(&mut self, i: u32)
+        requires there { i < length (on_top [] locals_in self.old.frames) }
+        requires room { 0 < on_top 0 room_in self.old.frames }
+        ensures { (value : Value) → slice_get (on_top [] locals_in self.old.frames) i ≡ Some value → self.new ≡ with_change self.old (with_stack (λ stack. value ∷ stack)) }
+    {
+        let slot = &self.slots[self.top.base + i as usize];
+        let kind = slot.kind;
+        let word = slot.word;
+        self.slots[self.top.next] = Slot { kind, word };
         self.top.next += 1;
     }
 
     /// Takes the topmost value from the stack.
+    #[inline(always)]
     pub(crate) fn pop(&mut self) -> Value
         requires { 0 < length (on_top [] stack_in self.old.frames) }
         ensures value { slice_get (on_top [] stack_in self.old.frames) 0 ≡ Some result }
@@ -41,37 +71,72 @@ impl FrameStack {
         ensures room { on_top 0 room_in self.new.frames ≡ on_top 0 room_in self.old.frames + 1 }
     {
         let next = self.top.next - 1;
-        let value = copy_of(&self.slots[next]);
-        self.slots[next] = Value::Int(0);
         self.top.next = next;
-        value
+        let slot = &self.slots[next];
+        value_in(slot.kind, slot.word)
+    }
+
+    /// Takes the topmost value from the stack into a local variable, and says whether it is a long.
+    #[inline(always)]
+    pub(crate) fn pop_into(&mut self, i: u32) -> bool
+        requires some { 0 < length (on_top [] stack_in self.old.frames) }
+        requires there { i < length (on_top [] locals_in self.old.frames) }
+        ensures value { (value : Value) → slice_get (on_top [] stack_in self.old.frames) 0 ≡ Some value → self.new ≡ with_change (with_change self.old (with_stack (λ stack. drop 1 stack))) (with_locals (λ locals. slice_set locals i value)) }
+        ensures long { (value : Value) → slice_get (on_top [] stack_in self.old.frames) 0 ≡ Some value → result ≡ is_long value }
+        ensures room { on_top 0 room_in self.new.frames ≡ on_top 0 room_in self.old.frames + 1 }
+    {
+        let next = self.top.next - 1;
+        let slot = &self.slots[next];
+        let kind = slot.kind;
+        let word = slot.word;
+        self.top.next = next;
+        self.slots[self.top.base + i as usize] = Slot { kind, word };
+        is_long(kind)
     }
 
     /// The value at a depth of the stack; the topmost one is at 0.
+    #[inline(always)]
     pub(crate) fn peek(&self, below: u32) -> Value
         requires { below < length (on_top [] stack_in self.now.frames) }
         ensures { slice_get (on_top [] stack_in self.now.frames) below ≡ Some result }
     {
-        copy_of(&self.slots[self.top.next - 1 - below as usize])
+        let slot = &self.slots[self.top.next - 1 - below as usize];
+        value_in(slot.kind, slot.word)
+    }
+
+    /// The number at a depth of the stack, where an int is there.
+    #[inline(always)]
+    pub(crate) fn int(&self, below: u32) -> i32
+        requires { below < length (on_top [] stack_in self.now.frames) }
+        ensures { (number : ℤ) → slice_get (on_top [] stack_in self.now.frames) below ≡ Some (values.Int number) → result ≡ number }
+    {
+        int_in(self.slots[self.top.next - 1 - below as usize].word)
+    }
+
+    /// The number at a depth of the stack, where a long is there.
+    #[inline(always)]
+    pub(crate) fn long(&self, below: u32) -> i64
+        requires { below < length (on_top [] stack_in self.now.frames) }
+        ensures { (number : ℤ) → slice_get (on_top [] stack_in self.now.frames) below ≡ Some (values.Long number) → result ≡ number }
+    {
+        long_in(self.slots[self.top.next - 1 - below as usize].word)
+    }
+
+    /// The place at a depth of the stack, where a reference is there.
+    #[inline(always)]
+    pub(crate) fn reference_at(&self, below: u32) -> u64
+        requires { below < length (on_top [] stack_in self.now.frames) }
+        ensures { (to : ℕ) → slice_get (on_top [] stack_in self.now.frames) below ≡ Some (values.Ref to) → result ≡ to }
+    {
+        self.slots[self.top.next - 1 - below as usize].word
     }
 
     /// Takes all values from the stack.
+    #[inline(always)]
     pub(crate) fn clear_stack(&mut self)
         requires { 0 < length self.old.frames }
         ensures { self.new ≡ with_change self.old (with_stack (λ stack. [])) }
     {
-        wipe(&mut self.slots, self.top.floor, self.top.next);
         self.top.next = self.top.floor;
-    }
-}
-
-/// A value that is read as it was written, which is by its kind: a processor waits where it has to read two writes at once.
-fn copy_of(value: &Value) -> Value
-    ensures { result ≡ value.now }
-{
-    match value {
-        Value::Int(number) => Value::Int(*number),
-        Value::Long(number) => Value::Long(*number),
-        Value::Ref(at) => Value::Ref(*at),
     }
 }

@@ -15,7 +15,8 @@ impl Roots {
         self.frames.size() + self.statics.len() + self.tables.len() + 2
     }
 
-    /// What the entry at a place refers to, 0 where it refers to nothing.
+    /// What the entry at a place refers to, 0 where it refers to nothing. For a slot of a frame it takes time in the logarithm of the frames
+    /// that stand.
     pub fn reference(&self, i: usize) -> u64
         requires { i < length (entries self.now.roots) }
         ensures { slice_get (entries self.now.roots) i ≡ Some result }

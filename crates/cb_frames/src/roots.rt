@@ -8,6 +8,7 @@ use crate::object_tables::ObjectTables;
 use cb_plain::{ClassState, OutOfMemory, Value};
 use std::alloc::Global;
 use std::marker::Model;
+use std::mem;
 
 /// The roots of a machine, with the most frames that may stand. Contracts see them as that number and the record of the machine's
 /// definitions. They take no memory once they are made, and a call takes the same time for all roots where it doesn't say otherwise.
@@ -51,5 +52,23 @@ impl Roots {
             pending: 0,
             argument: 0,
         })
+    }
+
+    /// Takes the roots out, for a loop that keeps them in local variables. Those that stay behind are empty: they have no frames and room
+    /// for none, no static fields, no classes and no places in a table. Takes no memory.
+    #[inline(always)]
+    pub fn take(&mut self) -> Roots
+        ensures { result ≡ self.old }
+    {
+        let alloc = *self.statics.allocator();
+        let none = Roots {
+            frames: FrameStack::none(alloc),
+            statics: Vec::new(alloc),
+            classes: Vec::new(alloc),
+            tables: ObjectTables::none(alloc),
+            pending: 0,
+            argument: 0,
+        };
+        mem::replace(self, none)
     }
 }

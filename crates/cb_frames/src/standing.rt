@@ -24,6 +24,7 @@ pub(crate) struct Standing {
 
 impl Standing {
     /// What lies below the lowest frame.
+    #[inline(always)]
     pub(crate) const fn bottom() -> Standing
         ensures next { result.next ≡ 0 }
         ensures end { result.end ≡ 0 }

@@ -22,7 +22,7 @@ use Rattle.cb_link.specs.Program.{Linked}
 use Rattle.cb_link.specs.Slots.{basic_of_field, field_marks, is_some_reference, object_fields, shape, shape_with}
 use Rattle.cb_safety.specs.Linked.{IsLinked}
 use Rattle.cb_interp.specs.Needing.{HasFewFields, fields_count}
-use Rattle.cb_interp.proofs.LinkedFew.{all_joined}
+use Rattle.cb_act.proofs.Laws.{all_joined}
 
 -- ---- of a class
 

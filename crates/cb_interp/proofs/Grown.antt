@@ -11,8 +11,8 @@ use Rattle.cb_shapes.specs.declared.shuffle.Shuffle.{Shuffle}
 use Rattle.cb_shapes.specs.declared.shuffle.Shuffle.TheVariants.{Pop, Pop2, Dup, DupX1, DupX2, Dup2, Dup2X1, Dup2X2, Swap}
 use Rattle.cb_shapes.specs.declared.sort.Category.{Category}
 use Rattle.cb_shapes.specs.declared.sort.Category.TheVariants.{One, Two}
-use Rattle.cb_interp.specs.Effects.{growth}
-use Rattle.cb_interp.proofs.Moved.{by_four, by_one, by_three, by_two}
+use Rattle.cb_act.specs.Effects.{growth}
+use Rattle.cb_act.proofs.Laws.{by_four, by_one, by_three, by_two}
 
 -- by the category of what is on top
 abbrev one_or_two : Category → ℕ

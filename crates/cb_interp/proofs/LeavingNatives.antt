@@ -1,6 +1,6 @@
 -- Of the library's natives those that print are methods of java/io/PrintStream alone, at their places of the table; and what is left of a
 -- native that isn't done.
-use Rattle.std.proofs.Common.{◌≡◌, ◌∙◌, ap, refl, sym, subst, ℕ, zero, suc, ◌&&◌, not, Bool, true, false, List, [], ◌∷◌, Option, Some, None}
+use Rattle.std.proofs.Common.{◌≡◌, ◌∙◌, ap, refl, sym, ℕ, zero, suc, ◌&&◌, not, Bool, true, false, List, [], ◌∷◌, Option, Some, None}
 use Rattle.std.specs.List.{list_all}
 use Rattle.std.specs.Prelude.{option_and_then, option_map, slice_get}
 use Rattle.std.proofs.lemmas.Bool.{and_parts, false≢true}
@@ -13,14 +13,13 @@ use Rattle.cb_link.specs.Program.{Linked}
 use Rattle.cb_link.specs.declared.decoded.Decoded.{Decoded}
 use Rattle.cb_link.specs.declared.linked.LinkedMethod.{LinkedMethod}
 use Rattle.cb_machine.specs.Machine.{Machine}
-use Rattle.cb_machine.specs.Natives.{native_of}
 use Rattle.cb_plain.specs.State.{State}
-use Rattle.cb_interp.specs.Acting.{Asks, acted}
-use Rattle.cb_interp.specs.Here.{Here, standing_here}
-use Rattle.cb_interp.specs.Leaving.{LeavesNative, is_done}
+use Rattle.cb_act.specs.Acting.{Asks, acted}
+use Rattle.cb_act.specs.Here.{Here, standing_here}
+use Rattle.cb_interp.specs.Leaving.{Leaves, is_done}
 use Rattle.cb_interp.specs.Printing.{IsNoneOf, prints_text, prints_value}
-use Rattle.cb_interp.specs.Steps.{view_of}
-use Rattle.cb_interp.specs.declared.need.Need.TheVariants as needs
+use Rattle.cb_act.specs.Steps.{view_of}
+use Rattle.cb_act.specs.declared.need.Need.TheVariants as needs
 use Rattle.cb_interp.proofs.TurnsNative.{Performing, native_asked}
 
 -- ---- the table
@@ -128,7 +127,7 @@ done_by other value text = refl
 
 pub leaves_native : (machine : Machine) (state : State) (decoded : Decoded) (at : Here machine state decoded) (method : ℕ)
     → acted machine.program machine.frames decoded (view_of state) ≡ Some (Asks (needs.Performs method)) → IsNoneOf prints_value machine.program method
-    → IsNoneOf prints_text machine.program method → LeavesNative machine state
+    → IsNoneOf prints_text machine.program method → Leaves machine state
 leaves_native machine state decoded at method asks values texts =
     let performing : Performing (standing_here machine state decoded at) method = native_asked machine state decoded at method asks in
     record {

@@ -1,4 +1,5 @@
--- A method of a linked program has few parameters: each takes a word at least, and these are at most 255 (JVMS §4.3.3).
+-- A method of a linked program has few parameters: each takes a word at least, and these are at most 255 (JVMS §4.3.3). And the program lists
+-- the methods of its classes.
 use Rattle.std.proofs.Common.{◌≡◌, ◌∙◌, ap, refl, sym, subst, arith, ℕ, zero, suc, ◌+◌, ◌≤◌, List, [], ◌∷◌, ◌++◌, length, map, Option, Some, None, option_map, slice_get}
 use Rattle.std.specs.Prelude.{IsSomeAnd}
 use Rattle.std.specs.List.{AllByRecursion}
@@ -25,18 +26,8 @@ use Rattle.cb_names.specs.Types.{Element, JavaType, Named, Primitive, parameters
 use Rattle.cb_names.specs.declared.base.BaseType.TheVariants as base
 use Rattle.cb_safety.specs.Linked.{IsLinked}
 use Rattle.cb_text.specs.declared.constant.Constant.{Constant}
-use Rattle.cb_interp.specs.Acting.{HasFewParameters}
-
--- ---- lists
-
-pub all_at : {Item : Type 0} (P : Item → Type 0) (items : List Item) (place : ℕ) (item : Item) → AllByRecursion P items → slice_get items place ≡ Some item → P item
-all_at P [] place item all is = absurd (cc is)
-all_at P (first ∷ items) zero item all is = subst P (same_Some first item is) all.0
-all_at P (first ∷ items) (suc place) item all is = all_at P items place item all.1 is
-
-pub all_joined : {Item : Type 0} (P : Item → Type 0) (front back : List Item) → AllByRecursion P front → AllByRecursion P back → AllByRecursion P (front ++ back)
-all_joined P [] back one other = other
-all_joined P (item ∷ front) back one other = (one.0, all_joined P front back one.1 other)
+use Rattle.cb_act.proofs.Laws.{all_at, all_joined}
+use Rattle.cb_act.specs.Acting.{HasFewParameters, ListsMethods}
 
 -- ---- of one method
 
@@ -124,3 +115,7 @@ pub few_parameters : (program : Linked) → IsLinked program → HasFewParameter
 few_parameters program is =
     subst HasFewParameters (sym is.all)
     (linked_few (is.library ++ is.more) (all_joined IsWellFormed is.library is.more is.library_formed is.well_formed) is.main is.method)
+
+-- a linked program lists the methods of its classes
+pub lists_methods : (program : Linked) → IsLinked program → ListsMethods program
+lists_methods program is = subst ListsMethods (sym is.all) refl

@@ -32,7 +32,7 @@ use Rattle.cb_safety.specs.Performing.{HaveField}
 use Rattle.cb_safety.specs.Throwing.{AreThrown, IsThrown, thrown_sites}
 use Rattle.cb_verify.specs.Within.{kind_of_throwable}
 use Rattle.cb_interp.specs.Fit.{ArraysFit, ExceptionsFit, IsPlacedAs, ObjectsFit, ShapesOf}
-use Rattle.cb_interp.proofs.LinkedFew.{all_at, all_joined}
+use Rattle.cb_act.proofs.Laws.{all_at, all_joined}
 use Rattle.cb_interp.proofs.LinkedMarks.{never}
 
 -- ---- of a shape

@@ -27,8 +27,8 @@ use Rattle.cb_machine.specs.Natives.{native_of}
 use Rattle.cb_safety.specs.Linked.{IsLinked}
 use Rattle.cb_safety.specs.Loaded.{IsSupported}
 use Rattle.cb_text.specs.declared.constant.Constant.{Constant}
-use Rattle.cb_interp.specs.Acting.{MarksNatives}
-use Rattle.cb_interp.proofs.LinkedFew.{all_at}
+use Rattle.cb_act.specs.Acting.{MarksNatives}
+use Rattle.cb_act.proofs.Laws.{all_at}
 
 -- ---- lists
 

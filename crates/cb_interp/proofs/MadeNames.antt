@@ -43,7 +43,7 @@ use Rattle.cb_verify.specs.Within.{Within, kind_named, with_body, within}
 use Rattle.cb_safety.proofs.Laws.{Stage}
 use Rattle.cb_safety.specs.Advancing.{IsSpelled}
 use Rattle.cb_safety.specs.Making.{is_of_arrays}
-use Rattle.cb_interp.proofs.LinkedFew.{all_at}
+use Rattle.cb_act.proofs.Laws.{all_at}
 use Rattle.cb_interp.proofs.LinkedMarks.{never}
 use Rattle.cb_interp.proofs.MadeActions.{Makes, makes_of}
 

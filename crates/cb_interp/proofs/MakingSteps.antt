@@ -16,9 +16,9 @@ use Rattle.cb_plain.specs.declared.class_state.ClassState.TheVariants as states
 use Rattle.cb_plain.specs.declared.value.Value.{Value}
 use Rattle.cb_plain.specs.declared.value.Value.TheVariants.{Int, Ref}
 use Rattle.cb_shapes.specs.declared.sort.Sort.TheVariants as sorts
-use Rattle.cb_interp.specs.Going.{is_ready}
+use Rattle.cb_act.specs.Going.{is_ready}
 use Rattle.cb_interp.specs.Making.{makes_array, makes_one}
-use Rattle.cb_interp.specs.Steps.{StandsBefore}
+use Rattle.cb_act.specs.Steps.{StandsBefore}
 
 module _ (now : Now) (pc : ℕ) (stands : StandsBefore now pc) where
   makes_at_is : (site : ℕ) → option_map (λ pc. goes_to now pc now.frame.locals (Ref (length now.state.objects + 1) ∷ now.frame.stack)

@@ -16,25 +16,25 @@ use Rattle.cb_machine.specs.Steps.{plan}
 use Rattle.cb_machine.specs.declared.outcome.Outcome.TheVariants as outcomes
 use Rattle.cb_plain.specs.State.{Frame, Object, Roots, State}
 use Rattle.cb_plain.specs.Updates.{object_at, object_in}
-use Rattle.cb_interp.specs.Keeping.{kept_plan, kept_state}
+use Rattle.cb_act.specs.Keeping.{kept_plan, kept_state}
 use Rattle.cb_interp.specs.Running.{Ended, EndsBy, IsEndOf, Prints, SaysBy, StopsBy, TurnStops, Turned, WentOut, has_ended, outside_of}
-use Rattle.cb_interp.specs.Steps.{view_of}
-use Rattle.cb_interp.specs.Turning.{Moment, Outside, StandsAt, TurnMade, Turns, moment_of, state_of}
+use Rattle.cb_act.specs.Steps.{view_of}
+use Rattle.cb_act.specs.Turning.{Moment, Outside, StandsAt, TurnMade, Turns, moment_of, state_of}
 use Rattle.cb_interp.specs.declared.end.End.{End}
 use Rattle.cb_interp.specs.declared.end.End.TheVariants as ends
 use Rattle.cb_interp.specs.declared.stop.Stop.{Stop}
 use Rattle.cb_interp.specs.declared.stop.Stop.TheVariants as stops
 use Rattle.cb_interp.proofs.RunTurns.{appends_none}
 use Rattle.cb_interp.proofs.RunTyped.{not_zero}
-use Rattle.cb_interp.proofs.TurnsStand.{after_one_more, planned, turn_stands}
+use Rattle.cb_act.proofs.Laws.{after_one_more, planned, turn_stands}
 
-appends_more : (first second third : Option (List ℕ)) (front back : List ℕ) → Appends first second front → Appends second third back → Appends first third (front ++ back)
+pub appends_more : (first second third : Option (List ℕ)) (front back : List ℕ) → Appends first second front → Appends second third back → Appends first third (front ++ back)
 appends_more None second third front back one other = tt
 appends_more (Some bytes) None third front back one other = absurd one
 appends_more (Some bytes) (Some more) None front back one other = absurd other
 appends_more (Some bytes) (Some more) (Some most) front back one other = other ∙ ap (λ more. more ++ back) one ∙ append_assoc bytes front back
 
-same_outside : (outside : Outside) (state : State) → outside.input ≡ state.input → outside.printed ≡ state.printed → outside ≡ outside_of state
+pub same_outside : (outside : Outside) (state : State) → outside.input ≡ state.input → outside.printed ≡ state.printed → outside ≡ outside_of state
 same_outside outside state input printed =
     ap (λ input. record { input = input; printed = outside.printed }) input ∙ ap (λ printed. record { input = state.input; printed = printed }) printed
 

@@ -18,18 +18,18 @@ use Rattle.cb_shapes.specs.declared.action.Action.TheVariants as actions
 use Rattle.cb_verify.specs.Typed.{IsTyped}
 use Rattle.cb_verify.specs.Within.{Within, with_body, within}
 use Rattle.cb_safety.specs.Advancing.{Advances}
-use Rattle.cb_safety.specs.Room.{with_limit}
+use Rattle.cb_machine.specs.Machine.{with_limit}
 use Rattle.cb_safety.specs.Sound.{IsSound}
 use Rattle.cb_safety.specs.States.{IsTypedState}
 use Rattle.cb_safety.specs.Words.{AreOfSort}
 use Rattle.cb_shapes.specs.Sorts.{sort_of_elements}
 use Rattle.cb_shapes.specs.declared.sort.Sort.TheVariants as sorts
 use Rattle.cb_safety.proofs.Laws.{Stage, arguments_fit, stage_of}
-use Rattle.cb_interp.specs.Acting.{ArgumentsFit, acted, enter_deed}
-use Rattle.cb_interp.specs.Here.{GoesOn, HasElements, Here, LooksAtArrays, array_depth, deed_plan, here_within, planned_as}
-use Rattle.cb_interp.specs.Steps.{view_of}
-use Rattle.cb_interp.specs.Suited.{HasRoom, HasWords, Suited}
-use Rattle.cb_interp.proofs.ActsAsSaid.{acts_so}
+use Rattle.cb_act.specs.Acting.{ArgumentsFit, acted, enter_deed}
+use Rattle.cb_act.specs.Here.{GoesOn, HasElements, Here, LooksAtArrays, array_depth, deed_plan, here_within, planned_as}
+use Rattle.cb_act.specs.Steps.{view_of}
+use Rattle.cb_act.specs.Suited.{HasRoom, HasWords, Suited}
+use Rattle.cb_act.proofs.Laws.{acts_so}
 use Rattle.cb_interp.proofs.SuitedRoom.{has_room as has_room_on}
 use Rattle.cb_interp.proofs.SuitedWords.{has_elements, has_words, loaded_array, loaded_references, stored_array}
 

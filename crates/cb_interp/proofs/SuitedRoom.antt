@@ -15,14 +15,15 @@ use Rattle.cb_shapes.specs.declared.computation.Computation.TheVariants as compu
 use Rattle.cb_shapes.specs.declared.shuffle.Shuffle.{Shuffle}
 use Rattle.cb_shapes.specs.declared.sort.Sort.{Sort}
 use Rattle.cb_verify.specs.Typed.{IsTyped}
-use Rattle.cb_safety.specs.Room.{HasRoom as HasSlots, ShufflesWithin, lays_one}
+use Rattle.cb_safety.specs.Room.{HasRoom as HasSlots, ShufflesWithin}
+use Rattle.cb_machine.specs.Growing.{lays_one}
 use Rattle.cb_safety.specs.Sound.{IsSound}
 use Rattle.cb_safety.specs.States.{IsTypedState}
 use Rattle.cb_safety.proofs.Laws.{pushes_fit, returns_fit, shuffles_fit}
-use Rattle.cb_interp.specs.Effects.{growth}
-use Rattle.cb_interp.specs.Framing.{growth_at}
-use Rattle.cb_interp.specs.Steps.{view_of}
-use Rattle.cb_interp.specs.Suited.{HasRoom}
+use Rattle.cb_act.specs.Effects.{growth}
+use Rattle.cb_act.specs.Framing.{growth_at}
+use Rattle.cb_act.specs.Steps.{view_of}
+use Rattle.cb_act.specs.Suited.{HasRoom}
 use Rattle.cb_interp.proofs.Grown.{grown}
 
 module _ (machine : Machine) (state : State) (frame : MethodFrame) (below : List Frame) (insn : Insn)

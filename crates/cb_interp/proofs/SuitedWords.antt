@@ -39,12 +39,12 @@ use Rattle.cb_safety.specs.Ready.{NamesStatic}
 use Rattle.cb_safety.specs.States.{HasStatic, IsTypedState}
 use Rattle.cb_safety.specs.Words.{AreAny, AreOfSort, ArrayOn, HasWord, IsArray, RefersToArray}
 use Rattle.cb_safety.proofs.Laws.{arrays_measured, elements_read, elements_written, fields_read, fields_written, references_are_read, references_are_written, Stage, stage_of}
-use Rattle.cb_interp.specs.Acting.{basic_on, default_of, elements_of, or_default}
-use Rattle.cb_interp.specs.Here.{HasElements}
-use Rattle.cb_interp.specs.Objects.{MayPut, Suits, SuitsWord, SuitsWords, object_on, referred, suits_unless_null}
-use Rattle.cb_interp.specs.Steps.{view_of}
-use Rattle.cb_interp.specs.Suited.{HasWords, SuitsArray}
-use Rattle.cb_interp.proofs.NumbersNamed.{whole_read}
+use Rattle.cb_act.specs.Acting.{basic_on, default_of, elements_of, or_default}
+use Rattle.cb_act.specs.Here.{HasElements}
+use Rattle.cb_act.specs.Objects.{MayPut, Suits, SuitsWord, SuitsWords, object_on, referred, suits_unless_null}
+use Rattle.cb_act.specs.Steps.{view_of}
+use Rattle.cb_act.specs.Suited.{HasWords, SuitsArray}
+use Rattle.cb_act.proofs.Laws.{whole_read}
 
 -- a word that holds what a type may is read as that type
 content_suits : (program : Linked) (kinds : Kinds) (basic : Basic) (content : Content) → HasContent program kinds basic content → Suits basic (Some content)

@@ -16,7 +16,7 @@ use Rattle.cb_machine.specs.Texts.{class_name}
 use Rattle.cb_plain.specs.State.{Content, Number, Object, Reference, State}
 use Rattle.cb_plain.specs.Updates.{object_in}
 use Rattle.cb_interp.specs.Texts.{IsTellable, IsUnit, LaysMessage, LaysString, TellsException, dotted, exception_units, message_slot, message_units, string_units, unit_in}
-use Rattle.cb_interp.proofs.WordLaws.{word_signed}
+use Rattle.cb_act.proofs.Laws.{word_signed}
 
 -- what holds where a call went well
 pub on_ok : {T E P Q : Type 0} (result : Result T E) → (P → Q) → OnOk result P → OnOk result Q

@@ -18,7 +18,7 @@ use Rattle.cb_plain.specs.State.{Object, State}
 use Rattle.cb_plain.specs.Updates.{with_roots}
 use Rattle.cb_unwind.specs.Begun.{NumbersOnly, begun}
 use Rattle.cb_unwind.proofs.Laws.{begun_on, begun_read}
-use Rattle.cb_interp.specs.Turning.{Outside, TurnMade, machine_of, moment_of, state_of}
+use Rattle.cb_act.specs.Turning.{Outside, TurnMade, machine_of, moment_of, state_of}
 use Rattle.cb_interp.proofs.TurnsMade.{quiet_turn}
 
 module _ (program : Linked) (index : ℕ → ℕ) (objects : List (Option Object)) (before : Limited) (outside : Outside) (class : ℕ) where

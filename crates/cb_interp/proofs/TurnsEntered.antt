@@ -38,8 +38,8 @@ use Rattle.cb_safety.specs.Room.{HasRoom}
 use Rattle.cb_safety.specs.States.{IsTypedState}
 use Rattle.cb_verify.specs.Typed.{IsTyped}
 use Rattle.cb_verify.specs.Within.{Within, of_class, with_body, within}
-use Rattle.cb_interp.specs.Going.{is_ready}
-use Rattle.cb_interp.specs.Turning.{Outside, TurnMade, machine_of, moment_of, state_of}
+use Rattle.cb_act.specs.Going.{is_ready}
+use Rattle.cb_act.specs.Turning.{Outside, TurnMade, machine_of, moment_of, state_of}
 use Rattle.cb_interp.proofs.TurnsMade.{quiet_turn}
 
 -- ---- a method's code

@@ -31,7 +31,7 @@ use Rattle.cb_unwind.specs.Initialised.{ClassBelow}
 use Rattle.cb_unwind.specs.Unwound as passed
 use Rattle.cb_verify.specs.Typed.{IsTyped}
 use Rattle.cb_verify.specs.Within.{Within, method_at, of_class, within}
-use Rattle.cb_interp.specs.Turning.{Outside, machine_of, state_of}
+use Rattle.cb_act.specs.Turning.{Outside, machine_of, state_of}
 
 -- ---- the pending exception
 

@@ -32,11 +32,11 @@ use Rattle.cb_unwind.specs.declared.answers.InitStep.{InitStep}
 use Rattle.cb_unwind.specs.declared.answers.InitStep.TheVariants.{Goes, Deep}
 use Rattle.cb_unwind.specs.Initialised.{IsOnTop, behind_parent, by_top, ended, enters, initialised, own_turn, parent_turn}
 use Rattle.cb_interp.specs.Initials.{fails}
-use Rattle.cb_interp.specs.Keeping.{kept_plan, kept_state}
-use Rattle.cb_interp.specs.Placing.{at_place, exception_size, thrown, with_view}
-use Rattle.cb_interp.specs.Steps.{view_of}
-use Rattle.cb_interp.specs.Turning.{Moment, Outside, TurnMade, machine_of, state_of}
-use Rattle.cb_interp.proofs.KeepLaws.{length_kept}
+use Rattle.cb_act.specs.Keeping.{kept_plan, kept_state}
+use Rattle.cb_act.specs.Placing.{at_place, exception_size, thrown, with_view}
+use Rattle.cb_act.specs.Steps.{view_of}
+use Rattle.cb_act.specs.Turning.{Moment, Outside, TurnMade, machine_of, state_of}
+use Rattle.cb_act.proofs.Laws.{length_kept}
 use Rattle.cb_interp.proofs.TurnsFrameInit.{initial_plan}
 use Rattle.cb_interp.proofs.TurnsMade.{asked_turn, collected, collected_keeping}
 use Rattle.cb_interp.proofs.TurnsThrown.{exception_want}

@@ -31,8 +31,8 @@ use Rattle.cb_safety.specs.ClassNames.{AreOwnKinds, NamedOnce}
 use Rattle.cb_safety.specs.Kinds.{Kinds, kinds_of}
 use Rattle.cb_safety.specs.Linked.{IsLinked}
 use Rattle.cb_safety.specs.States.{AreStatics, HasStatic, IsTypedState}
-use Rattle.cb_interp.specs.Turning.{Outside, state_of}
-use Rattle.cb_interp.proofs.LinkedFew.{all_at}
+use Rattle.cb_act.specs.Turning.{Outside, state_of}
+use Rattle.cb_act.proofs.Laws.{all_at}
 
 -- ---- numbers that stand once
 

@@ -21,7 +21,7 @@ use Rattle.cb_unwind.specs.Begun.{NumbersOnly}
 use Rattle.cb_unwind.specs.Initialised.{IsOnTop, NumbersNext, initialised}
 use Rattle.cb_unwind.specs.Steps.{init_plan}
 use Rattle.cb_verify.specs.Typed.{IsTyped}
-use Rattle.cb_interp.specs.Turning.{Outside, machine_of, state_of}
+use Rattle.cb_act.specs.Turning.{Outside, machine_of, state_of}
 use Rattle.cb_interp.proofs.TurnsFrame.{first_of, runs_on}
 use Rattle.cb_interp.proofs.TurnsSwitched.{top_again}
 

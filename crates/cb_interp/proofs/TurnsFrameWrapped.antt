@@ -37,9 +37,9 @@ use Rattle.cb_unwind.specs.declared.answers.Unwound.TheVariants.{NoFrame, Caught
 use Rattle.cb_unwind.specs.Steps.{unwound_plan, with_view}
 use Rattle.cb_unwind.specs.Unwound.{exception_size, unwound, wraps}
 use Rattle.cb_interp.specs.Fit.{ShapesOf}
-use Rattle.cb_interp.specs.Keeping.{kept_plan}
-use Rattle.cb_interp.specs.Steps.{view_of}
-use Rattle.cb_interp.specs.Turning.{Moment, TurnMade, TurnRefused}
+use Rattle.cb_act.specs.Keeping.{kept_plan}
+use Rattle.cb_act.specs.Steps.{view_of}
+use Rattle.cb_act.specs.Turning.{Moment, TurnMade, TurnRefused}
 use Rattle.cb_interp.proofs.TurnsMade.{asked_turn, collected, collected_keeping, collected_plan}
 use Rattle.cb_interp.proofs.TurnsThrown.{exception_want}
 

@@ -31,7 +31,7 @@ use Rattle.cb_unwind.specs.Initialised.{NumbersNext, behind_parent, by_top, ende
 use Rattle.cb_unwind.specs.Steps.{init_plan}
 use Rattle.cb_unwind.proofs.Laws.{initialised_read, initialising_so}
 use Rattle.cb_interp.specs.Initials.{fails, had_room}
-use Rattle.cb_interp.specs.Turning.{Outside, TurnMade, machine_of, moment_of, state_of}
+use Rattle.cb_act.specs.Turning.{Outside, TurnMade, machine_of, moment_of, state_of}
 use Rattle.cb_interp.proofs.TurnsMade.{quiet_turn}
 use Rattle.cb_interp.proofs.TurnsSwitched.{top_again}
 

@@ -11,12 +11,10 @@ use Rattle.cb_machine.specs.Steps.{asked_of, plan}
 use Rattle.cb_plain.specs.State.{Object}
 use Rattle.cb_plain.specs.Updates.{with_objects}
 use Rattle.cb_plain.specs.declared.want.Want.{Want}
-use Rattle.cb_interp.specs.Keeping.{IsKeeping, KeepsPlan, kept_plan, kept_state}
-use Rattle.cb_interp.specs.Steps.{view_of}
-use Rattle.cb_interp.specs.Turning.{Asked, Moment, NotAsked, RoomMade, TurnMade, facts_behind}
-use Rattle.cb_interp.proofs.KeepLaws.{keep_unseen}
-use Rattle.cb_interp.proofs.KeptSteps.{plan_kept}
-use Rattle.cb_interp.proofs.NativesChange.{natives_keep}
+use Rattle.cb_act.specs.Keeping.{IsKeeping, KeepsPlan, kept_plan, kept_state}
+use Rattle.cb_act.specs.Steps.{view_of}
+use Rattle.cb_act.specs.Turning.{Asked, Moment, NotAsked, RoomMade, TurnMade, facts_behind}
+use Rattle.cb_act.proofs.Laws.{keep_unseen, natives_keep, plan_kept}
 
 pub marks_count : (objects : List (Option Object)) → length (residents objects) ≡ length objects
 marks_count [] = refl

@@ -38,18 +38,16 @@ use Rattle.cb_shapes.specs.Sorts.{sort_of_elements}
 use Rattle.cb_shapes.specs.declared.action.Action.{Action}
 use Rattle.cb_shapes.specs.declared.action.Action.TheVariants as actions
 use Rattle.cb_shapes.specs.declared.sort.Sort.TheVariants as sorts
-use Rattle.cb_interp.specs.Acting.{Asks, Deed, Does, acted, acted_as, basic_on, call_deed, constant_deed, fits_on, get_deed, going_on, holder_kind, interface_deed, need_of, new_deed, of_frame, of_left, of_pended, on_field, on_kind, on_method, on_static, or_need, put_deed, receiver_deed, roots_left, running, sized, static_deed, when_ready, with_receiver, with_roots}
-use Rattle.cb_interp.specs.Classes.{behind_cast, behind_instance, behind_throw}
-use Rattle.cb_interp.specs.Framing.{ByZero, FrameLeft, Leaves, frame_left}
-use Rattle.cb_interp.specs.Going.{behind_get_static, behind_put_static, behind_return}
-use Rattle.cb_interp.specs.Here.{Here, standing_here}
-use Rattle.cb_interp.specs.Objects.{Goes, Left, Throws, behind_get_field, behind_length, behind_load_element, behind_put_field, behind_store_element, behind_store_reference}
-use Rattle.cb_interp.specs.Steps.{view_of}
-use Rattle.cb_interp.specs.declared.need.Need.TheVariants as needs
+use Rattle.cb_act.specs.Acting.{Asks, Deed, Does, acted, acted_as, basic_on, call_deed, constant_deed, fits_on, get_deed, going_on, holder_kind, interface_deed, need_of, new_deed, of_frame, of_left, of_pended, on_field, on_kind, on_method, on_static, or_need, put_deed, receiver_deed, roots_left, running, sized, static_deed, when_ready, with_receiver, with_roots}
+use Rattle.cb_act.specs.Classes.{behind_cast, behind_instance, behind_throw}
+use Rattle.cb_act.specs.Framing.{ByZero, FrameLeft, Leaves, frame_left}
+use Rattle.cb_act.specs.Going.{behind_get_static, behind_put_static, behind_return}
+use Rattle.cb_act.specs.Here.{Here, standing_here}
+use Rattle.cb_act.specs.Objects.{Goes, Left, Throws, behind_get_field, behind_length, behind_load_element, behind_put_field, behind_store_element, behind_store_reference}
+use Rattle.cb_act.specs.Steps.{view_of}
+use Rattle.cb_act.specs.declared.need.Need.TheVariants as needs
 use Rattle.cb_heap.specs.Reading.{View}
-use Rattle.cb_interp.proofs.Acts.{here, now}
-use Rattle.cb_interp.proofs.KeptCalls.{by_body, by_native, without_body}
-use Rattle.cb_interp.proofs.ObjectSteps.{front}
+use Rattle.cb_act.proofs.Laws.{by_body, by_native, front, here, now, without_body}
 
 -- the method of the native for which a deed asks
 abbrev pub asks_native : Option Deed → Option ℕ

@@ -21,13 +21,13 @@ use Rattle.cb_plain.specs.declared.value.Value.{Value}
 use Rattle.cb_plain.specs.declared.value.Value.TheVariants as values
 use Rattle.cb_shapes.specs.declared.sort.Sort.{Sort}
 use Rattle.cb_shapes.specs.declared.sort.Sort.TheVariants as sorts
-use Rattle.cb_interp.specs.Acting.{Asks, acted}
-use Rattle.cb_interp.specs.Effects.{has_sort}
-use Rattle.cb_interp.specs.Here.{Here}
+use Rattle.cb_act.specs.Acting.{Asks, acted}
+use Rattle.cb_act.specs.Effects.{has_sort}
+use Rattle.cb_act.specs.Here.{Here}
 use Rattle.cb_interp.specs.Printing.{behind_taken, native_as, number_on, suits, taken_by, units_on}
 use Rattle.cb_interp.specs.Running.{MayRun, SaysBy, Turned}
-use Rattle.cb_interp.specs.Turning.{Outside, machine_of, state_of}
-use Rattle.cb_interp.specs.declared.need.Need.TheVariants as needs
+use Rattle.cb_act.specs.Turning.{Outside, machine_of, state_of}
+use Rattle.cb_act.specs.declared.need.Need.TheVariants as needs
 use Rattle.cb_interp.specs.declared.printing.Print.{Print}
 use Rattle.cb_interp.specs.declared.printing.Print.TheVariants as prints
 use Rattle.cb_interp.specs.declared.stop.Stop.TheVariants as stops

@@ -31,16 +31,15 @@ use Rattle.cb_plain.specs.declared.shape.Shape.{Shape}
 use Rattle.cb_plain.specs.declared.value.Value.{Value}
 use Rattle.cb_safety.proofs.Laws.{states_advance}
 use Rattle.cb_safety.specs.Advancing.{Advances}
-use Rattle.cb_interp.specs.Acting.{Asks, acted}
-use Rattle.cb_interp.specs.Effects.{stacked}
-use Rattle.cb_interp.specs.Here.{Here, standing_here}
+use Rattle.cb_act.specs.Acting.{Asks, acted}
+use Rattle.cb_act.specs.Effects.{stacked}
+use Rattle.cb_act.specs.Here.{Here, standing_here}
 use Rattle.cb_interp.specs.Printing.{behind_taken, printed_as}
 use Rattle.cb_interp.specs.Running.{MayRun, SaysBy, Turned}
-use Rattle.cb_interp.specs.Turning.{Outside, machine_of, moment_of, state_of}
-use Rattle.cb_interp.specs.declared.need.Need.TheVariants as needs
+use Rattle.cb_act.specs.Turning.{Outside, machine_of, moment_of, state_of}
+use Rattle.cb_act.specs.declared.need.Need.TheVariants as needs
 use Rattle.cb_interp.specs.declared.stop.Stop.TheVariants as stops
-use Rattle.cb_interp.proofs.KeptCalls.{by_native}
-use Rattle.cb_interp.proofs.Read.{stacked_read}
+use Rattle.cb_act.proofs.Laws.{by_native, stacked_read}
 use Rattle.cb_interp.proofs.TurnsMade.{quiet_turn}
 use Rattle.cb_interp.proofs.TurnsNative.{Performing, native_asked}
 

@@ -7,7 +7,7 @@ use Rattle.std.specs.Io.KnownBytes.{Appends}
 use Rattle.std.specs.Prelude.{option_and_then, option_map, slice_get}
 use Rattle.cb_arith.proofs.Laws.{low_bits-lt}
 use Rattle.cb_arith.specs.Bits.{low_bits}
-use Rattle.cb_frames.specs.Tops.{top_stack}
+use Rattle.cb_frames.specs.Tops.{on_top, stack_in, top_stack}
 use Rattle.cb_heap.proofs.Laws.{reads_stack}
 use Rattle.cb_heap.specs.Kept.{content_at, contents_at, is_held, is_reference}
 use Rattle.cb_heap.specs.Reading.{read_value, seen, serial_of}
@@ -23,24 +23,25 @@ use Rattle.cb_machine.specs.Machine.{Machine}
 use Rattle.cb_machine.specs.Natives.{native_of, performed}
 use Rattle.cb_machine.specs.Performing.{Performed, text_of as text_in}
 use Rattle.cb_machine.specs.Values.{kept_int}
-use Rattle.cb_plain.specs.State.{Content, Number, Object, Reference, Roots, State}
+use Rattle.cb_plain.specs.State.{Content, Frame, Number, Object, Reference, Roots, State}
 use Rattle.cb_plain.specs.Updates.{object_at, object_in}
 use Rattle.cb_plain.specs.declared.shape.Shape.{Shape}
 use Rattle.cb_plain.specs.declared.value.Value.{Value}
 use Rattle.cb_plain.specs.declared.value.Value.TheVariants as values
 use Rattle.cb_shapes.specs.declared.sort.Sort.TheVariants as sorts
+use Rattle.cb_safety.specs.Given.{StringOn}
 use Rattle.cb_safety.specs.Heap.{Holds, IsHeap}
 use Rattle.cb_safety.specs.Held.{HasContent}
 use Rattle.cb_safety.specs.Kinds.{Kinds, kinds_of}
-use Rattle.cb_interp.specs.Acting.{Asks, acted}
-use Rattle.cb_interp.specs.Effects.{has_sort}
-use Rattle.cb_interp.specs.Here.{Here}
-use Rattle.cb_interp.specs.Leaving.{LeavesText}
-use Rattle.cb_interp.specs.Printing.{AreChars, HasOddArray, HoldsUnits, IsUnit, are_chars, array_of, as_line, behind_taken, is_text, is_text_of, native_text, prints_text, referred_word, string_text, suits_text, text_of, text_on}
+use Rattle.cb_act.specs.Acting.{Asks, acted}
+use Rattle.cb_act.specs.Effects.{has_sort}
+use Rattle.cb_act.specs.Here.{Here}
+use Rattle.cb_interp.specs.Printing.{AreChars, HoldsUnits, IsUnit, array_of, as_line, behind_taken, is_text, is_text_of, native_text, referred_word, string_text, suits_text, text_of, text_on}
 use Rattle.cb_interp.specs.Running.{MayRun, SaysBy, Turned}
-use Rattle.cb_interp.specs.Turning.{Outside, machine_of, state_of}
-use Rattle.cb_interp.specs.declared.need.Need.TheVariants as needs
+use Rattle.cb_act.specs.Turning.{Outside, machine_of, state_of}
+use Rattle.cb_act.specs.declared.need.Need.TheVariants as needs
 use Rattle.cb_interp.specs.declared.stop.Stop.TheVariants as stops
+use Rattle.cb_interp.proofs.LeavingCalls.{string_given}
 use Rattle.cb_interp.proofs.TurnsNativeSaid.{Printer, Printing, Said, Says, printed_part, printed_turn, printing, prints_so}
 
 -- ---- the array of a string's chars
@@ -62,6 +63,37 @@ units_of program objects array object heap there chars place low =
     subst IsUnit (sym (ap (λ (contents : List Content). slice_get contents place) contents ∙ own.there))
     (unit_of program (kinds_of objects) basics.Char own.content own.fits refl)
 
+-- one that isn't there has none
+no_units : (objects : List (Option Object)) (array : ℕ) → contents_at objects array ≡ [] → HoldsUnits objects array
+no_units objects array none place low = absurd (omega (arith, low, ap length none))
+
+-- the array of a string, where it is of chars
+units_in : (program : Linked) (objects : List (Option Object)) (string : ℕ) → IsHeap program objects
+    → ((own array : Object) (place : ℕ) → object_in objects string ≡ Some own → slice_get own.contents 0 ≡ Some (Reference place) → object_in objects place ≡ Some array
+    → element_of program array.kind ≡ Some basics.Char)
+    → HoldsUnits objects (array_of objects string)
+units_in program objects string heap chars = of_string (object_in objects string) refl where
+  at_place : (place : ℕ) → array_of objects string ≡ place → HoldsUnits objects place → HoldsUnits objects (array_of objects string)
+  at_place place is units = subst (HoldsUnits objects) (sym is) units
+
+  of_array : (own : Object) (place : ℕ) → object_in objects string ≡ Some own → slice_get own.contents 0 ≡ Some (Reference place) → (found : Option Object)
+      → object_in objects place ≡ found → HoldsUnits objects place
+  of_array own place there at None kept = no_units objects place (rw kept refl)
+  of_array own place there at (Some array) kept = units_of program objects place array heap kept (chars own array place there at kept)
+
+  of_word : (own : Object) → object_in objects string ≡ Some own → (word : Option Content) → slice_get own.contents 0 ≡ word → HoldsUnits objects (array_of objects string)
+  of_word own there None at = at_place 0 (rw (there, at) refl) (no_units objects 0 refl)
+  of_word own there (Some (Number number)) at = at_place 0 (rw (there, at) refl) (no_units objects 0 refl)
+  of_word own there (Some (Reference place)) at = at_place place (rw (there, at) refl) (of_array own place there at (object_in objects place) refl)
+
+  of_string : (found : Option Object) → object_in objects string ≡ found → HoldsUnits objects (array_of objects string)
+  of_string None there = at_place 0 (rw there refl) (no_units objects 0 refl)
+  of_string (Some own) there = of_word own there (slice_get own.contents 0) refl
+
+-- the reference on a stack
+same_serial : (one other : ℕ) → ◌≡◌ {A = Option Value} (Some (values.Ref one)) (Some (values.Ref other)) → one ≡ other
+same_serial one other is = cc is
+
 both : (one other : Bool) → (one && other) ≡ true → (one ≡ true) × (other ≡ true)
 both true other is = (refl, is)
 both false other is = absurd (false≢true is)
@@ -81,30 +113,8 @@ module _ (index : ℕ → ℕ) (objects : List (Option Object)) (at : ℕ) (text
     held : IsTrue (is_held objects (serial_of index array))
     held = ap (is_held objects) same ∙ parts.1
 
-    pub chars_so : (program : Linked) (kind : ℕ) → IsHeap program objects → option_map (λ object. object.kind) (object_in objects (serial_of index array)) ≡ Some kind
-        → element_of program kind ≡ Some basics.Char → AreChars objects (serial_of index at) (serial_of index array)
-    chars_so program kind heap is chars = record { same = λ other. same; held = held; units = go (object_in objects (serial_of index array)) refl is } where
-      go : (found : Option Object) → object_in objects (serial_of index array) ≡ found → option_map (λ object. object.kind) found ≡ Some kind
-          → HoldsUnits objects (serial_of index array)
-      go None there is = absurd (cc is)
-      go (Some object) there is =
-          units_of program objects (serial_of index array) object heap there (ap (λ kind. element_of program kind) (same_Some object.kind kind is) ∙ chars)
-
-    pub odd_so : (program : Linked) (kind : ℕ) → option_map (λ object. object.kind) (object_in objects (serial_of index array)) ≡ Some kind
-        → are_chars (element_of program kind) ≡ false → HasOddArray program objects (serial_of index at)
-    odd_so program kind is odd = go (object_in objects (serial_of index array)) refl is where
-      go : (found : Option Object) → object_in objects (serial_of index array) ≡ found → option_map (λ object. object.kind) found ≡ Some kind
-          → HasOddArray program objects (serial_of index at)
-      go None there is = absurd (cc is)
-      go (Some object) there is = record {
-        array = object;
-        there = ap (object_in objects) (sym same) ∙ there;
-        odd = ap (λ kind. are_chars (element_of program kind)) (same_Some object.kind kind is) ∙ odd;
-      }
-
-pub char_is : (found : Option Basic) → are_chars found ≡ true → found ≡ Some basics.Char
-char_is (Some basics.Char) is = refl
-char_is other is = absurd (false≢true is)
+    pub chars_so : HoldsUnits objects (array_of objects (serial_of index at)) → AreChars objects (serial_of index at) (serial_of index array)
+    chars_so units = record { same = λ other. same; held = held; units = subst (HoldsUnits objects) (sym same) units }
 
 -- ---- what a native that prints a string does
 
@@ -208,22 +218,13 @@ module _ (program : Linked) (index : ℕ → ℕ) (objects : List (Option Object
     text_is : as_line line (text_on objects (top_stack state.roots)) ≡ as_line line (string_text objects (serial_of index string))
     text_is = ap (λ (found : Option Value). as_line line (text_of objects found)) top_read
 
-    pub string_leaves : HasOddArray program objects (serial_of index string) → LeavesText (machine_of program limit) state
-    string_leaves odd = record {
-      decoded = decoded;
-      here = at;
-      method = method;
-      native = native_text line;
-      is = is;
-      asked = asks;
-      prints = prints line;
-      string = serial_of index string;
-      top = top_read;
-      odd = odd;
-    } where
-      prints : (line : Bool) → prints_text (native_text line) ≡ true
-      prints true = refl
-      prints false = refl
+    pub units_here : HoldsUnits objects (array_of objects (serial_of index string))
+    units_here =
+        let given : StringOn program state at.frame = string_given (machine_of program limit) state decoded at method asks runs.linked runs.fits runs.typed line is in
+        let on : slice_get at.frame.stack 0 ≡ Some (values.Ref (serial_of index string)) =
+        ap (λ (frames : List Frame). slice_get (on_top [] stack_in frames) 0) (sym at.frames) ∙ top_read in
+        subst (λ (serial : ℕ). HoldsUnits objects (array_of objects serial)) (same_serial given.serial (serial_of index string) (sym given.on ∙ on))
+        (units_in program objects given.serial runs.typed.heap given.chars)
 
     pub string_turn : {Facts : Type 0} (rules : Rules Facts) (facts : Facts) (after : Roots) (pc : ℕ) (taken takes : Option (List ℕ)) → decoded.next ≡ Some pc
         → after ≡ behind_taken 2 pc held → Appends taken takes (utf8 (as_line line (string_text objects (serial_of index string))))

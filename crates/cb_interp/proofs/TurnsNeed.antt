@@ -17,7 +17,7 @@ use Rattle.cb_safety.proofs.Laws.{states_advance}
 use Rattle.cb_safety.specs.Linked.{IsLinked}
 use Rattle.cb_safety.specs.States.{IsTypedState}
 use Rattle.cb_verify.specs.Typed.{IsTyped}
-use Rattle.cb_interp.specs.Here.{Here}
+use Rattle.cb_act.specs.Here.{Here}
 use Rattle.cb_interp.specs.Needing.{stopped}
 use Rattle.cb_interp.specs.declared.stop.Stop.{Stop}
 use Rattle.cb_interp.specs.declared.stop.Stop.TheVariants as stops

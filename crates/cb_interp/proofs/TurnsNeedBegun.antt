@@ -14,8 +14,8 @@ use Rattle.cb_plain.specs.declared.value.Value.{Value}
 use Rattle.cb_safety.specs.Kinds.{Kinds}
 use Rattle.cb_safety.specs.Linked.{IsLinked}
 use Rattle.cb_safety.specs.States.{AreStatics, IsTypedState}
-use Rattle.cb_interp.specs.Turning.{Outside, state_of}
-use Rattle.cb_interp.proofs.LinkedFew.{all_at}
+use Rattle.cb_act.specs.Turning.{Outside, state_of}
+use Rattle.cb_act.proofs.Laws.{all_at}
 use Rattle.cb_interp.proofs.LinkedFit.{numbers_low, there_at}
 
 -- each static field has a value

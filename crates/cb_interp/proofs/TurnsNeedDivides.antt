@@ -33,11 +33,10 @@ use Rattle.cb_plain.specs.declared.want.Want.{Want}
 use Rattle.cb_safety.specs.States.{IsTypedState}
 use Rattle.cb_unwind.specs.Strings.{IsNew, constant_or_new, new_constant, units_of, with_constant}
 use Rattle.cb_interp.specs.Dividing.{thrown_with}
-use Rattle.cb_interp.specs.Steps.{view_of}
-use Rattle.cb_interp.specs.Placing.{exception_size, with_view}
-use Rattle.cb_interp.specs.Turning.{Asked, Moment, Outside, RoomMade, TurnMade, TurnRefused, facts_behind, state_of}
-use Rattle.cb_interp.proofs.KeepLaws.{length_kept}
-use Rattle.cb_interp.proofs.KeptGoing.{by_zero_kept}
+use Rattle.cb_act.specs.Steps.{view_of}
+use Rattle.cb_act.specs.Placing.{exception_size, with_view}
+use Rattle.cb_act.specs.Turning.{Asked, Moment, Outside, RoomMade, TurnMade, TurnRefused, facts_behind, state_of}
+use Rattle.cb_act.proofs.Laws.{by_zero_kept, length_kept}
 use Rattle.cb_interp.proofs.TurnsMade.{collected, collected_keeping, collected_plan}
 use Rattle.cb_interp.proofs.TurnsNeedLoads.{Enough, enough, one_time, text_wants, units_count}
 

@@ -41,13 +41,13 @@ use Rattle.cb_shapes.specs.declared.action.Action.{Action}
 use Rattle.cb_shapes.specs.declared.action.Action.TheVariants as actions
 use Rattle.cb_unwind.specs.Strings.{IsNew, constant_or_new, new_constant, units_of, with_constant}
 use Rattle.cb_verify.specs.Typed.{IsTyped}
-use Rattle.cb_interp.specs.Here.{Here}
+use Rattle.cb_act.specs.Here.{Here}
 use Rattle.cb_interp.specs.Loading.{IsTextHere, LoadsNew, laid, loads_by, loads_new}
-use Rattle.cb_interp.specs.Placing.{with_view}
-use Rattle.cb_interp.specs.Steps.{StandsBefore, view_of}
-use Rattle.cb_interp.specs.Turning.{Asked, Moment, Outside, RoomMade, TurnMade, TurnRefused, machine_of, moment_of, state_of}
+use Rattle.cb_act.specs.Placing.{with_view}
+use Rattle.cb_act.specs.Steps.{StandsBefore, view_of}
+use Rattle.cb_act.specs.Turning.{Asked, Moment, Outside, RoomMade, TurnMade, TurnRefused, machine_of, moment_of, state_of}
 use Rattle.cb_interp.specs.declared.load_turns.Loading.{Loading}
-use Rattle.cb_interp.proofs.Acts.{now}
+use Rattle.cb_act.proofs.Laws.{now}
 use Rattle.cb_interp.proofs.TurnsMade.{quiet_turn}
 use Rattle.cb_interp.proofs.TurnsMaking.{room_read}
 use Rattle.cb_interp.proofs.TypedActs.{typed_goes, typed_suits}

@@ -37,18 +37,17 @@ use Rattle.cb_shapes.specs.Targets.{goes_on}
 use Rattle.cb_shapes.specs.declared.action.Action.{Action}
 use Rattle.cb_shapes.specs.declared.action.Action.TheVariants as actions
 use Rattle.cb_verify.specs.Typed.{IsTyped}
-use Rattle.cb_interp.specs.Acting.{Asks, Deed, acted, acted_as, arrays_deed, new_deed, on_kind, or_need, need_of, when_ready}
+use Rattle.cb_act.specs.Acting.{Asks, Deed, acted, acted_as, arrays_deed, new_deed, on_kind, or_need, need_of, when_ready}
 use Rattle.cb_interp.specs.Fit.{ArraysFit, IsPlacedAs, ShapesOf}
-use Rattle.cb_interp.specs.Going.{is_ready}
-use Rattle.cb_interp.specs.Here.{Here}
+use Rattle.cb_act.specs.Going.{is_ready}
+use Rattle.cb_act.specs.Here.{Here}
 use Rattle.cb_interp.specs.Making.{makes_array, makes_one}
 use Rattle.cb_interp.specs.Needing.{IsArrayHere, IsObjectHere, IsSiteOf, MakesKinds, TellsDimensions, fields_count, holds_size, makes_array_by, makes_object_by}
-use Rattle.cb_interp.specs.Steps.{StandsBefore}
-use Rattle.cb_interp.specs.Turning.{Outside, machine_of, state_of}
-use Rattle.cb_interp.specs.declared.need.Need.TheVariants as needs
+use Rattle.cb_act.specs.Steps.{StandsBefore}
+use Rattle.cb_act.specs.Turning.{Outside, machine_of, state_of}
+use Rattle.cb_act.specs.declared.need.Need.TheVariants as needs
 use Rattle.cb_interp.specs.declared.need_sites.Making.{Making}
-use Rattle.cb_interp.proofs.Acts.{now}
-use Rattle.cb_interp.proofs.CallLaws.{sizes_count, sizes_so}
+use Rattle.cb_act.proofs.Laws.{now, sizes_count, sizes_so}
 use Rattle.cb_interp.proofs.MakingSteps.{array_is, makes_is}
 use Rattle.cb_interp.proofs.TurnsMaking.{room_read}
 use Rattle.cb_interp.proofs.MadeNames.{count_of}

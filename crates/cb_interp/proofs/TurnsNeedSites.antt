@@ -25,14 +25,14 @@ use Rattle.cb_safety.specs.Making.{HasSite}
 use Rattle.cb_safety.specs.Sound.{IsSound}
 use Rattle.cb_text.specs.declared.constant.Constant.{Constant}
 use Rattle.cb_verify.specs.Typed.{IsTyped}
-use Rattle.cb_interp.proofs.LinkedFew.{all_at, all_joined}
+use Rattle.cb_act.proofs.Laws.{all_at, all_joined}
 
 -- ---- lists in which no item passes a test, or one at most
 
 abbrev Nowhere : {X : Type 0} → (X → Bool) → List X → Type 0
 Nowhere test items = AllByRecursion (λ item. test item ≡ false) items
 
-abbrev Once : {X : Type 0} → (X → Bool) → List X → Type 0
+abbrev pub Once : {X : Type 0} → (X → Bool) → List X → Type 0
 Once test [] = Unit {0}
 Once test (item ∷ items) = (test item ≡ true → Nowhere test items) × Once test items
 
@@ -124,7 +124,7 @@ above pc from [] same all = tt
 above pc from (placed ∷ code) same all =
     (ne_eqb placed.0 pc (λ is. let low = all.0 in omega (arith, is, same, low)), above pc from code same all.1)
 
-code_once : (pc : ℕ) (code : List (ℕ × Insn)) → Rises code → Once (λ (placed : ℕ × Insn). placed.0 == pc) code
+pub code_once : (pc : ℕ) (code : List (ℕ × Insn)) → Rises code → Once (λ (placed : ℕ × Insn). placed.0 == pc) code
 code_once pc [] rises = tt
 code_once pc (placed ∷ code) rises = ((λ is. above pc placed.0 code (eqb-true placed.0 pc is) rises.0), code_once pc code rises.1)
 

@@ -28,9 +28,9 @@ use Rattle.cb_shapes.specs.Targets.{goes_on}
 use Rattle.cb_shapes.specs.declared.action.Action.{Action}
 use Rattle.cb_shapes.specs.declared.action.Action.TheVariants as actions
 use Rattle.cb_verify.specs.Typed.{IsTyped}
-use Rattle.cb_interp.specs.Here.{Here}
+use Rattle.cb_act.specs.Here.{Here}
 use Rattle.cb_interp.specs.Needing.{IsSiteOf, MakesKinds, TellsDimensions}
-use Rattle.cb_interp.specs.Turning.{Outside, machine_of, state_of}
+use Rattle.cb_act.specs.Turning.{Outside, machine_of, state_of}
 use Rattle.cb_interp.proofs.MadeNames.{AreNamed, arrays_are_named, count_of, object_is_named}
 use Rattle.cb_interp.proofs.SuitedCalls.{goes_on_so}
 use Rattle.cb_interp.proofs.TurnsSwitched.{top_again}

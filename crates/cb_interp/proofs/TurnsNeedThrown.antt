@@ -37,13 +37,13 @@ use Rattle.cb_shapes.specs.declared.action.Action.{Action}
 use Rattle.cb_shapes.specs.declared.action.Action.TheVariants as actions
 use Rattle.cb_shapes.specs.declared.sort.Sort.{Sort}
 use Rattle.cb_shapes.specs.declared.sort.Sort.TheVariants as sorts
-use Rattle.cb_interp.specs.Acting.{Asks, Deed, Does, acted, acted_as, arrays_deed, basic_on, call_deed, constant_deed, enter_deed, fits_on, frame_deed, going_on, holder_kind, implementing_deed, interface_deed, need_of, of_frame, of_left, of_pended, on_field, on_kind, on_method, on_static, or_need, receiver_deed, roots_left, running, sized, static_deed, when_ready, with_roots}
-use Rattle.cb_interp.specs.Classes.{behind_cast, behind_instance, behind_throw, cast, cast_to, is_instance_in, pended, told_kind}
-use Rattle.cb_interp.specs.Framing.{ByZero, FrameLeft, Leaves, frame_left}
-use Rattle.cb_interp.specs.Going.{behind_get_static, behind_put_static, behind_return}
-use Rattle.cb_interp.specs.Objects.{Goes, Left, Throws, behind_get_field, behind_length, behind_load_element, behind_put_field, behind_store_element, behind_store_reference, element_put, element_read, got, length_read, on_element, on_stack, put, put_into, put_on, read_on, reference_put, unless_null, within}
-use Rattle.cb_interp.specs.declared.need.Need.{Need}
-use Rattle.cb_interp.specs.declared.need.Need.TheVariants as needs
+use Rattle.cb_act.specs.Acting.{Asks, Deed, Does, acted, acted_as, arrays_deed, basic_on, call_deed, constant_deed, enter_deed, fits_on, frame_deed, going_on, holder_kind, implementing_deed, interface_deed, need_of, of_frame, of_left, of_pended, on_field, on_kind, on_method, on_static, or_need, receiver_deed, roots_left, running, sized, static_deed, when_ready, with_roots}
+use Rattle.cb_act.specs.Classes.{behind_cast, behind_instance, behind_throw, cast, cast_to, is_instance_in, pended, told_kind}
+use Rattle.cb_act.specs.Framing.{ByZero, FrameLeft, Leaves, frame_left}
+use Rattle.cb_act.specs.Going.{behind_get_static, behind_put_static, behind_return}
+use Rattle.cb_act.specs.Objects.{Goes, Left, Throws, behind_get_field, behind_length, behind_load_element, behind_put_field, behind_store_element, behind_store_reference, element_put, element_read, got, length_read, on_element, on_stack, put, put_into, put_on, read_on, reference_put, unless_null, within}
+use Rattle.cb_act.specs.declared.need.Need.{Need}
+use Rattle.cb_act.specs.declared.need.Need.TheVariants as needs
 
 -- ---- the sites
 

@@ -37,16 +37,15 @@ use Rattle.cb_shapes.specs.declared.action.Action.{Action}
 use Rattle.cb_shapes.specs.declared.action.Action.TheVariants as actions
 use Rattle.cb_shapes.specs.declared.sort.Sort.TheVariants as sorts
 use Rattle.cb_verify.specs.Typed.{IsTyped}
-use Rattle.cb_interp.specs.Acting.{Asks, acted, acted_as, arrays_deed, sized}
+use Rattle.cb_act.specs.Acting.{Asks, acted, acted_as, arrays_deed, sized}
 use Rattle.cb_interp.specs.Fit.{ArraysFit}
-use Rattle.cb_interp.specs.Here.{Here}
+use Rattle.cb_act.specs.Here.{Here}
 use Rattle.cb_interp.specs.Needing.{TellsDimensions, holds_size}
 use Rattle.cb_interp.specs.Nested.{Grid, GridFits, HasGrid, count_of, dimensions_by, first_of, grid_on, last_placed, makes_nested, makes_nested_by, rows_placed, site_at, size_of}
-use Rattle.cb_interp.specs.Steps.{StandsBefore}
-use Rattle.cb_interp.specs.Turning.{Outside, machine_of, state_of}
-use Rattle.cb_interp.specs.declared.need.Need.TheVariants as needs
-use Rattle.cb_interp.proofs.Acts.{now}
-use Rattle.cb_interp.proofs.CallLaws.{taken_is}
+use Rattle.cb_act.specs.Steps.{StandsBefore}
+use Rattle.cb_act.specs.Turning.{Outside, machine_of, state_of}
+use Rattle.cb_act.specs.declared.need.Need.TheVariants as needs
+use Rattle.cb_act.proofs.Laws.{now, taken_is}
 use Rattle.cb_interp.proofs.MadeNames.{AreNamed}
 use Rattle.cb_interp.proofs.TurnsNeedMaking.{array_placed, sizes_there}
 use Rattle.cb_interp.proofs.TurnsNeedThere.{array_kinds, named, next_there, some_arrays, top}

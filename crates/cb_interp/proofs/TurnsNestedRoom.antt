@@ -15,7 +15,7 @@ use Rattle.cb_plain.specs.State.{Content, State, words_of}
 use Rattle.cb_plain.specs.declared.want.Want.{Want}
 use Rattle.cb_interp.specs.Arguments.{Covers, wanted_at}
 use Rattle.cb_interp.specs.Nested.{Grid, count_of, first_of, last_placed, makes_nested, nested_wants, rows_placed, rows_wants, size_of, spent_rows}
-use Rattle.cb_interp.proofs.LinkedFew.{all_joined}
+use Rattle.cb_act.proofs.Laws.{all_joined}
 use Rattle.cb_interp.proofs.TurnsStartingRoom.{added_length, asked_sites, spent_here, spent_there}
 
 -- ---- words are counted as far as a request counts them

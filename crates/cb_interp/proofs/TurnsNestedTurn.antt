@@ -26,14 +26,13 @@ use Rattle.cb_plain.specs.Updates.{with_objects, with_roots}
 use Rattle.cb_plain.specs.declared.value.Value.{Value}
 use Rattle.cb_plain.specs.declared.value.Value.TheVariants.{Int, Long, Ref}
 use Rattle.cb_plain.specs.declared.want.Want.{Want}
-use Rattle.cb_interp.specs.Effects.{stacked}
-use Rattle.cb_interp.specs.Keeping.{kept_plan, kept_state}
+use Rattle.cb_act.specs.Effects.{stacked}
+use Rattle.cb_act.specs.Keeping.{kept_plan, kept_state}
 use Rattle.cb_interp.specs.Nested.{Grid, HasGrid, count_of, first_of, grid_on, knows_nested, knows_rows, last_placed, made_nested, makes_nested, nested_objects, nested_wants, new_array, rows_above, rows_placed, site_at, size_of}
-use Rattle.cb_interp.specs.Placing.{at_place, with_view}
-use Rattle.cb_interp.specs.Steps.{view_of}
-use Rattle.cb_interp.specs.Turning.{Moment, TurnMade, TurnRefused, facts_behind, knows_placed}
-use Rattle.cb_interp.proofs.KeepLaws.{length_kept}
-use Rattle.cb_interp.proofs.Read.{stacked_read}
+use Rattle.cb_act.specs.Placing.{at_place, with_view}
+use Rattle.cb_act.specs.Steps.{view_of}
+use Rattle.cb_act.specs.Turning.{Moment, TurnMade, TurnRefused, facts_behind, knows_placed}
+use Rattle.cb_act.proofs.Laws.{length_kept, stacked_read}
 use Rattle.cb_interp.proofs.TurnsMade.{asked_turn, collected, collected_keeping}
 use Rattle.cb_interp.proofs.TurnsNestedRoom.{IsAsked, asks_nested, nested_asked}
 use Rattle.cb_interp.proofs.TurnsSwitched.{top_again}

@@ -33,7 +33,7 @@ use Rattle.cb_safety.proofs.Laws.{typed_states_are_closed}
 use Rattle.cb_safety.specs.States.{IsTypedState}
 use Rattle.cb_interp.specs.Arguments.{all_wants}
 use Rattle.cb_interp.specs.Starting.{BeginsWith, MayStart, first_objects, first_value, knows_first, settled, unread, with_streams}
-use Rattle.cb_interp.specs.Turning.{Moment, StandsAt, state_of}
+use Rattle.cb_act.specs.Turning.{Moment, StandsAt, state_of}
 use Rattle.cb_interp.proofs.TurnsMade.{marks_count}
 use Rattle.cb_interp.proofs.TurnsStartingPlan.{asks_so, knows_so, start_is}
 use Rattle.cb_interp.proofs.TurnsStartingRoots.{empty_held, empty_read}

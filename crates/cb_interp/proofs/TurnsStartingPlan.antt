@@ -23,7 +23,7 @@ use Rattle.cb_plain.specs.declared.value.Value.TheVariants.{Ref}
 use Rattle.cb_plain.specs.declared.want.Want.{Want}
 use Rattle.cb_interp.specs.Arguments.{all_wants, knows_texts, stream_wants, text_wants, with_texts}
 use Rattle.cb_interp.specs.Starting.{bare, blank_array, first_objects, knows_first, settled, unread, with_streams}
-use Rattle.cb_interp.specs.Turning.{facts_behind, knows_placed, state_of}
+use Rattle.cb_act.specs.Turning.{facts_behind, knows_placed, state_of}
 use Rattle.cb_interp.proofs.TurnsStartingRoots.{set_all, set_each}
 
 abbrev string_behind : ℕ → Content

@@ -16,8 +16,7 @@ use Rattle.cb_plain.specs.Updates.{object_in}
 use Rattle.cb_safety.specs.Strings.{IsText}
 use Rattle.cb_interp.specs.Arguments.{HasArray, argument_sites, with_argument_text}
 use Rattle.cb_interp.specs.Starting.{blank_array}
-use Rattle.cb_interp.proofs.KeepLaws.{length_changed}
-use Rattle.cb_interp.proofs.LinkedFew.{all_at}
+use Rattle.cb_act.proofs.Laws.{all_at, length_changed}
 
 -- the arguments from one on
 pub next_of : (given : List (List ℕ)) (turn : ℕ) (units : List ℕ) → turn < length given → units ≡ get_or given turn units

@@ -18,14 +18,12 @@ use Rattle.cb_plain.specs.State.{Frame, Initialising, Object, OfMethod, Roots, S
 use Rattle.cb_plain.specs.Updates.{with_roots}
 use Rattle.cb_shapes.specs.Shapes.{action_of}
 use Rattle.cb_shapes.specs.declared.action.Action.TheVariants as actions
-use Rattle.cb_interp.specs.Going.{behind_switch}
-use Rattle.cb_interp.specs.Here.{Here}
+use Rattle.cb_act.specs.Going.{behind_switch}
+use Rattle.cb_act.specs.Here.{Here}
 use Rattle.cb_interp.specs.Making.{operand_here, operand_of}
-use Rattle.cb_interp.specs.Steps.{goes_as}
-use Rattle.cb_interp.specs.Turning.{Outside, TurnMade, machine_of, moment_of, state_of}
-use Rattle.cb_interp.proofs.Acts.{anywhere, anywhere_stands}
-use Rattle.cb_interp.proofs.GoingSteps.{switches_so}
-use Rattle.cb_interp.proofs.ReadGoing.{switch_read}
+use Rattle.cb_act.specs.Steps.{goes_as}
+use Rattle.cb_act.specs.Turning.{Outside, TurnMade, machine_of, moment_of, state_of}
+use Rattle.cb_act.proofs.Laws.{anywhere, anywhere_stands, switch_read, switches_so}
 use Rattle.cb_interp.proofs.TurnsMade.{quiet_turn}
 
 pub top_again : (index : ℕ → ℕ) (held : Roots) → topmost (read_roots index held).frames ≡ topmost held.frames

@@ -26,7 +26,7 @@ use Rattle.cb_plain.specs.declared.value.Value.{Value}
 use Rattle.cb_plain.specs.declared.want.Want.{Want}
 use Rattle.cb_unwind.specs.Strings.{IsNew, units_of}
 use Rattle.cb_interp.specs.TextStatics.{AskedAt, AskedNew, AskedNone, AsksTexts, IsNamedBefore, MayPlaceOwn, NoText, SomeTexts, declared_by, first_plan, own_text, set_initial, set_static, set_to, set_whole, text_of, text_wants, wants_if_new, wants_to}
-use Rattle.cb_interp.specs.Turning.{machine_of}
+use Rattle.cb_act.specs.Turning.{machine_of}
 use Rattle.cb_interp.proofs.TurnsNeedLoads.{known_from, new_read, one_time, units_count}
 use Rattle.cb_interp.proofs.TurnsTextSlots.{other_is, other_next, own_is, own_next, slots_end, slots_from, slots_whole, text_so}
 

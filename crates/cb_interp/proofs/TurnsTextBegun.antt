@@ -31,12 +31,11 @@ use Rattle.cb_plain.specs.Updates.{with_objects}
 use Rattle.cb_plain.specs.declared.class_state.ClassState.TheVariants.{Busy}
 use Rattle.cb_plain.specs.declared.want.Want.{Want}
 use Rattle.cb_interp.specs.Arguments.{Covers}
-use Rattle.cb_interp.specs.Keeping.{kept_plan}
-use Rattle.cb_interp.specs.Steps.{view_of}
+use Rattle.cb_act.specs.Keeping.{kept_plan}
+use Rattle.cb_act.specs.Steps.{view_of}
 use Rattle.cb_interp.specs.TextStatics.{AreLow, AsksTexts, HasSerials, NoText, SomeTexts, first_plan, set_initial, wants_behind, wants_to}
-use Rattle.cb_interp.specs.Turning.{Moment, Outside, TurnMade, TurnRefused, facts_behind, machine_of, state_of}
-use Rattle.cb_interp.proofs.KeepLaws.{length_kept}
-use Rattle.cb_interp.proofs.KeptInit.{begun_kept}
+use Rattle.cb_act.specs.Turning.{Moment, Outside, TurnMade, TurnRefused, facts_behind, machine_of, state_of}
+use Rattle.cb_act.proofs.Laws.{begun_kept, length_kept}
 use Rattle.cb_interp.proofs.TurnsMade.{asked_turn, collected, collected_keeping, quiet_turn}
 use Rattle.cb_interp.proofs.TurnsTextAsks.{asks_to, begins_so}
 

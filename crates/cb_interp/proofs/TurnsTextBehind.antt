@@ -23,7 +23,7 @@ use Rattle.cb_plain.specs.State.{Frame, Initialising, Object, OfMethod, Roots, S
 use Rattle.cb_plain.specs.Updates.{with_frames}
 use Rattle.cb_plain.specs.declared.value.Value.{Value}
 use Rattle.cb_interp.specs.TextStatics.{first_plan, set_initial, set_static, set_to, set_whole}
-use Rattle.cb_interp.specs.Turning.{Outside, machine_of, state_of}
+use Rattle.cb_act.specs.Turning.{Outside, machine_of, state_of}
 use Rattle.cb_interp.proofs.TurnsTextAsks.{begins_so}
 
 -- ---- what is asked for is the same upon other frames

@@ -22,7 +22,7 @@ use Rattle.cb_interp.specs.Arguments.{Covers}
 use Rattle.cb_interp.specs.Fit.{ShapesOf}
 use Rattle.cb_interp.specs.Loading.{MayPlace}
 use Rattle.cb_interp.specs.TextStatics.{HasSerials, MayPlaceOwn, declared_by, set_initial, text_of, text_wants, wants_behind}
-use Rattle.cb_interp.specs.Turning.{Outside, machine_of, state_of}
+use Rattle.cb_act.specs.Turning.{Outside, machine_of, state_of}
 use Rattle.cb_interp.proofs.TurnsNeedLoads.{new_read}
 use Rattle.cb_interp.proofs.TurnsTextPlaced.{PlacedSoFar, covers_new, low_new, room_array, room_serials, room_string}
 use Rattle.cb_interp.proofs.TurnsTextSlots.{declared_so, other_next, own_is, own_next, slots_from, slots_whole}

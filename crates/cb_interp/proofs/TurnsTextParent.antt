@@ -18,7 +18,7 @@ use Rattle.cb_plain.specs.declared.class_state.ClassState.{ClassState}
 use Rattle.cb_plain.specs.declared.class_state.ClassState.TheVariants.{Busy, Done, Failed, Untouched}
 use Rattle.cb_unwind.specs.Initialised.{IsOnTop, initialised}
 use Rattle.cb_interp.specs.Initials.{fails, is_untouched}
-use Rattle.cb_interp.specs.Turning.{Outside, TurnMade, machine_of, moment_of, state_of}
+use Rattle.cb_act.specs.Turning.{Outside, TurnMade, machine_of, moment_of, state_of}
 use Rattle.cb_interp.proofs.TurnsFrameInit.{initial_plan}
 use Rattle.cb_interp.proofs.TurnsMade.{quiet_turn}
 

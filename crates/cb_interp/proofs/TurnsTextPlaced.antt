@@ -31,7 +31,7 @@ use Rattle.cb_unwind.specs.Steps as unwound
 use Rattle.cb_unwind.specs.Strings.{new_constant, units_of, with_constant}
 use Rattle.cb_interp.specs.Arguments.{Covers}
 use Rattle.cb_interp.specs.TextStatics.{AreLow, HasSerials, knows_if_new, knows_to, seen_to, set_initial, set_static, set_to, set_whole, spent_if_new, spent_to, text_wants, wants_behind, wants_if_new, wants_to, with_found}
-use Rattle.cb_interp.specs.Turning.{Outside, facts_behind, knows_placed, state_of}
+use Rattle.cb_act.specs.Turning.{Outside, facts_behind, knows_placed, state_of}
 use Rattle.cb_interp.proofs.TurnsNeedDivides.{text_closed, text_count, text_stands}
 use Rattle.cb_interp.proofs.TurnsNeedLoads.{units_count}
 use Rattle.cb_interp.proofs.TurnsStartingRoom.{covers_first, covers_rest, spent_here, spent_there}

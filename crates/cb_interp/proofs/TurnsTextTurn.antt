@@ -16,7 +16,7 @@ use Rattle.cb_plain.specs.declared.want.Want.{Want}
 use Rattle.cb_safety.specs.States.{IsTypedState}
 use Rattle.cb_interp.specs.Arguments.{Covers}
 use Rattle.cb_interp.specs.TextStatics.{HasSerials, first_plan, wants_behind}
-use Rattle.cb_interp.specs.Turning.{Outside, machine_of, state_of}
+use Rattle.cb_act.specs.Turning.{Outside, machine_of, state_of}
 use Rattle.cb_interp.proofs.TurnsStartingRoom.{covers_asked}
 use Rattle.cb_interp.proofs.TurnsTextBegun.{asks_begun, covers_none, none_wanted, serials_granted, serials_none}
 

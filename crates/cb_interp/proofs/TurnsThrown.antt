@@ -13,12 +13,11 @@ use Rattle.cb_plain.specs.State.{State}
 use Rattle.cb_plain.specs.Updates.{with_objects}
 use Rattle.cb_plain.specs.declared.shape.Shape.{Shape}
 use Rattle.cb_plain.specs.declared.want.Want.{Want}
-use Rattle.cb_interp.specs.Keeping.{kept_plan, kept_state}
-use Rattle.cb_interp.specs.Placing.{exception_size, thrown, with_view}
-use Rattle.cb_interp.specs.Steps.{view_of}
-use Rattle.cb_interp.specs.Turning.{Moment, TurnMade}
-use Rattle.cb_interp.proofs.KeepLaws.{length_kept}
-use Rattle.cb_interp.proofs.PlacingSteps.{thrown_so}
+use Rattle.cb_act.specs.Keeping.{kept_plan, kept_state}
+use Rattle.cb_act.specs.Placing.{exception_size, thrown, with_view}
+use Rattle.cb_act.specs.Steps.{view_of}
+use Rattle.cb_act.specs.Turning.{Moment, TurnMade}
+use Rattle.cb_act.proofs.Laws.{length_kept, thrown_so}
 use Rattle.cb_interp.proofs.TurnsMade.{asked_turn, collected, collected_keeping}
 
 -- what is asked for

@@ -16,8 +16,8 @@ use Rattle.cb_unwind.specs.declared.answers.Unwound.TheVariants.{NoFrame, Caught
 use Rattle.cb_unwind.specs.Steps.{unwound_plan}
 use Rattle.cb_unwind.specs.Unwound.{unwound, wraps}
 use Rattle.cb_unwind.proofs.Laws.{left_so}
-use Rattle.cb_interp.specs.Placing.{with_view}
-use Rattle.cb_interp.specs.Turning.{Outside, TurnMade, moment_of, state_of}
+use Rattle.cb_act.specs.Placing.{with_view}
+use Rattle.cb_act.specs.Turning.{Outside, TurnMade, moment_of, state_of}
 use Rattle.cb_interp.proofs.TurnsMade.{quiet_turn}
 
 -- the step of a state in which an exception is pending that is kept

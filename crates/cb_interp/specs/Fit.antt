@@ -16,7 +16,7 @@ use Rattle.cb_machine.specs.Throwing.{exception_contents}
 use Rattle.cb_plain.specs.State.{Content}
 use Rattle.cb_plain.specs.declared.shape.Shape.{Shape}
 use Rattle.cb_safety.specs.Throwing.{thrown_sites}
-use Rattle.cb_interp.specs.Placing.{exception_size}
+use Rattle.cb_act.specs.Placing.{exception_size}
 
 -- the shapes of its kinds
 abbrev pub ShapesOf : Linked → List Shape → Type 0

@@ -1,19 +1,15 @@
--- Where a run leaves off before it has ended: its next step performs a native that isn't done yet. Strings whose arrays have other elements
--- than chars aren't printed either; no typed state has one, which isn't shown.
-use Rattle.std.specs.Prelude.{◌≡◌, ℕ, Bool, true, false, Some, slice_get}
-use Rattle.cb_frames.specs.Tops.{top_stack}
+-- Where a run leaves off before it has ended: its next step performs a native that isn't done yet.
+use Rattle.std.specs.Prelude.{◌≡◌, ℕ, Bool, true, false, Some}
 use Rattle.cb_library.specs.declared.native.Native.{Native}
 use Rattle.cb_library.specs.declared.native.Native.TheVariants as natives
 use Rattle.cb_link.specs.declared.decoded.Decoded.{Decoded}
 use Rattle.cb_machine.specs.Machine.{Machine}
 use Rattle.cb_machine.specs.Natives.{native_of}
 use Rattle.cb_plain.specs.State.{State}
-use Rattle.cb_plain.specs.declared.value.Value.TheVariants.{Ref}
-use Rattle.cb_interp.specs.Acting.{Asks, acted}
-use Rattle.cb_interp.specs.Here.{Here}
-use Rattle.cb_interp.specs.Printing.{HasOddArray, prints_text}
-use Rattle.cb_interp.specs.Steps.{view_of}
-use Rattle.cb_interp.specs.declared.need.Need.TheVariants as needs
+use Rattle.cb_act.specs.Acting.{Asks, acted}
+use Rattle.cb_act.specs.Here.{Here}
+use Rattle.cb_act.specs.Steps.{view_of}
+use Rattle.cb_act.specs.declared.need.Need.TheVariants as needs
 use Rattle.cb_interp.specs.declared.stop.Stop.{Stop}
 use Rattle.cb_interp.specs.declared.stop.Stop.TheVariants as stops
 
@@ -33,7 +29,7 @@ is_done natives.Println = true
 is_done other = false
 
 -- the instruction at which the run stands asks for another one
-pub record LeavesNative (machine : Machine) (state : State) : Type 0 where
+pub record Leaves (machine : Machine) (state : State) : Type 0 where
   pub decoded : Decoded
   pub here : Here machine state decoded
   pub method : ℕ
@@ -41,23 +37,6 @@ pub record LeavesNative (machine : Machine) (state : State) : Type 0 where
   pub is : native_of machine.program method ≡ Some native
   pub asked : acted machine.program machine.frames decoded (view_of state) ≡ Some (Asks (needs.Performs method))
   pub left : is_done native ≡ false
-
--- or it prints a string whose array has other elements than chars
-pub record LeavesText (machine : Machine) (state : State) : Type 0 where
-  pub decoded : Decoded
-  pub here : Here machine state decoded
-  pub method : ℕ
-  pub native : Native
-  pub is : native_of machine.program method ≡ Some native
-  pub asked : acted machine.program machine.frames decoded (view_of state) ≡ Some (Asks (needs.Performs method))
-  pub prints : prints_text native ≡ true
-  pub string : ℕ
-  pub top : slice_get (top_stack state.roots) 0 ≡ Some (Ref string)
-  pub odd : HasOddArray machine.program state.objects string
-
-pub data Leaves (machine : Machine) (state : State) : Type 0 where
-  ANative : LeavesNative machine state → Leaves machine state
-  AText : LeavesText machine state → Leaves machine state
 
 -- why a native's turn isn't made: a write failed, or the run leaves off
 abbrev pub NativeStops : Machine → State → Stop → Type 0

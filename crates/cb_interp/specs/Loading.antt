@@ -21,7 +21,7 @@ use Rattle.cb_plain.specs.declared.value.Value.TheVariants.{Ref}
 use Rattle.cb_shapes.specs.declared.action.Action.{Action}
 use Rattle.cb_shapes.specs.declared.action.Action.TheVariants as actions
 use Rattle.cb_unwind.specs.Strings.{units_of}
-use Rattle.cb_interp.specs.Turning.{Outside, state_of}
+use Rattle.cb_act.specs.Turning.{Outside, state_of}
 use Rattle.cb_interp.specs.declared.class_loads.ClassLoading.{ClassLoading}
 use Rattle.cb_interp.specs.declared.load_turns.Loading.{Loading}
 

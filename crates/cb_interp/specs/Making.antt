@@ -15,8 +15,8 @@ use Rattle.cb_plain.specs.declared.value.Value.TheVariants.{Ref}
 use Rattle.cb_plain.specs.State.{Roots, State}
 use Rattle.cb_plain.specs.Updates.{with_roots}
 use Rattle.cb_shapes.specs.declared.action.Action.TheVariants as actions
-use Rattle.cb_interp.specs.Effects.{stacked}
-use Rattle.cb_interp.specs.Here.{Here}
+use Rattle.cb_act.specs.Effects.{stacked}
+use Rattle.cb_act.specs.Here.{Here}
 
 abbrev pub makes_one : Machine → State → (site pc : ℕ) → Plan
 makes_one machine state site pc =

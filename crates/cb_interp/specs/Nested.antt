@@ -21,7 +21,7 @@ use Rattle.cb_plain.specs.declared.value.Value.TheVariants.{Ref}
 use Rattle.cb_plain.specs.declared.want.Want.{Want}
 use Rattle.cb_shapes.specs.declared.action.Action.{Action}
 use Rattle.cb_shapes.specs.declared.action.Action.TheVariants as actions
-use Rattle.cb_interp.specs.Effects.{stacked}
+use Rattle.cb_act.specs.Effects.{stacked}
 use Rattle.cb_interp.specs.Fit.{IsPlacedAs}
 use Rattle.cb_interp.specs.Needing.{MakesKinds, TellsDimensions}
 

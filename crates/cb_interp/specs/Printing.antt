@@ -3,22 +3,19 @@ use Rattle.std.specs.Prelude.{◌≡◌, ◌<◌, ◌^◌, ◌&&◌, ℤ, pos, �
 use Rattle.cb_frames.specs.Tops.{placed, top_stack}
 use Rattle.cb_heap.specs.Kept.{content_at, contents_at, is_held, is_reference}
 use Rattle.cb_io.specs.Utf8.{utf8}
-use Rattle.cb_kinds.specs.declared.basic.Basic.{Basic}
-use Rattle.cb_kinds.specs.declared.basic.Basic.TheVariants as basics
 use Rattle.cb_library.specs.Rows.{Kind, Performed}
 use Rattle.cb_library.specs.Text.{print_stream_class}
 use Rattle.cb_library.specs.declared.native.Native.{Native}
 use Rattle.cb_library.specs.declared.native.Native.TheVariants as natives
 use Rattle.cb_link.specs.Program.{Linked}
-use Rattle.cb_machine.specs.Arrays.{element_of}
 use Rattle.cb_machine.specs.Natives.{native_of}
 use Rattle.cb_machine.specs.Texts.{digits, truth, unit_of}
 use Rattle.cb_plain.specs.declared.value.Value.{Value}
 use Rattle.cb_plain.specs.declared.value.Value.TheVariants.{Int, Long, Ref}
 use Rattle.cb_plain.specs.State.{Content, Number, Object, Reference, Roots, State}
-use Rattle.cb_plain.specs.Updates.{object_in, with_printed, with_roots}
+use Rattle.cb_plain.specs.Updates.{with_printed, with_roots}
 use Rattle.cb_shapes.specs.declared.sort.Sort.TheVariants as sorts
-use Rattle.cb_interp.specs.Effects.{has_sort, stacked}
+use Rattle.cb_act.specs.Effects.{has_sort, stacked}
 use Rattle.cb_interp.specs.declared.printing.Print.{Print}
 use Rattle.cb_interp.specs.declared.printing.Print.TheVariants as prints
 
@@ -169,13 +166,3 @@ pub record AreChars (objects : List (Option Object)) (string array : ℕ) : Type
   pub same : (string ≡ 0 → ⊥) → array ≡ array_of objects string
   pub held : IsTrue (is_held objects array)
   pub units : HoldsUnits objects array
-
--- or it has other elements
-abbrev pub are_chars : Option Basic → Bool
-are_chars (Some basics.Char) = true
-are_chars other = false
-
-pub record HasOddArray (program : Linked) (objects : List (Option Object)) (string : ℕ) : Type 0 where
-  pub array : Object
-  pub there : object_in objects (array_of objects string) ≡ Some array
-  pub odd : are_chars (element_of program array.kind) ≡ false

@@ -25,8 +25,8 @@ use Rattle.cb_plain.specs.Roots.{with_argument, with_class, with_static}
 use Rattle.cb_plain.specs.State.{Object, Reference, Roots}
 use Rattle.cb_interp.specs.Arguments.{MayHold, knows_texts, with_texts}
 use Rattle.cb_interp.specs.Fit.{IsPlacedAs}
-use Rattle.cb_interp.specs.Steps.{view_of}
-use Rattle.cb_interp.specs.Turning.{Moment, Outside, facts_behind}
+use Rattle.cb_act.specs.Steps.{view_of}
+use Rattle.cb_act.specs.Turning.{Moment, Outside, facts_behind}
 
 -- new roots, with room for what a program has
 abbrev pub new_roots : Linked → Roots

@@ -7,7 +7,7 @@ ghost use Rattle.cb_machine.specs.Sites.{stack_overflow};
 ghost use Rattle.cb_machine.specs.Steps.{plan};
 ghost use Rattle.cb_machine.specs.Throwing.{throws};
 ghost use Rattle.cb_unwind.specs.Begun.{NumbersOnly};
-ghost use Rattle.cb_interp.specs.Turning.{Outside, TurnMade, machine_of, moment_of, state_of};
+ghost use Rattle.cb_act.specs.Turning.{Outside, TurnMade, machine_of, moment_of, state_of};
 
 use cb_frames::{Deep, Roots};
 use cb_heap::Store;

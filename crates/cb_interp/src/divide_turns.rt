@@ -18,9 +18,9 @@ ghost use Rattle.cb_plain.specs.State.{words_of};
 ghost use Rattle.cb_unwind.specs.Strings.{IsNew};
 ghost use Rattle.cb_interp.specs.Dividing.{thrown_with};
 ghost use Rattle.cb_interp.specs.Loading.{MayPlace};
-ghost use Rattle.cb_interp.specs.Placing.{exception_size};
+ghost use Rattle.cb_act.specs.Placing.{exception_size};
 ghost use Rattle.cb_interp.specs.Running.{MayRun, StopsBy};
-ghost use Rattle.cb_interp.specs.Turning.{Outside, TurnMade, TurnRefused, machine_of, moment_of, state_of};
+ghost use Rattle.cb_act.specs.Turning.{Outside, TurnMade, TurnRefused, machine_of, moment_of, state_of};
 ghost use Rattle.cb_interp.specs.declared.stop.Stop.TheVariants as stops;
 
 use crate::Stop;

@@ -11,13 +11,13 @@ ghost use Rattle.cb_machine.specs.Throwing.{throws};
 ghost use Rattle.cb_plain.specs.declared.value.Value.TheVariants.{Ref};
 ghost use Rattle.cb_plain.specs.Updates.{with_argument};
 ghost use Rattle.cb_interp.specs.declared.stop.Stop.TheVariants as stops;
-ghost use Rattle.cb_interp.specs.Going.{is_ready};
+ghost use Rattle.cb_act.specs.Going.{is_ready};
 ghost use Rattle.cb_interp.specs.Running.{MayRun, StopsBy};
-ghost use Rattle.cb_interp.specs.Turning.{Outside, TurnMade, machine_of, moment_of, state_of};
+ghost use Rattle.cb_act.specs.Turning.{Outside, TurnMade, machine_of, moment_of, state_of};
 
 use crate::Stop;
 use crate::frame_turns::{begins_class, throws_at};
-use crate::sites::{NO_CLASS_DEFINITION, STACK_OVERFLOW};
+use cb_act::{NO_CLASS_DEFINITION, STACK_OVERFLOW};
 use cb_classfile::Body;
 use cb_frames::{Deep, Roots};
 use cb_heap::Store;

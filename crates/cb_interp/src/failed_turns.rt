@@ -17,15 +17,14 @@ ghost use Rattle.cb_plain.specs.Updates.{with_roots};
 ghost use Rattle.cb_unwind.specs.Initialised.{IsOnTop, initialised};
 ghost use Rattle.cb_interp.specs.declared.stop.Stop.TheVariants as stops;
 ghost use Rattle.cb_interp.specs.Initials.{fails};
-ghost use Rattle.cb_interp.specs.Placing.{exception_size};
+ghost use Rattle.cb_act.specs.Placing.{exception_size};
 ghost use Rattle.cb_interp.specs.Running.{MayRun, StopsBy};
-ghost use Rattle.cb_interp.specs.Turning.{Outside, TurnMade, TurnRefused, machine_of, moment_of, state_of};
+ghost use Rattle.cb_act.specs.Turning.{Outside, TurnMade, TurnRefused, machine_of, moment_of, state_of};
 
 use crate::Stop;
 use crate::frame_turns::linked_frames;
 use crate::linked::linked_programs_fit;
-use crate::placing::throw;
-use crate::sites::NO_CLASS_DEFINITION;
+use cb_act::{NO_CLASS_DEFINITION, throw};
 use cb_frames::Roots;
 use cb_heap::{NoRoom, Store};
 use cb_link::Program;

@@ -18,7 +18,7 @@ ghost use Rattle.cb_unwind.specs.Initialised.{IsOnTop, NumbersNext, initialised}
 ghost use Rattle.cb_interp.specs.declared.stop.Stop.TheVariants as stops;
 ghost use Rattle.cb_interp.specs.Initials.{fails};
 ghost use Rattle.cb_interp.specs.Running.{MayRun, StopsBy};
-ghost use Rattle.cb_interp.specs.Turning.{Outside, TurnMade, machine_of, moment_of, state_of};
+ghost use Rattle.cb_act.specs.Turning.{Outside, TurnMade, machine_of, moment_of, state_of};
 
 use crate::Stop;
 use crate::beginning::begin_turn;
@@ -27,11 +27,11 @@ use crate::init_turns::{fails_next, init_turn};
 use crate::linked::linked_programs_fit;
 use crate::numbers_only::has_numbers_only;
 use crate::parent_turns::looks_at_parent;
-use crate::sites::STACK_OVERFLOW;
 use crate::text_turns::begins_texts;
 use crate::throwing::throw_turn;
 use crate::unwind_turns::unwind_turn;
 use crate::wrapped_turns::wraps_pending;
+use cb_act::STACK_OVERFLOW;
 use cb_frames::{Deep, Roots};
 use cb_heap::Store;
 use cb_link::Program;

@@ -7,7 +7,7 @@ ghost use Rattle.cb_machine.specs.Steps.{plan};
 ghost use Rattle.cb_machine.specs.Throwing.{throws};
 ghost use Rattle.cb_unwind.specs.Initialised.{ClassBelow, HasFewParents, NumbersNext, by_place, initialised};
 ghost use Rattle.cb_interp.specs.Initials.{fails, had_room};
-ghost use Rattle.cb_interp.specs.Turning.{Outside, TurnMade, machine_of, moment_of, state_of};
+ghost use Rattle.cb_act.specs.Turning.{Outside, TurnMade, machine_of, moment_of, state_of};
 
 use cb_frames::{Deep, Frame, Roots};
 use cb_heap::Store;

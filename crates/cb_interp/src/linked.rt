@@ -7,7 +7,7 @@ ghost use Rattle.cb_machine.specs.Sites.{constant_characters};
 ghost use Rattle.cb_plain.specs.declared.shape.Shape.{Shape};
 ghost use Rattle.cb_safety.specs.Linked.{IsLinked};
 ghost use Rattle.cb_verify.specs.Typed.{IsTyped};
-ghost use Rattle.cb_interp.specs.Acting.{HasFewParameters, MarksNatives};
+ghost use Rattle.cb_act.specs.Acting.{HasFewParameters, MarksNatives};
 ghost use Rattle.cb_interp.specs.Fit.{ArraysFit, ExceptionsFit, ObjectsFit, ShapesOf};
 ghost use Rattle.cb_interp.specs.Loading.{MayPlace, MayPlaceClass};
 ghost use Rattle.cb_interp.specs.TextStatics.{MayPlaceOwn};

@@ -3,11 +3,11 @@ ghost use Rattle.std.specs.Prelude.{◌≡◌, false, IfErr, IsErrOf, OnOk, Some
 ghost use Rattle.cb_heap.specs.Reading.{seen};
 ghost use Rattle.cb_heap.specs.declared.no_room.NoRoom.TheVariants as rooms;
 ghost use Rattle.cb_io.specs.Faults.{CountsFaults};
-ghost use Rattle.cb_interp.specs.Acting.{Asks, acted};
-ghost use Rattle.cb_interp.specs.Here.{Here};
+ghost use Rattle.cb_act.specs.Acting.{Asks, acted};
+ghost use Rattle.cb_act.specs.Here.{Here};
 ghost use Rattle.cb_interp.specs.Running.{MayRun, StopsBy};
-ghost use Rattle.cb_interp.specs.Turning.{Outside, TurnMade, machine_of, moment_of, state_of};
-ghost use Rattle.cb_interp.specs.declared.need.Need.TheVariants as needs;
+ghost use Rattle.cb_act.specs.Turning.{Outside, TurnMade, machine_of, moment_of, state_of};
+ghost use Rattle.cb_act.specs.declared.need.Need.TheVariants as needs;
 ghost use Rattle.cb_interp.specs.declared.stop.Stop.TheVariants as stops;
 
 use crate::Stop;

@@ -13,9 +13,9 @@ ghost use Rattle.cb_machine.specs.Plans.{object_of};
 ghost use Rattle.cb_machine.specs.Steps.{plan};
 ghost use Rattle.cb_plain.specs.State.{words_of};
 ghost use Rattle.cb_interp.specs.Making.{makes_array, makes_one};
-ghost use Rattle.cb_interp.specs.Turning.{Outside, TurnMade, TurnRefused, machine_of, moment_of, state_of};
+ghost use Rattle.cb_act.specs.Turning.{Outside, TurnMade, TurnRefused, machine_of, moment_of, state_of};
 
-use crate::placing::{make_array, make_object};
+use cb_act::{make_array, make_object};
 use cb_frames::Roots;
 use cb_heap::{NoRoom, Store};
 use cb_link::Program;

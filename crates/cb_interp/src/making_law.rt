@@ -6,9 +6,9 @@ ghost use Rattle.cb_machine.specs.Creating.{makes_arrays, makes_object, site_num
 ghost use Rattle.cb_machine.specs.Standing.{Now, named_here};
 ghost use Rattle.cb_plain.specs.declared.value.Value.{Value};
 ghost use Rattle.cb_plain.specs.declared.value.Value.TheVariants.{Int};
-ghost use Rattle.cb_interp.specs.Going.{is_ready};
+ghost use Rattle.cb_act.specs.Going.{is_ready};
 ghost use Rattle.cb_interp.specs.Making.{makes_array, makes_one};
-ghost use Rattle.cb_interp.specs.Steps.{StandsBefore};
+ghost use Rattle.cb_act.specs.Steps.{StandsBefore};
 
 /// The step of a machine that stands at a `new` of a class that may be used makes one object at its site, and that of one that stands at a
 /// `newarray` or `anewarray` of a size that isn't negative makes one array.

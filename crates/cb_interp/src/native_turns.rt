@@ -4,19 +4,19 @@ ghost use Rattle.cb_frames.specs.Limited.{with_roots};
 ghost use Rattle.cb_frames.specs.Tops.{top_stack};
 ghost use Rattle.cb_heap.specs.Reading.{seen};
 ghost use Rattle.cb_io.specs.Faults.{CountsFaults};
-ghost use Rattle.cb_interp.specs.Acting.{Asks, acted};
-ghost use Rattle.cb_interp.specs.Here.{Here};
+ghost use Rattle.cb_act.specs.Acting.{Asks, acted};
+ghost use Rattle.cb_act.specs.Here.{Here};
 ghost use Rattle.cb_interp.specs.Leaving.{NativeStops};
 ghost use Rattle.cb_interp.specs.Printing.{IsNoneOf, behind_taken, prints_value, taken_by};
 ghost use Rattle.cb_interp.specs.Running.{MayRun, SaysBy, Turned};
-ghost use Rattle.cb_interp.specs.Turning.{Outside, machine_of, state_of};
-ghost use Rattle.cb_interp.specs.declared.need.Need.TheVariants as needs;
+ghost use Rattle.cb_act.specs.Turning.{Outside, machine_of, state_of};
+ghost use Rattle.cb_act.specs.declared.need.Need.TheVariants as needs;
 ghost use Rattle.cb_interp.specs.declared.stop.Stop.TheVariants as stops;
 
 use crate::Stop;
-use crate::operands::{reference_at, take_one, take_two};
 use crate::printing::{Print, print_of, write_print};
 use crate::string_text::{chars_of, line_of, write_string};
+use cb_act::{reference_at, take_one, take_two};
 use cb_frames::Roots;
 use cb_heap::Store;
 use cb_io::Sink;
@@ -69,7 +69,7 @@ pub(crate) fn native_turn<S: Store, O: Sink>(
 }
 
 /// A turn in which the native for which the instruction at the topmost frame's place asks is performed, where it prints a string. Any other
-/// is `NotYet`, and so is a string that has an array of something else than chars, which no string has. Takes time in the units of the string.
+/// is `NotYet`. Takes time in the units of the string.
 fn string_turn<S: Store, O: Sink>(
     program: &Program,
     store: &S,
@@ -108,9 +108,7 @@ fn string_turn<S: Store, O: Sink>(
         unreachable!()
     };
     let at = reference_at(roots, 0);
-    let Some(array) = chars_of(program, store, at) else {
-        return Err(Stop::NotYet);
-    };
+    let array = chars_of(store, at);
     if write_string(store, at, array, line, out).is_err() {
         return Err(Stop::OutputFault);
     }

@@ -21,16 +21,16 @@ ghost use Rattle.cb_interp.specs.Fit.{ShapesOf};
 ghost use Rattle.cb_interp.specs.Initials.{fails, is_untouched};
 ghost use Rattle.cb_interp.specs.Running.{MayRun, StopsBy};
 ghost use Rattle.cb_interp.specs.TextStatics.{HasSerials, MayPlaceOwn, first_plan, wants_behind};
-ghost use Rattle.cb_interp.specs.Turning.{Outside, TurnMade, TurnRefused, facts_behind, machine_of, moment_of, state_of};
+ghost use Rattle.cb_act.specs.Turning.{Outside, TurnMade, TurnRefused, facts_behind, machine_of, moment_of, state_of};
 ghost use Rattle.cb_interp.specs.declared.stop.Stop.TheVariants as stops;
 
 use crate::Stop;
 use crate::frame_turns::{linked_frames, throws_at};
 use crate::linked::linked_constants;
-use crate::sites::STACK_OVERFLOW;
 use crate::stopping::stopped;
 use crate::text_statics::ask_own;
 use crate::text_turns::begin_placed;
+use cb_act::STACK_OVERFLOW;
 use cb_frames::Roots;
 use cb_heap::{NoRoom, Store};
 use cb_link::Program;

@@ -11,7 +11,7 @@ ghost use Rattle.cb_machine.specs.Texts.{digits, truth, unit_of};
 ghost use Rattle.cb_library.specs.declared.native.Native.{Native};
 ghost use Rattle.cb_interp.specs.Printing.{IsNoneOf, as_line, native_as, prints_value, stream_native, suits, units_on};
 
-use crate::operands::{int_at, long_at};
+use cb_act::{int_at, long_at};
 use cb_arith::{Narrow, narrow};
 use cb_frames::Roots;
 use cb_io::{Failed, Sink, utf8_of, write_all};

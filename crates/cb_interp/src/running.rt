@@ -6,12 +6,12 @@ ghost use Rattle.cb_io.specs.Faults.{CountsFaults};
 ghost use Rattle.cb_plain.specs.State.{State};
 ghost use Rattle.cb_safety.specs.States.{IsTypedState};
 ghost use Rattle.cb_interp.specs.Running.{Ended, IsEndOf, IsUncaught, MayRun, outside_of};
-ghost use Rattle.cb_interp.specs.Turning.{StandsAt, machine_of, moment_of, state_of};
+ghost use Rattle.cb_act.specs.Turning.{StandsAt, machine_of, moment_of, state_of};
 ghost use Rattle.cb_interp.specs.declared.end.End.TheVariants as ends;
 ghost use Rattle.cb_interp.specs.declared.stop.Stop.TheVariants as stops;
 
 use crate::idle::ended;
-use crate::turn::turn;
+use crate::turns::turns;
 use crate::{End, Stop};
 use cb_frames::Roots;
 use cb_heap::{NoRoom, Store};
@@ -41,9 +41,11 @@ pub fn run<S: Store, O: Sink>(
     ensures output { CountsFaults (O.faults out.old) (O.faults out.new) (result ≡ ends.OutputFault) }
 {
     let mut request = Request::new();
-    for number in 0..steps {
-        if let Err(stop) = turn(program, store, roots, &mut request, out, number) {
-            return stopped(store, roots, stop);
+    let mut made: u64 = 0;
+    while made < steps {
+        match turns(program, store, roots, &mut request, out, steps - made, made) {
+            Ok(more) => made += more,
+            Err(stop) => return stopped(store, roots, stop),
         }
     }
     match ended(roots) {

@@ -25,7 +25,7 @@ ghost use Rattle.cb_verify.specs.Typed.{IsTyped};
 ghost use Rattle.cb_interp.specs.Arguments.{Covers, all_wants};
 ghost use Rattle.cb_interp.specs.Fit.{IsPlacedAs, ShapesOf};
 ghost use Rattle.cb_interp.specs.Starting.{BeginsWith, MayStart, RefusesStart, bare, blank_array, first_objects, first_state, knows_first, new_roots, set_first, set_ready, settled, unread, with_first, with_ready, with_streams};
-ghost use Rattle.cb_interp.specs.Turning.{Moment, StandsAt, machine_of, moment_of};
+ghost use Rattle.cb_act.specs.Turning.{Moment, StandsAt, machine_of, moment_of};
 
 use crate::arguments::{ask_texts, place_texts};
 use cb_frames::{RootSizes, Roots};

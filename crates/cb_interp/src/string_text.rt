@@ -9,12 +9,11 @@ ghost use Rattle.cb_io.specs.Sink.{AppendsProperPrefix};
 ghost use Rattle.cb_io.specs.Utf8.{utf8};
 ghost use Rattle.cb_machine.specs.Natives.{native_of};
 ghost use Rattle.cb_plain.specs.State.{Number};
-ghost use Rattle.cb_safety.specs.Heap.{IsHeap};
 ghost use Rattle.cb_library.specs.declared.native.Native.{Native};
-ghost use Rattle.cb_interp.specs.Printing.{AreChars, HasOddArray, HoldsUnits, IsNoneOf, are_chars, as_line, is_text, native_text, prints_text, stream_native, string_text, units_at};
+ghost use Rattle.cb_interp.specs.Printing.{AreChars, HoldsUnits, IsNoneOf, array_of, as_line, is_text, native_text, prints_text, stream_native, string_text, units_at};
 
 use crate::printing::{NEWLINE, PRINT_STREAM, write_text};
-use crate::words::value_at;
+use cb_act::value_at;
 use cb_heap::Store;
 use cb_io::{Failed, Sink, utf8_of};
 use cb_kinds::Basic;
@@ -49,32 +48,18 @@ fn line_at(place: u32) -> Option<bool>
     }
 }
 
-/// The place of the array of a string's chars, 0 where the string is null or has none. `None` where it is an array of something else, which
-/// no string has.
-pub(crate) fn chars_of<S: Store>(program: &Program, store: &S, at: u64) -> Option<u64>
+/// The place of the array of a string's chars, 0 where the string is null or has none.
+pub(crate) fn chars_of<S: Store>(store: &S, at: u64) -> u64
     requires text { is_text (S.kept store.now) (serial_of (S.index store.now) at) ≡ true }
-    requires heap { IsHeap program.now (S.kept store.now) }
-    ensures chars { IfSome result (λ array. AreChars (S.kept store.now) (serial_of
-        (S.index store.now) at) (serial_of (S.index store.now) array)) }
-    ensures odd { IfNone result (HasOddArray program.now (S.kept store.now) (serial_of
+    requires units { HoldsUnits (S.kept store.now) (array_of (S.kept store.now) (serial_of
         (S.index store.now) at)) }
+    ensures { AreChars (S.kept store.now) (serial_of (S.index store.now) at) (serial_of
+        (S.index store.now) result) }
 {
     if at == 0 {
-        return Some(0);
+        return 0;
     }
-    let array = store.get_ref(at, 0);
-    if array == 0 {
-        return Some(0);
-    }
-    let found = program.element(store.kind(array));
-    if is_char(found) { Some(array) } else { None }
-}
-
-/// Whether elements are chars.
-fn is_char(element: Option<Basic>) -> bool
-    ensures { result ≡ are_chars element }
-{
-    matches!(element, Some(Basic::Char))
+    store.get_ref(at, 0)
 }
 
 /// Writes a string as UTF-8, `null` for null, by the place of the array of its chars. After a failed call a proper prefix of it was taken.

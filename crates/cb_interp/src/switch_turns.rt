@@ -3,9 +3,9 @@ ghost use Rattle.std.specs.Prelude.{◌≡◌, is_some, true, Some};
 ghost use Rattle.cb_heap.specs.Reading.{seen};
 ghost use Rattle.cb_machine.specs.Steps.{plan};
 ghost use Rattle.cb_interp.specs.Making.{AtSwitch, operand_here};
-ghost use Rattle.cb_interp.specs.Turning.{Outside, TurnMade, machine_of, moment_of, state_of};
+ghost use Rattle.cb_act.specs.Turning.{Outside, TurnMade, machine_of, moment_of, state_of};
 
-use crate::switching::switch;
+use cb_act::switch;
 use cb_frames::Roots;
 use cb_heap::Store;
 use cb_insn::Operand;

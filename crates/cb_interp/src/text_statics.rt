@@ -17,11 +17,11 @@ ghost use Rattle.cb_unwind.specs.Strings.{IsNew, MayEnter, units_of, with_consta
 ghost use Rattle.cb_interp.specs.Arguments.{Covers};
 ghost use Rattle.cb_interp.specs.Fit.{ShapesOf};
 ghost use Rattle.cb_interp.specs.TextStatics.{AskedAt, AsksTexts, HasSerials, MayPlaceOwn, knows_if_new, knows_to, seen_to, set_initial, spent_if_new, spent_to, text_wants, wants_behind, with_found};
-ghost use Rattle.cb_interp.specs.Turning.{Outside, facts_behind, machine_of, state_of};
+ghost use Rattle.cb_act.specs.Turning.{Outside, facts_behind, machine_of, state_of};
 
 use crate::load_turns::{CONSTANT_CHARACTERS, CONSTANT_STRINGS, STRING_WORDS, text_words};
 use crate::text_slots::{new_at, text_at};
-use crate::words::kept_value;
+use cb_act::kept_value;
 use cb_frames::Roots;
 use cb_heap::Store;
 use cb_link::{Named, Program};

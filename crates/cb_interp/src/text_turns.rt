@@ -16,15 +16,15 @@ ghost use Rattle.cb_interp.specs.Arguments.{Covers};
 ghost use Rattle.cb_interp.specs.Fit.{ShapesOf};
 ghost use Rattle.cb_interp.specs.Running.{MayRun, StopsBy};
 ghost use Rattle.cb_interp.specs.TextStatics.{HasSerials, MayPlaceOwn, first_plan, wants_behind};
-ghost use Rattle.cb_interp.specs.Turning.{Outside, TurnMade, TurnRefused, facts_behind, machine_of, moment_of, state_of};
+ghost use Rattle.cb_act.specs.Turning.{Outside, TurnMade, TurnRefused, facts_behind, machine_of, moment_of, state_of};
 ghost use Rattle.cb_interp.specs.declared.stop.Stop.TheVariants as stops;
 
 use crate::Stop;
 use crate::frame_turns::throws_at;
 use crate::linked::linked_constants;
-use crate::sites::STACK_OVERFLOW;
 use crate::stopping::stopped;
 use crate::text_statics::{ask_own, place_own};
+use cb_act::STACK_OVERFLOW;
 use cb_frames::Roots;
 use cb_heap::{NoRoom, Store};
 use cb_link::Program;

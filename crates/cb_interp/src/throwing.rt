@@ -10,10 +10,10 @@ ghost use Rattle.cb_machine.specs.Machine.{kind_of_site};
 ghost use Rattle.cb_machine.specs.Plans.{object_of};
 ghost use Rattle.cb_machine.specs.Steps.{plan};
 ghost use Rattle.cb_machine.specs.Throwing.{exception_contents, throws};
-ghost use Rattle.cb_interp.specs.Placing.{exception_size};
-ghost use Rattle.cb_interp.specs.Turning.{Outside, TurnMade, TurnRefused, machine_of, moment_of, state_of};
+ghost use Rattle.cb_act.specs.Placing.{exception_size};
+ghost use Rattle.cb_act.specs.Turning.{Outside, TurnMade, TurnRefused, machine_of, moment_of, state_of};
 
-use crate::placing::throw;
+use cb_act::throw;
 use cb_frames::Roots;
 use cb_heap::{NoRoom, Store};
 use cb_link::Program;

@@ -6,7 +6,7 @@ ghost use Rattle.cb_machine.specs.Library.{error};
 ghost use Rattle.cb_machine.specs.Steps.{plan};
 ghost use Rattle.cb_unwind.specs.Initialised.{ClassBelow};
 ghost use Rattle.cb_unwind.specs.Unwound.{HasPendingKind, MayCatch, MethodBelow, wraps};
-ghost use Rattle.cb_interp.specs.Turning.{Outside, TurnMade, machine_of, moment_of, state_of};
+ghost use Rattle.cb_act.specs.Turning.{Outside, TurnMade, machine_of, moment_of, state_of};
 
 use cb_frames::Roots;
 use cb_heap::Store;

@@ -7,7 +7,7 @@ ghost use Rattle.cb_io.specs.Faults.{CountsFaults};
 ghost use Rattle.cb_unwind.specs.Unwound.{wraps};
 ghost use Rattle.cb_interp.specs.declared.stop.Stop.TheVariants as stops;
 ghost use Rattle.cb_interp.specs.Running.{MayRun, StopsBy};
-ghost use Rattle.cb_interp.specs.Turning.{Outside, TurnMade, TurnRefused, machine_of, moment_of, state_of};
+ghost use Rattle.cb_act.specs.Turning.{Outside, TurnMade, TurnRefused, machine_of, moment_of, state_of};
 
 use crate::Stop;
 use crate::frame_turns::linked_frames;

@@ -10,6 +10,7 @@ pub mod Creating
 pub mod Entering
 pub mod Enums
 pub mod Fields
+pub mod Growing
 pub mod Initialising
 pub mod Laid
 pub mod Library

@@ -24,3 +24,7 @@ kind_of_site program site = listed (site_kinds program) site
 -- a method's body
 abbrev pub body_of : Linked → ℕ → Option Body
 body_of program method = option_and_then (λ numbered. numbered.member.body) (method_numbered program method)
+
+-- the machine with another limit of frames
+abbrev pub with_limit : Machine → ℕ → Machine
+with_limit machine limit = record { program = machine.program; frames = limit }

@@ -4,7 +4,7 @@ use Rattle.cb_heap.specs.Reading.{View, seen}
 use Rattle.cb_interp.specs.Fit.{ShapesOf}
 use Rattle.cb_interp.specs.Running.{MayRun, outside_of}
 use Rattle.cb_interp.specs.Starting.{unread}
-use Rattle.cb_interp.specs.Turning.{Moment, Outside, StandsAt, machine_of as limited, moment_of, state_of}
+use Rattle.cb_act.specs.Turning.{Moment, Outside, StandsAt, machine_of as limited, moment_of, state_of}
 use Rattle.cb_link.specs.Program.{Linked}
 use Rattle.cb_machine.specs.Starting.{start}
 use Rattle.cb_plain.specs.State.{Object, Roots, State}

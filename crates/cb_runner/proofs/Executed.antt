@@ -8,12 +8,12 @@ use Rattle.std.proofs.lemmas.Bool.{ne_eqb}
 use Rattle.cb_heap.specs.Kept.{keep, residents}
 use Rattle.cb_heap.specs.Reading.{View, seen, serial_of}
 use Rattle.cb_heap.specs.declared.no_room.NoRoom.TheVariants as rooms
-use Rattle.cb_interp.specs.Keeping.{kept_state}
+use Rattle.cb_act.specs.Keeping.{kept_state}
 use Rattle.cb_interp.specs.Leaving.{Leaves}
 use Rattle.cb_interp.specs.Running.{Ended, outside_of}
-use Rattle.cb_interp.specs.Steps.{view_of}
+use Rattle.cb_act.specs.Steps.{view_of}
 use Rattle.cb_interp.specs.Texts.{TellsException, exception_units}
-use Rattle.cb_interp.specs.Turning.{Moment, StandsAt, moment_of}
+use Rattle.cb_act.specs.Turning.{Moment, StandsAt, moment_of}
 use Rattle.cb_interp.specs.declared.end.End.{End}
 use Rattle.cb_interp.specs.declared.end.End.TheVariants as ends
 use Rattle.cb_link.specs.Program.{Linked}

@@ -6,7 +6,7 @@ use Rattle.cb_heap.specs.Reading.{seen, serial_of}
 use Rattle.cb_heap.specs.declared.no_room.NoRoom.TheVariants.{Full}
 use Rattle.cb_interp.specs.Starting.{BeginsWith, unread}
 use Rattle.cb_interp.specs.Texts.{TellsException}
-use Rattle.cb_interp.specs.Turning.{moment_of}
+use Rattle.cb_act.specs.Turning.{moment_of}
 use Rattle.cb_interp.specs.declared.end.End.{End}
 use Rattle.cb_interp.specs.declared.end.End.TheVariants as ends
 use Rattle.cb_io.specs.Utf8.{utf8}

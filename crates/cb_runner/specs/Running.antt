@@ -5,7 +5,7 @@ use Rattle.cb_heap.specs.declared.no_room.NoRoom.{NoRoom}
 use Rattle.cb_heap.specs.declared.no_room.NoRoom.TheVariants.{Full, ReportFault, OutOfMemory as NoMemory}
 use Rattle.cb_interp.specs.Leaving.{Leaves}
 use Rattle.cb_interp.specs.Running.{Prints}
-use Rattle.cb_interp.specs.Steps.{view_of}
+use Rattle.cb_act.specs.Steps.{view_of}
 use Rattle.cb_interp.specs.Texts.{exception_units}
 use Rattle.cb_io.specs.Sink.{IsProperPrefix}
 use Rattle.cb_io.specs.Utf8.{utf8}

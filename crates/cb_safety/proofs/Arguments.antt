@@ -17,7 +17,8 @@ use Rattle.cb_plain.specs.declared.value.Value.{Value}
 use Rattle.cb_plain.specs.declared.value.Value.TheVariants as values
 use Rattle.cb_verify.specs.Within.{Within, within}
 use Rattle.cb_safety.specs.Advancing.{Advances}
-use Rattle.cb_safety.specs.Room.{HasRoom, with_limit}
+use Rattle.cb_safety.specs.Room.{HasRoom}
+use Rattle.cb_machine.specs.Machine.{with_limit}
 use Rattle.cb_safety.specs.States.{IsTypedState}
 use Rattle.cb_safety.proofs.Entering.{entry_of}
 use Rattle.cb_safety.proofs.Rooms.{frames_fit}

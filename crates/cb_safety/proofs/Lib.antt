@@ -147,3 +147,4 @@ mod LinkedNatives
 mod KindNames
 mod LibraryFields
 mod LibraryNatives
+mod Given

@@ -31,7 +31,8 @@ use Rattle.cb_safety.specs.Advancing.{HoldsOn, IsSpelled}
 use Rattle.cb_safety.specs.Frames.{result_at}
 use Rattle.cb_safety.specs.Kinds.{kinds_of}
 use Rattle.cb_safety.specs.Ready.{NamesStatic, NamesStatics, is_of_statics}
-use Rattle.cb_safety.specs.Room.{HasRoom, ShufflesWithin, lays_one}
+use Rattle.cb_safety.specs.Room.{HasRoom, ShufflesWithin}
+use Rattle.cb_machine.specs.Growing.{lays_one}
 use Rattle.cb_safety.specs.States.{IsTypedState}
 use Rattle.cb_safety.proofs.Assigned.{never, when}
 use Rattle.cb_safety.proofs.Fields.{field_member, within_number}

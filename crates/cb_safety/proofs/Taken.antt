@@ -152,7 +152,7 @@ basic_sorted method kinds basic value has = sorted method kinds (sort_of_basic b
 pub basic_sized : (method : Within) (kinds : Kinds) (basic : Basic) (value : Value) → HasType method kinds (type_of basic) value → words (type_of basic) ≡ words_in value
 basic_sized method kinds basic value has = sized method kinds (sort_of_basic basic) (type_of basic) value has (basic_is_of basic)
 
-no_basic : (program : Linked) (basic : Basic) → goes_to program Top (type_of basic) ≡ false
+pub no_basic : (program : Linked) (basic : Basic) → goes_to program Top (type_of basic) ≡ false
 no_basic program (basics.Reference kind) = refl
 no_basic program basics.Long = refl
 no_basic program other = refl

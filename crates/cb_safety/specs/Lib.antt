@@ -25,5 +25,6 @@ pub mod Sound
 pub mod Natives
 pub mod Signatures
 pub mod Performing
+pub mod Given
 pub mod Room
 pub mod Words

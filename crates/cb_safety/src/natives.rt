@@ -1,19 +1,29 @@
 // That they have one at a call of a native.
-ghost use Rattle.std.specs.Prelude.{◌≡◌, ◌∷◌, List, true};
+ghost use Rattle.std.specs.Prelude.{◌≡◌, ◌∷◌, ℕ, List, [], Some, true};
+ghost use Rattle.cb_insn.specs.declared.insn.Insn.{Insn};
+ghost use Rattle.cb_library.specs.declared.native.Native.{Native};
 ghost use Rattle.cb_library.specs.declared.native.NativeForm.TheVariants.{Array, Outside, OwnFields, Table, Text};
 ghost use Rattle.cb_library.specs.declared.native.Native.TheVariants as natives;
 ghost use Rattle.cb_library.specs.NativeForms.{form_of};
+ghost use Rattle.cb_link.specs.Named.{code_at, insn_in, named};
+ghost use Rattle.cb_link.specs.declared.named.Named.TheVariants as meanings;
 ghost use Rattle.cb_machine.specs.Computing.{throws_by_zero};
 ghost use Rattle.cb_machine.specs.Machine.{Machine};
+ghost use Rattle.cb_machine.specs.Natives.{native_of};
 ghost use Rattle.cb_machine.specs.Plans.{made};
 ghost use Rattle.cb_plain.specs.State.{Frame as StateFrame, MethodFrame, OfMethod, State};
+ghost use Rattle.cb_shapes.specs.Shapes.{action_of};
+ghost use Rattle.cb_shapes.specs.declared.action.Action.{Action};
 ghost use Rattle.cb_verify.specs.Typed.{IsTyped};
+ghost use Rattle.cb_verify.specs.Within.{kind_of_string};
+ghost use Rattle.cb_verify.specs.declared.verification_type.VerificationType.TheVariants.{Object};
 ghost use Rattle.cb_safety.specs.Advancing.{Advances, HoldsOn, IsSpelled};
+ghost use Rattle.cb_safety.specs.Given.{Runs, StringOn};
 ghost use Rattle.cb_safety.specs.Linked.{IsLinked};
 ghost use Rattle.cb_safety.specs.Natives.{CallsNative};
 ghost use Rattle.cb_safety.specs.Performing.{HasNatives};
 ghost use Rattle.cb_safety.specs.Ready.{BeginsTyped};
-ghost use Rattle.cb_safety.specs.Signatures.{is_of_answers, is_of_numbers};
+ghost use Rattle.cb_safety.specs.Signatures.{is_of_answers, is_of_numbers, takes_of};
 ghost use Rattle.cb_safety.specs.States.{IsTypedState};
 
 /// A typed state that calls a native which prints, reads or ends the run has a next state, which is typed too (Java SE 8 API,
@@ -120,4 +130,21 @@ pub fn natives_advance()
         → IsTyped machine.program → IsTypedState machine.program state
         → state.roots.pending ≡ 0 → state.roots.frames ≡ OfMethod frame ∷ below
         → CallsNative machine state frame below → Advances machine state }
+{}
+
+/// Where a typed state of a linked program calls a native that takes an object and a String, as those that print one, the topmost value is
+/// null or a String, whose array is of chars, where it has one (Java SE 8 API, java.io.PrintStream).
+pub fn strings_are_given()
+    ensures { (machine : Machine) (state : State) (frame : MethodFrame) (below : List StateFrame)
+        (insn : Insn) (action : Action) (resolved number first : ℕ) (native : Native)
+        → IsLinked machine.program
+        → IsTyped machine.program → IsTypedState machine.program state
+        → state.roots.pending ≡ 0 → state.roots.frames ≡ OfMethod frame ∷ below
+        → insn_in (code_at machine.program frame.method) frame.pc ≡ Some insn → action_of insn
+        ≡ Some action
+        → named machine.program frame.method frame.pc ≡ meanings.Method resolved
+        → Runs machine.program state.objects frame.method resolved number action
+        → native_of machine.program number ≡ Some native → takes_of machine.program native
+        ≡ Object first ∷ Object kind_of_string ∷ []
+        → StringOn machine.program state frame }
 {}

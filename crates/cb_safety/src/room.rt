@@ -25,7 +25,9 @@ ghost use Rattle.cb_safety.specs.Advancing.{Advances, HoldsOn, IsSpelled};
 ghost use Rattle.cb_safety.specs.Frames.{IsCovered, Stands, Waits, result_at};
 ghost use Rattle.cb_safety.specs.Kinds.{Kinds};
 ghost use Rattle.cb_safety.specs.Ready.{NamesStatics};
-ghost use Rattle.cb_safety.specs.Room.{HasRoom, MayCatch, ShufflesWithin, lays_one, with_limit};
+ghost use Rattle.cb_safety.specs.Room.{HasRoom, MayCatch, ShufflesWithin};
+ghost use Rattle.cb_machine.specs.Growing.{lays_one};
+ghost use Rattle.cb_machine.specs.Machine.{with_limit};
 ghost use Rattle.cb_safety.specs.States.{IsTypedState};
 
 /// The frame of a method that stands at an instruction has as many local variables as its code says, and slots for these and for the

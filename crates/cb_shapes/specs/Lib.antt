@@ -5,6 +5,7 @@ pub mod Control
 pub mod Math
 pub mod Moves
 pub mod Operands
+pub mod Plain
 pub mod References
 pub mod Shapes
 pub mod Shuffles

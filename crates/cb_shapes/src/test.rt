@@ -32,6 +32,7 @@ pub enum Condition {
 
 impl Test {
     /// Whether an int compares so with another.
+    #[inline(always)]
     pub fn passes(self, a: i32, b: i32) -> bool
         ensures { result ≡ passes self a b }
     {

@@ -1,21 +1,28 @@
-use Rattle.std.proofs.Common.{◌≤◌, ◌+◌, ◌∙◌, ap, sym, arith, length, slice_set}
-use Rattle.cb_plain.specs.declared.value.Value.TheVariants as values
+use Rattle.std.proofs.Common.{◌≡◌, ◌≤◌, ◌+◌, ◌∙◌, ◌∷◌, [], ap, sym, arith, length, map, slice_set}
+use Rattle.std.proofs.lemmas.List.{length-map, map-set}
 use Rattle.cb_plain.specs.Depth.{slots_of}
+use Rattle.cb_frames.specs.declared.slot.Kind.TheVariants as kinds
 use Rattle.cb_frames.specs.Inner.{blank, pasted}
+use Rattle.cb_frames.specs.Slots.{value_in, value_of}
 use Rattle.cb_frames.proofs.Moved.{one_put, one_slot, two_put}
 use Rattle.cb_frames.proofs.arguments.put.Goals as goal
 
 pub returns-in-Long-clause-slots : goal.returns-in-Long-clause-slots
 returns-in-Long-clause-slots c =
-    let fits : c.args.at + 2 ≤ length c.args.slots.now = omega (arith, ap (λ value. length (slots_of value)) c.in-Long.is) in
-    ap (λ value. slice_set (slice_set c.args.slots.now c.args.at value) (c.args.at + 1) blank) c.in-Long.is
-    ∙ two_put c.args.slots.now c.args.at (values.Long c.in-Long.field-0) blank fits
-    ∙ ap (λ value. pasted c.args.slots.now c.args.at (slots_of value)) (sym c.in-Long.is)
+    let fits : c.args.at + 2 ≤ length (map value_of c.args.slots.now) = omega (arith, ap (λ kind. length (slots_of (value_in kind c.args.word))) c.in-Long.is, length-map c.args.slots.now value_of) in
+    map-set value_of (slice_set c.args.slots.now c.args.at _) (c.args.at + 1) _
+    ∙ ap (λ slots. slice_set slots (c.args.at + 1) blank) (map-set value_of c.args.slots.now c.args.at _)
+    ∙ ap (λ kind. slice_set (slice_set (map value_of c.args.slots.now) c.args.at (value_in kind c.args.word)) (c.args.at + 1) blank) c.in-Long.is
+    ∙ two_put (map value_of c.args.slots.now) c.args.at (value_in kinds.Long c.args.word) blank fits
+    ∙ ap (λ kind. pasted (map value_of c.args.slots.now) c.args.at (slots_of (value_in kind c.args.word))) (sym c.in-Long.is)
 
-pub returns-in_default : goal.returns-in_default
-returns-in_default c = record {
-  slots =
-      one_put c.args.slots.now c.args.at c.args.value (omega (arith, ap length (one_slot c.args.value c.in_default.not-Long)))
-      ∙ ap (pasted c.args.slots.now c.args.at) (sym (one_slot c.args.value c.in_default.not-Long));
-  place = omega (arith, ap length (one_slot c.args.value c.in_default.not-Long));
-}
+pub returns-in-Int : goal.returns-in-Int
+returns-in-Int c =
+    let alone : slots_of (value_in c.args.kind c.args.word) ≡ value_in c.args.kind c.args.word ∷ [] = one_slot c.args.kind c.args.word c.in-Int.is in
+    record {
+      slots =
+          map-set value_of c.args.slots.now c.args.at _
+          ∙ one_put (map value_of c.args.slots.now) c.args.at (value_in c.args.kind c.args.word) (omega (arith, ap length alone, length-map c.args.slots.now value_of))
+          ∙ ap (pasted (map value_of c.args.slots.now) c.args.at) (sym alone);
+      place = omega (arith, ap length alone);
+    }

@@ -1,28 +1,44 @@
-use Rattle.std.proofs.Common.{◌≡◌, ◌+◌, ◌∙◌, ap, sym, arith, length, slice_range}
+use Rattle.std.proofs.Common.{◌≡◌, ◌+◌, ◌∙◌, ap, sym, arith, get_or, length, map, slice_range}
 use Rattle.std.specs.List.{flat_map}
 use Rattle.cb_plain.specs.Depth.{slots_of}
-use Rattle.cb_frames.specs.Inner.{pasted}
+use Rattle.cb_frames.specs.Inner.{blank, pasted}
+use Rattle.cb_frames.specs.Slots.{blank_slot, value_of}
+use Rattle.std.proofs.lemmas.List.{get_or-map, length-map}
 use Rattle.cb_frames.proofs.Moved.{pasted_none, slots_none, spread_fits, spread_more}
 use Rattle.cb_frames.proofs.arguments.spread.Goals as goal
 
 pub loop-i-init : goal.loop-i-init
 loop-i-init c = (
-  pasted_none c.args.slots.now c.args.to ∙ ap (pasted c.args.slots.now c.args.to) (sym (slots_none c.args.slots.now c.args.from)),
-  omega (arith, ap length (slots_none c.args.slots.now c.args.from)),
+  pasted_none (map value_of c.args.slots.now) c.args.to ∙ ap (pasted (map value_of c.args.slots.now) c.args.to) (sym (slots_none (map value_of c.args.slots.now) c.args.from)),
+  omega (arith, ap length (slots_none (map value_of c.args.slots.now) c.args.from)),
 )
 
 pub put-at-requires : goal.put-at-requires
 put-at-requires c =
-    spread_fits c.args.slots.now c.loop-i.slots c.args.from c.args.to c.loop-i.i (c.args.from + c.args.count) c.loop-i.at (omega arith) c.loop-i-test.true
-    c.requires.before c.requires.inside c.loop-i.invariant.0 c.loop-i.invariant.1 c.loop-i.auto.slots
+    let size : length (map value_of c.args.slots.now) ≡ length c.args.slots.now = length-map c.args.slots.now value_of in
+    let item = value_of (get_or c.loop-i.slots c.loop-i.i blank_slot) in
+    let fits = spread_fits (map value_of c.args.slots.now) (map value_of c.loop-i.slots) c.args.from c.args.to c.loop-i.i (c.args.from + c.args.count) c.loop-i.at item
+    (omega arith) c.loop-i-test.true c.requires.before (omega (arith, c.requires.inside, size)) c.loop-i.invariant.0 c.loop-i.invariant.1
+    (sym (get_or-map value_of c.loop-i.slots c.loop-i.i blank_slot blank (omega arith))) in
+    omega (arith, fits, c.loop-i.auto.slots, size)
 
 pub loop-i-preserved : goal.loop-i-preserved
 loop-i-preserved c =
-    spread_more c.args.slots.now c.loop-i.slots c.put-at.new.slots c.args.from c.args.to c.loop-i.i (c.args.from + c.args.count) c.loop-i.at c.put-at.result (omega arith)
-    c.loop-i-test.true c.requires.before c.requires.inside c.loop-i.invariant.0 c.loop-i.invariant.1 c.put-at.ensures.slots c.put-at.ensures.place
+    let size : length (map value_of c.args.slots.now) ≡ length c.args.slots.now = length-map c.args.slots.now value_of in
+    let item = value_of (get_or c.loop-i.slots c.loop-i.i blank_slot) in
+    spread_more (map value_of c.args.slots.now) (map value_of c.loop-i.slots) c.args.from c.args.to c.loop-i.i (c.args.from + c.args.count) c.loop-i.at item
+    (omega arith) c.loop-i-test.true c.requires.before (omega (arith, c.requires.inside, size)) c.loop-i.invariant.0 c.loop-i.invariant.1
+    (sym (get_or-map value_of c.loop-i.slots c.loop-i.i blank_slot blank (omega arith)))
+    (map value_of c.put-at.new.slots) c.put-at.result c.put-at.ensures.slots c.put-at.ensures.place
 
-pub returns : goal.returns
-returns c =
+pub returns-clause-slots : goal.returns-clause-slots
+returns-clause-slots c =
     c.loop-i.invariant.0
-    ∙ ap (λ end. pasted c.args.slots.now c.args.to (flat_map slots_of (slice_range c.args.slots.now c.args.from end)))
+    ∙ ap (λ end. pasted (map value_of c.args.slots.now) c.args.to (flat_map slots_of (slice_range (map value_of c.args.slots.now) c.args.from end)))
+    (let e : c.loop-i.i ≡ c.args.from + c.args.count = omega arith in e)
+
+pub returns-clause-place : goal.returns-clause-place
+returns-clause-place c =
+    c.loop-i.invariant.1
+    ∙ ap (λ end. c.args.to + length (flat_map slots_of (slice_range (map value_of c.args.slots.now) c.args.from end)))
     (let e : c.loop-i.i ≡ c.args.from + c.args.count = omega arith in e)

@@ -14,7 +14,7 @@ use Rattle.cb_plain.specs.declared.value.Value.TheVariants.{Ref}
 use Rattle.cb_plain.specs.declared.want.Want.{Want}
 use Rattle.cb_safety.proofs.Laws.{typed_states_are_closed}
 use Rattle.cb_interp.specs.Loading.{laid, loads_class, new_class}
-use Rattle.cb_interp.specs.Turning.{TurnRefused, machine_of, moment_of, state_of}
+use Rattle.cb_act.specs.Turning.{TurnRefused, machine_of, moment_of, state_of}
 use Rattle.cb_interp.proofs.TurnsMaking.{handed_on, room_again}
 use Rattle.cb_interp.proofs.TurnsNeedClasses.{class_left, class_refused, class_table_again, class_turn, class_wants}
 use Rattle.cb_interp.proofs.TurnsNeedLoads.{some_frames}

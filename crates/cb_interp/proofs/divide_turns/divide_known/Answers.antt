@@ -13,8 +13,8 @@ use Rattle.cb_plain.specs.declared.shape.Shape.{Shape}
 use Rattle.cb_plain.specs.declared.want.Want.{Want}
 use Rattle.cb_safety.proofs.Laws.{typed_states_are_closed}
 use Rattle.cb_interp.specs.Dividing.{thrown_with}
-use Rattle.cb_interp.specs.Placing.{exception_size}
-use Rattle.cb_interp.specs.Turning.{TurnRefused, machine_of, moment_of, state_of}
+use Rattle.cb_act.specs.Placing.{exception_size}
+use Rattle.cb_act.specs.Turning.{TurnRefused, machine_of, moment_of, state_of}
 use Rattle.cb_interp.proofs.TurnsMaking.{handed_on}
 use Rattle.cb_interp.proofs.TurnsNeedDivides.{asks_known, divided_made, divided_refused, divided_turn, exception_wants, known_constant, knows_known, message_kept}
 use Rattle.cb_interp.proofs.TurnsNeedThrown.{arithmetic_thrown}

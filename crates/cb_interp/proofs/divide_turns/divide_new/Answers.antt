@@ -17,8 +17,8 @@ use Rattle.cb_plain.specs.declared.want.Want.{Want}
 use Rattle.cb_safety.proofs.Laws.{typed_states_are_closed}
 use Rattle.cb_unwind.specs.Strings.{units_of}
 use Rattle.cb_interp.specs.Dividing.{thrown_with}
-use Rattle.cb_interp.specs.Placing.{exception_size}
-use Rattle.cb_interp.specs.Turning.{TurnRefused, machine_of, moment_of, state_of}
+use Rattle.cb_act.specs.Placing.{exception_size}
+use Rattle.cb_act.specs.Turning.{TurnRefused, machine_of, moment_of, state_of}
 use Rattle.cb_interp.proofs.TurnsMaking.{handed_on}
 use Rattle.cb_interp.proofs.TurnsNeedDivides.{asks_text, divide_granted, divide_wants, divided_made, divided_refused, divided_turn, exception_granted, knows_text, text_count, text_stands}
 use Rattle.cb_interp.proofs.TurnsNeedThrown.{arithmetic_thrown}

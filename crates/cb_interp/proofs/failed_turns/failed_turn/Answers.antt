@@ -7,8 +7,8 @@ use Rattle.cb_machine.specs.Machine.{kind_of_site, or_zero}
 use Rattle.cb_machine.specs.Sites.{no_class_definition}
 use Rattle.cb_plain.specs.Requests.{add_want}
 use Rattle.cb_plain.specs.declared.want.Want.{Want}
-use Rattle.cb_interp.specs.Placing.{at_place, thrown}
-use Rattle.cb_interp.specs.Turning.{machine_of, moment_of, state_of}
+use Rattle.cb_act.specs.Placing.{at_place, thrown}
+use Rattle.cb_act.specs.Turning.{machine_of, moment_of, state_of}
 use Rattle.cb_interp.proofs.TurnsFrameFailed.{frames_again, thrown_at}
 use Rattle.cb_interp.proofs.TurnsThrown.{exception_want}
 use Rattle.cb_interp.proofs.failed_turns.failed_turn.Goals as goal

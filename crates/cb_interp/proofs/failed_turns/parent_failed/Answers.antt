@@ -2,7 +2,7 @@ use Rattle.std.proofs.Common.{rules, arith, refl}
 use Rattle.cb_heap.specs.Reading.{seen}
 use Rattle.cb_machine.specs.Sites.{no_class_definition}
 use Rattle.cb_safety.proofs.Laws.{typed_states_are_closed}
-use Rattle.cb_interp.specs.Turning.{state_of}
+use Rattle.cb_act.specs.Turning.{state_of}
 use Rattle.cb_interp.proofs.TurnsFrame.{stands_first}
 use Rattle.cb_interp.proofs.TurnsFrameFailed.{failed_plan, looks_at_failed, place_low}
 use Rattle.cb_interp.proofs.failed_turns.parent_failed.Goals as goal

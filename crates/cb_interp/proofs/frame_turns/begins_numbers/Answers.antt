@@ -5,7 +5,7 @@ use Rattle.cb_machine.specs.Sites.{stack_overflow}
 use Rattle.cb_machine.specs.Steps.{plan}
 use Rattle.cb_machine.specs.Throwing.{throws}
 use Rattle.cb_interp.specs.Running.{MayRun}
-use Rattle.cb_interp.specs.Turning.{machine_of, state_of}
+use Rattle.cb_act.specs.Turning.{machine_of, state_of}
 use Rattle.cb_interp.proofs.TurnsFrameFew.{statics_read}
 use Rattle.cb_interp.proofs.frame_turns.begins_numbers.Goals as goal
 

@@ -2,7 +2,7 @@ use Rattle.std.proofs.Common.{rules, ◌∙◌, sym}
 use Rattle.std.proofs.lemmas.Bool.{false≢true}
 use Rattle.cb_heap.specs.Reading.{seen}
 use Rattle.cb_safety.proofs.Laws.{typed_states_are_closed}
-use Rattle.cb_interp.specs.Turning.{state_of}
+use Rattle.cb_act.specs.Turning.{state_of}
 use Rattle.cb_interp.proofs.frame_turns.throws_at.Goals as goal
 
 pub throw_turn-requires : goal.throw_turn-requires

@@ -1,7 +1,7 @@
 use Rattle.std.proofs.Common.{◌∙◌, ap, sym}
 use Rattle.cb_heap.specs.Reading.{seen}
 use Rattle.cb_machine.specs.Machine.{or_zero}
-use Rattle.cb_interp.specs.Turning.{machine_of, state_of}
+use Rattle.cb_act.specs.Turning.{machine_of, state_of}
 use Rattle.cb_interp.proofs.TurnsNeedLoads.{load_goes, load_room, loads_new_so, table_there}
 use Rattle.cb_interp.proofs.load_turns.load_need.Goals as goal
 

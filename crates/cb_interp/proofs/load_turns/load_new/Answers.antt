@@ -14,7 +14,7 @@ use Rattle.cb_plain.specs.declared.value.Value.TheVariants.{Ref}
 use Rattle.cb_plain.specs.declared.want.Want.{Want}
 use Rattle.cb_safety.proofs.Laws.{typed_states_are_closed}
 use Rattle.cb_interp.specs.Loading.{loads_new}
-use Rattle.cb_interp.specs.Turning.{TurnRefused, machine_of, moment_of, state_of}
+use Rattle.cb_act.specs.Turning.{TurnRefused, machine_of, moment_of, state_of}
 use Rattle.cb_interp.proofs.TurnsMaking.{handed_on}
 use Rattle.cb_interp.proofs.TurnsNeedLoads.{left_behind, new_again, new_made, new_refused, new_turn, room_behind, some_frames, text_granted, text_wants}
 use Rattle.cb_interp.proofs.load_turns.load_new.Goals as goal

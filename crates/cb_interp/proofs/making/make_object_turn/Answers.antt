@@ -7,8 +7,8 @@ use Rattle.cb_heap.proofs.Laws.{reads_placed}
 use Rattle.cb_machine.specs.Machine.{kind_of_site, or_zero}
 use Rattle.cb_plain.specs.Requests.{add_want}
 use Rattle.cb_plain.specs.declared.want.Want.{Want}
-use Rattle.cb_interp.specs.Placing.{at_place, made_object}
-use Rattle.cb_interp.specs.Turning.{TurnRefused, machine_of, moment_of, state_of}
+use Rattle.cb_act.specs.Placing.{at_place, made_object}
+use Rattle.cb_act.specs.Turning.{TurnRefused, machine_of, moment_of, state_of}
 use Rattle.cb_interp.proofs.TurnsMaking.{handed_on, object_refused, object_turn, room_again, size_want}
 use Rattle.cb_interp.proofs.TurnsNeedSerials.{serial_left}
 use Rattle.cb_interp.proofs.making.make_object_turn.Goals as goal

@@ -1,10 +1,9 @@
 use Rattle.std.proofs.Common.{◌∙◌, ap, sym}
 use Rattle.cb_heap.specs.Reading.{seen}
-use Rattle.cb_interp.specs.Leaving.{ANative, AText}
-use Rattle.cb_interp.specs.Turning.{machine_of, state_of}
+use Rattle.cb_act.specs.Turning.{machine_of, state_of}
 use Rattle.cb_interp.proofs.LeavingNatives.{leaves_native}
 use Rattle.cb_interp.proofs.TurnsNativeSaid.{native_low, of_err, of_ok}
-use Rattle.cb_interp.proofs.TurnsNativeString.{string_goes, string_here, string_leaves, string_part, string_turn, text_here, two_here}
+use Rattle.cb_interp.proofs.TurnsNativeString.{string_goes, string_here, string_part, string_turn, text_here, two_here, units_here}
 use Rattle.cb_interp.proofs.native_turns.string_turn.Goals as goal
 
 pub line_of-requires : goal.line_of-requires
@@ -18,14 +17,17 @@ reference_at-at-requires g c =
     c.requires.1.1.1.0 c.requires.1.1.1.1.0 (g.S.Store.shapes c.args.store.now) (g.S.Store.knows c.args.store.now) (g.S.Store.allows c.args.store.now) c.requires.1.1.0
     c.in-Some.line c.in-Some.ensures.is
 
-pub chars_of-requires-clause-text : goal.chars_of-requires-clause-text
-chars_of-requires-clause-text g c =
+pub chars_of-array-requires-clause-text : goal.chars_of-array-requires-clause-text
+chars_of-array-requires-clause-text g c =
     text_here c.args.program.now (g.S.Store.index c.args.store.now) (g.S.Store.kept c.args.store.now) c.args.roots.now.limit c.args.roots.now.roots g.outside c.args.decoded.now c.args.method
     c.requires.1.1.1.0 c.requires.1.1.1.1.0 (g.S.Store.shapes c.args.store.now) (g.S.Store.knows c.args.store.now) (g.S.Store.allows c.args.store.now) c.requires.1.1.0
     c.in-Some.line c.in-Some.ensures.is c.reference_at-at.result c.reference_at-at.ensures
 
-pub chars_of-requires-clause-heap : goal.chars_of-requires-clause-heap
-chars_of-requires-clause-heap g c = c.requires.1.1.0.typed.heap
+pub chars_of-array-requires-clause-units : goal.chars_of-array-requires-clause-units
+chars_of-array-requires-clause-units g c =
+    units_here c.args.program.now (g.S.Store.index c.args.store.now) (g.S.Store.kept c.args.store.now) c.args.roots.now.limit c.args.roots.now.roots g.outside c.args.decoded.now c.args.method
+    c.requires.1.1.1.0 c.requires.1.1.1.1.0 (g.S.Store.shapes c.args.store.now) (g.S.Store.knows c.args.store.now) (g.S.Store.allows c.args.store.now) c.requires.1.1.0
+    c.in-Some.line c.in-Some.ensures.is c.reference_at-at.result c.reference_at-at.ensures
 
 pub leave_two-requires : goal.leave_two-requires
 leave_two-requires g c =
@@ -57,14 +59,6 @@ unreachable-requires g c =
 
 pub returns-in_default-clause-only : goal.returns-in_default-clause-only
 returns-in_default-clause-only g c =
-    ANative
-    (leaves_native (machine_of c.args.program.now c.args.roots.now.limit)
+    leaves_native (machine_of c.args.program.now c.args.roots.now.limit)
     (state_of (seen (g.S.Store.index c.args.store.now) (g.S.Store.kept c.args.store.now) c.args.roots.now.roots) g.outside) c.args.decoded.now c.requires.1.1.1.0 c.args.method
-    c.requires.1.1.1.1.0 c.requires.1.1.1.1.1 c.in_default.ensures.other)
-
-pub returns-in_default-chars_of-clause-only : goal.returns-in_default-chars_of-clause-only
-returns-in_default-chars_of-clause-only g c =
-    AText
-    (string_leaves c.args.program.now (g.S.Store.index c.args.store.now) (g.S.Store.kept c.args.store.now) c.args.roots.now.limit c.args.roots.now.roots g.outside c.args.decoded.now c.args.method
-    c.requires.1.1.1.0 c.requires.1.1.1.1.0 (g.S.Store.shapes c.args.store.now) (g.S.Store.knows c.args.store.now) (g.S.Store.allows c.args.store.now) c.requires.1.1.0
-    c.in-Some.line c.in-Some.ensures.is c.reference_at-at.result c.reference_at-at.ensures c.in_default-chars_of.ensures.odd)
+    c.requires.1.1.1.1.0 c.requires.1.1.1.1.1 c.in_default.ensures.other

@@ -5,7 +5,7 @@ use Rattle.cb_machine.specs.Machine.{kind_of_site}
 use Rattle.cb_safety.proofs.Laws.{typed_states_are_closed}
 use Rattle.cb_interp.specs.Needing.{IsArrayHere}
 use Rattle.cb_interp.specs.Running.{StopsBy}
-use Rattle.cb_interp.specs.Turning.{machine_of, moment_of, state_of}
+use Rattle.cb_act.specs.Turning.{machine_of, moment_of, state_of}
 use Rattle.cb_interp.proofs.TurnsNeed.{counts_as, made_as, stops_as}
 use Rattle.cb_interp.proofs.TurnsNeedMaking.{array_elements, array_placed, array_plan, array_sized, array_there, size_there}
 use Rattle.cb_interp.proofs.TurnsNeedSites.{site_low}

@@ -1,6 +1,6 @@
 use Rattle.std.proofs.Common.{sym}
 use Rattle.cb_heap.specs.Reading.{seen}
-use Rattle.cb_interp.specs.Turning.{machine_of, state_of}
+use Rattle.cb_act.specs.Turning.{machine_of, state_of}
 use Rattle.cb_interp.proofs.TurnsNeed.{steps_on}
 use Rattle.cb_interp.proofs.TurnsSwitched.{operand_there}
 use Rattle.cb_interp.proofs.need_turns.switch_need.Goals as goal

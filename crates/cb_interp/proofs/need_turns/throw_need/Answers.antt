@@ -3,7 +3,7 @@ use Rattle.std.proofs.lemmas.Bool.{false≢true}
 use Rattle.cb_heap.specs.Reading.{seen}
 use Rattle.cb_safety.proofs.Laws.{typed_states_are_closed}
 use Rattle.cb_interp.specs.Running.{StopsBy}
-use Rattle.cb_interp.specs.Turning.{machine_of, moment_of, state_of}
+use Rattle.cb_act.specs.Turning.{machine_of, moment_of, state_of}
 use Rattle.cb_interp.proofs.TurnsNeed.{counts_as, made_as, stops_as}
 use Rattle.cb_interp.proofs.need_turns.throw_need.Goals as goal
 

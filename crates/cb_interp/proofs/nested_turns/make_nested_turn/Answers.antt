@@ -8,8 +8,8 @@ use Rattle.cb_plain.specs.declared.want.Want.{Want}
 use Rattle.std.specs.List.{AllByRecursion}
 use Rattle.cb_interp.specs.Arguments.{Covers}
 use Rattle.cb_interp.specs.Nested.{Grid, GridFits, grid_on, knows_nested, nested_objects, nested_wants}
-use Rattle.cb_interp.specs.Placing.{at_place}
-use Rattle.cb_interp.specs.Turning.{TurnRefused, machine_of, moment_of, state_of}
+use Rattle.cb_act.specs.Placing.{at_place}
+use Rattle.cb_act.specs.Turning.{TurnRefused, machine_of, moment_of, state_of}
 use Rattle.cb_interp.proofs.TurnsMaking.{handed_on}
 use Rattle.cb_interp.proofs.TurnsNestedRoom.{nested_sites}
 use Rattle.cb_interp.proofs.TurnsNestedTurn.{behind_nested, grid_again, has_grid_again, nested_refused, nested_turn, stack_still}

@@ -14,7 +14,7 @@ use Rattle.cb_safety.proofs.Laws.{typed_states_are_closed}
 use Rattle.cb_interp.specs.Arguments.{Covers}
 use Rattle.cb_interp.specs.Fit.{ShapesOf}
 use Rattle.cb_interp.specs.TextStatics.{HasSerials, first_plan, wants_behind}
-use Rattle.cb_interp.specs.Turning.{TurnRefused, facts_behind, machine_of, moment_of, state_of}
+use Rattle.cb_act.specs.Turning.{TurnRefused, facts_behind, machine_of, moment_of, state_of}
 use Rattle.cb_interp.proofs.TurnsMaking.{handed_on}
 use Rattle.cb_interp.proofs.TurnsNeedBegun.{class_there, statics_there}
 use Rattle.cb_interp.proofs.TurnsTextBegun.{asks_again, quiet_texts, sites_known, texts_refused, texts_turn}

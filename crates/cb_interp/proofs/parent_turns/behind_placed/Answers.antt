@@ -8,7 +8,7 @@ use Rattle.cb_machine.specs.Plans.{Plan, made}
 use Rattle.cb_plain.specs.Depth.{has_room}
 use Rattle.cb_interp.specs.Arguments.{Covers}
 use Rattle.cb_interp.specs.TextStatics.{HasSerials, first_plan, wants_behind}
-use Rattle.cb_interp.specs.Turning.{facts_behind, machine_of, state_of}
+use Rattle.cb_act.specs.Turning.{facts_behind, machine_of, state_of}
 use Rattle.cb_interp.proofs.TurnsTextBehind.{begun_grown, closed_grown, first_grown}
 use Rattle.cb_interp.proofs.parent_turns.behind_placed.Goals as goal
 

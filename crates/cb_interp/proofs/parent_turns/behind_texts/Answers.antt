@@ -1,7 +1,7 @@
 use Rattle.std.proofs.Common.{◌∙◌, ◌+◌, ap, arith, refl, sym, Some}
 use Rattle.cb_frames.specs.Tops.{placed}
 use Rattle.cb_heap.specs.Reading.{read_roots, seen}
-use Rattle.cb_interp.specs.Turning.{machine_of, state_of}
+use Rattle.cb_act.specs.Turning.{machine_of, state_of}
 use Rattle.cb_interp.proofs.TurnsTextBegun.{deep_so}
 use Rattle.cb_interp.proofs.TurnsTextBehind.{room_read_placed}
 use Rattle.cb_interp.proofs.parent_turns.behind_texts.Goals as goal

@@ -1,17 +1,19 @@
-use Rattle.std.proofs.Common.{◌∙◌, ap, arith, ◌≡◌, ◌+◌, refl, rules, suc, sym, subst, ℕ, IsTrue}
+use Rattle.std.proofs.Common.{◌∙◌, ap, arith, ◌≡◌, ◌≤◌, ◌+◌, refl, rules, sym, subst, ℕ, IsTrue}
 use Rattle.std.specs.declared.result.Result.TheVariants.{Err}
 use Rattle.cb_heap.specs.Kept.{is_kept}
 use Rattle.cb_heap.specs.Reading.{seen}
 use Rattle.cb_machine.specs.Runs.{after}
-use Rattle.cb_interp.specs.Running.{MayRun, SaysBy, TurnStops, Turned, outside_of}
-use Rattle.cb_interp.specs.Turning.{Moment, machine_of, moment_of, state_of}
+use Rattle.cb_interp.specs.Quick.{TurnedBy}
+use Rattle.cb_interp.specs.Running.{MayRun, SaysBy, TurnStops, outside_of}
+use Rattle.cb_act.specs.Turning.{Moment, machine_of, moment_of, state_of}
 use Rattle.cb_interp.proofs.RunCounts.{counts_as, counts_none, counts_still, counts_then, output_ends, output_stops, report_ends, report_stops}
-use Rattle.cb_interp.proofs.RunLoop.{Ran, ended_goes, ended_stops, ends_at, ends_spent, ran_more, ran_none, stays_silent, stopped_uncaught, stops_turn, takes_turn}
+use Rattle.cb_interp.proofs.RunLoop.{Ran, ended_goes, ended_stops, ends_at, ends_spent, ran_none, stays_silent, stopped_uncaught, stops_turn, takes_turn}
+use Rattle.cb_interp.proofs.RunQuick.{ran_on}
 use Rattle.cb_interp.proofs.RunTyped.{after_typed, made_closed, may_run_on, stands_typed, uncaught_kept}
 use Rattle.cb_interp.proofs.running.run.Goals as goal
 
-pub loop-number-init : goal.loop-number-init
-loop-number-init g c =
+pub loop-made-init : goal.loop-made-init
+loop-made-init g c =
     let view = seen (g.S.Store.index c.args.store.now) (g.S.Store.kept c.args.store.now) c.args.roots.now.roots in
     record {
       ran = ran_none g.S.Store.rules (machine_of c.args.program.now c.args.roots.now.limit) g.full view (g.S.Store.facts c.args.store.now) (g.O.Sink.taken c.args.out.now) c.requires.1.1.1.1.0;
@@ -24,173 +26,176 @@ loop-number-init g c =
       output = counts_none (g.O.Sink.faults c.args.out.now);
     }
 
-pub turn-requires : goal.turn-requires
-turn-requires g c κs within =
+pub turns-requires : goal.turns-requires
+turns-requires g c κs within =
     let machine = machine_of c.args.program.now c.args.roots.now.limit in
-    let now = c.loop-number.invariant in
-    let view = seen (g.S.Store.index c.loop-number.store) (g.S.Store.kept c.loop-number.store) c.loop-number.roots.roots in
-    let state = after machine c.loop-number.number g.full in (
+    let now = c.loop-made.invariant in
+    let view = seen (g.S.Store.index c.loop-made.store) (g.S.Store.kept c.loop-made.store) c.loop-made.roots.roots in
+    let state = after machine c.loop-made.made g.full in
+    let low = c.loop-made-test.true in (
       search rules,
       (
         search rules,
         (
-          subst (λ (limit : ℕ). MayRun c.args.program.now (g.S.Store.shapes c.loop-number.store) (g.S.Store.knows c.loop-number.store) (g.S.Store.allows c.loop-number.store)
-              (state_of view (outside_of (after (machine_of c.args.program.now limit) c.loop-number.number g.full)))) (sym now.limit)
+          subst (λ (limit : ℕ). MayRun c.args.program.now (g.S.Store.shapes c.loop-made.store) (g.S.Store.knows c.loop-made.store) (g.S.Store.allows c.loop-made.store)
+              (state_of view (outside_of (after (machine_of c.args.program.now limit) c.loop-made.made g.full)))) (sym now.limit)
               (may_run_on c.args.program.now c.requires.1.1.0 now.shapes now.knows now.allows
-              (stands_typed c.args.program.now (moment_of view (outside_of state) (g.S.Store.facts c.loop-number.store)) state now.ran.stands
-              (after_typed machine c.requires.1.1.0.linked c.requires.1.1.0.fits c.loop-number.number g.full c.requires.1.1.1.0))),
-          search rules,
+              (stands_typed c.args.program.now (moment_of view (outside_of state) (g.S.Store.facts c.loop-made.store)) state now.ran.stands
+              (after_typed machine c.requires.1.1.0.linked c.requires.1.1.0.fits c.loop-made.made g.full c.requires.1.1.1.0))),
+          (omega (arith, low), search rules),
         ),
       ),
     )
 
-pub loop-number-preserved : goal.loop-number-preserved
-loop-number-preserved g c =
+pub loop-made-preserved : goal.loop-made-preserved
+loop-made-preserved g c =
     let machine = machine_of c.args.program.now c.args.roots.now.limit in
-    let now = c.loop-number.invariant in
+    let now = c.loop-made.invariant in
     let first = moment_of (seen (g.S.Store.index c.args.store.now) (g.S.Store.kept c.args.store.now) c.args.roots.now.roots) (outside_of g.full) (g.S.Store.facts c.args.store.now) in
-    let view = seen (g.S.Store.index c.loop-number.store) (g.S.Store.kept c.loop-number.store) c.loop-number.roots.roots in
-    let later = seen (g.S.Store.index c.turn.new.store) (g.S.Store.kept c.turn.new.store) c.turn.new.roots.roots in
-    let turned = subst (λ (limit : ℕ). Turned g.S.Store.rules (machine_of c.args.program.now limit) (outside_of (after (machine_of c.args.program.now limit) c.loop-number.number g.full))
-    view later (g.S.Store.facts c.loop-number.store) (g.S.Store.facts c.turn.new.store) (g.O.Sink.taken c.loop-number.out) (g.O.Sink.taken c.turn.new.out)) now.limit c.in_default.ensures.made in
-    let next : suc c.loop-number.number ≡ c.loop-number.number + 1 = omega arith in
+    let view = seen (g.S.Store.index c.loop-made.store) (g.S.Store.kept c.loop-made.store) c.loop-made.roots.roots in
+    let later = seen (g.S.Store.index c.turns.new.store) (g.S.Store.kept c.turns.new.store) c.turns.new.roots.roots in
+    let turned = subst (λ (limit : ℕ). TurnedBy c.in-Ok.more g.S.Store.rules (machine_of c.args.program.now limit) (outside_of (after (machine_of c.args.program.now limit) c.loop-made.made g.full))
+    view later (g.S.Store.facts c.loop-made.store) (g.S.Store.facts c.turns.new.store) (g.O.Sink.taken c.loop-made.out) (g.O.Sink.taken c.turns.new.out)) now.limit c.in-Ok.ensures.made in
+    let within = c.in-Ok.ensures.within in
+    let low = now.low in
+    let sum : c.loop-made.made + c.in-Ok.more ≤ c.args.steps = omega (arith, within, low) in
     record {
-      ran = subst (λ (number : ℕ). Ran g.S.Store.rules machine g.full number first later (g.S.Store.facts c.turn.new.store) (g.O.Sink.taken c.args.out.now) (g.O.Sink.taken c.turn.new.out)) next
-          (ran_more g.S.Store.rules machine g.full c.loop-number.number first view later (g.S.Store.facts c.loop-number.store) (g.S.Store.facts c.turn.new.store)
-          (g.O.Sink.taken c.args.out.now) (g.O.Sink.taken c.loop-number.out) (g.O.Sink.taken c.turn.new.out) now.ran turned
-          (λ own is. made_closed machine c.requires.1.1.0.linked c.requires.1.1.0.fits (after machine c.loop-number.number g.full) own
-          (after_typed machine c.requires.1.1.0.linked c.requires.1.1.0.fits c.loop-number.number g.full c.requires.1.1.1.0) is));
-      low = omega (arith, c.loop-number-test.true);
-      limit = c.turn.ensures.limit ∙ now.limit;
-      knows = c.turn.ensures.knows ∙ now.knows;
-      allows = c.turn.ensures.allows ∙ now.allows;
-      shapes = c.turn.ensures.shapes ∙ now.shapes;
-      faults = counts_then (g.S.Store.faults c.args.store.now) (g.S.Store.faults c.loop-number.store) (g.S.Store.faults c.turn.new.store) now.faults
-          (counts_still (g.S.Store.faults c.loop-number.store) (g.S.Store.faults c.turn.new.store) (λ failed. cc (sym c.in_default.is ∙ failed)) c.turn.ensures.counted);
-      output = counts_then (g.O.Sink.faults c.args.out.now) (g.O.Sink.faults c.loop-number.out) (g.O.Sink.faults c.turn.new.out) now.output
-          (counts_still (g.O.Sink.faults c.loop-number.out) (g.O.Sink.faults c.turn.new.out) (λ failed. cc (sym c.in_default.is ∙ failed)) c.turn.ensures.output);
+      ran = ran_on g.S.Store.rules machine g.full c.loop-made.made c.in-Ok.more first view later (g.S.Store.facts c.loop-made.store) (g.S.Store.facts c.turns.new.store)
+          (g.O.Sink.taken c.args.out.now) (g.O.Sink.taken c.loop-made.out) (g.O.Sink.taken c.turns.new.out) now.ran turned
+          (λ steps own is. made_closed machine c.requires.1.1.0.linked c.requires.1.1.0.fits (after machine steps (after machine c.loop-made.made g.full)) own
+          (after_typed machine c.requires.1.1.0.linked c.requires.1.1.0.fits steps (after machine c.loop-made.made g.full)
+          (after_typed machine c.requires.1.1.0.linked c.requires.1.1.0.fits c.loop-made.made g.full c.requires.1.1.1.0)) is);
+      low = sum;
+      limit = c.turns.ensures.limit ∙ now.limit;
+      knows = c.turns.ensures.knows ∙ now.knows;
+      allows = c.turns.ensures.allows ∙ now.allows;
+      shapes = c.turns.ensures.shapes ∙ now.shapes;
+      faults = counts_then (g.S.Store.faults c.args.store.now) (g.S.Store.faults c.loop-made.store) (g.S.Store.faults c.turns.new.store) now.faults
+          (counts_still (g.S.Store.faults c.loop-made.store) (g.S.Store.faults c.turns.new.store) (λ failed. cc (sym c.in-Ok.is ∙ failed)) c.turns.ensures.counted);
+      output = counts_then (g.O.Sink.faults c.args.out.now) (g.O.Sink.faults c.loop-made.out) (g.O.Sink.faults c.turns.new.out) now.output
+          (counts_still (g.O.Sink.faults c.loop-made.out) (g.O.Sink.faults c.turns.new.out) (λ failed. cc (sym c.in-Ok.is ∙ failed)) c.turns.ensures.output);
     }
 
 pub returns-in-Err-clause-ended : goal.returns-in-Err-clause-ended
 returns-in-Err-clause-ended g c =
     let machine = machine_of c.args.program.now c.args.roots.now.limit in
-    let now = c.loop-number.invariant in
+    let now = c.loop-made.invariant in
     let first = moment_of (seen (g.S.Store.index c.args.store.now) (g.S.Store.kept c.args.store.now) c.args.roots.now.roots) (outside_of g.full) (g.S.Store.facts c.args.store.now) in
-    let view = seen (g.S.Store.index c.loop-number.store) (g.S.Store.kept c.loop-number.store) c.loop-number.roots.roots in
-    let later = seen (g.S.Store.index c.turn.new.store) (g.S.Store.kept c.turn.new.store) c.turn.new.roots.roots in
-    ends_at g.S.Store.rules machine g.full c.args.steps c.loop-number.number first view later (g.S.Store.facts c.loop-number.store) (g.S.Store.facts c.turn.new.store)
-    (g.O.Sink.taken c.args.out.now) (g.O.Sink.taken c.loop-number.out) (g.O.Sink.taken c.turn.new.out) now.ran c.in-Err.stop c.stopped.result now.low
-    (λ turn. omega (arith, c.loop-number-test.true))
+    let view = seen (g.S.Store.index c.loop-made.store) (g.S.Store.kept c.loop-made.store) c.loop-made.roots.roots in
+    let later = seen (g.S.Store.index c.turns.new.store) (g.S.Store.kept c.turns.new.store) c.turns.new.roots.roots in
+    ends_at g.S.Store.rules machine g.full c.args.steps c.loop-made.made first view later (g.S.Store.facts c.loop-made.store) (g.S.Store.facts c.turns.new.store)
+    (g.O.Sink.taken c.args.out.now) (g.O.Sink.taken c.loop-made.out) (g.O.Sink.taken c.turns.new.out) now.ran c.in-Err.stop c.stopped.result now.low
+    (λ turn. omega (arith, c.loop-made-test.true))
     (subst (λ (limit : ℕ). TurnStops g.S.Store.rules (machine_of c.args.program.now limit) c.in-Err.stop
-    (moment_of view (outside_of (after (machine_of c.args.program.now limit) c.loop-number.number g.full)) (g.S.Store.facts c.loop-number.store))
-    (moment_of later (outside_of (after (machine_of c.args.program.now limit) c.loop-number.number g.full)) (g.S.Store.facts c.turn.new.store))) now.limit c.in-Err.ensures.stopped)
-    (subst (λ (limit : ℕ). SaysBy (machine_of c.args.program.now limit) (state_of view (outside_of (after (machine_of c.args.program.now limit) c.loop-number.number g.full)))
-    c.in-Err.stop (g.O.Sink.taken c.loop-number.out) (g.O.Sink.taken c.turn.new.out)) now.limit c.in-Err.ensures.left)
+    (moment_of view (outside_of (after (machine_of c.args.program.now limit) c.loop-made.made g.full)) (g.S.Store.facts c.loop-made.store))
+    (moment_of later (outside_of (after (machine_of c.args.program.now limit) c.loop-made.made g.full)) (g.S.Store.facts c.turns.new.store))) now.limit c.in-Err.ensures.stopped)
+    (subst (λ (limit : ℕ). SaysBy (machine_of c.args.program.now limit) (state_of view (outside_of (after (machine_of c.args.program.now limit) c.loop-made.made g.full)))
+    c.in-Err.stop (g.O.Sink.taken c.loop-made.out) (g.O.Sink.taken c.turns.new.out)) now.limit c.in-Err.ensures.left)
     c.stopped.ensures.is
 
 pub stopped-requires : goal.stopped-requires
 stopped-requires g c = record {
   there = λ same.
       let machine = machine_of c.args.program.now c.args.roots.now.limit in
-      let now = c.loop-number.invariant in
-      let state = after machine c.loop-number.number g.full in
-      let view = seen (g.S.Store.index c.loop-number.store) (g.S.Store.kept c.loop-number.store) c.loop-number.roots.roots in
-      let later = seen (g.S.Store.index c.turn.new.store) (g.S.Store.kept c.turn.new.store) c.turn.new.roots.roots in
-      let before = moment_of view (outside_of state) (g.S.Store.facts c.loop-number.store) in
-      let behind = moment_of later (outside_of state) (g.S.Store.facts c.turn.new.store) in
+      let now = c.loop-made.invariant in
+      let state = after machine c.loop-made.made g.full in
+      let view = seen (g.S.Store.index c.loop-made.store) (g.S.Store.kept c.loop-made.store) c.loop-made.roots.roots in
+      let later = seen (g.S.Store.index c.turns.new.store) (g.S.Store.kept c.turns.new.store) c.turns.new.roots.roots in
+      let before = moment_of view (outside_of state) (g.S.Store.facts c.loop-made.store) in
+      let behind = moment_of later (outside_of state) (g.S.Store.facts c.turns.new.store) in
       let stopped = stopped_uncaught g.S.Store.rules machine c.in-Err.stop before behind same
       (subst (λ (limit : ℕ). TurnStops g.S.Store.rules (machine_of c.args.program.now limit) c.in-Err.stop
-      (moment_of view (outside_of (after (machine_of c.args.program.now limit) c.loop-number.number g.full)) (g.S.Store.facts c.loop-number.store))
-      (moment_of later (outside_of (after (machine_of c.args.program.now limit) c.loop-number.number g.full)) (g.S.Store.facts c.turn.new.store))) now.limit c.in-Err.ensures.stopped) in
+      (moment_of view (outside_of (after (machine_of c.args.program.now limit) c.loop-made.made g.full)) (g.S.Store.facts c.loop-made.store))
+      (moment_of later (outside_of (after (machine_of c.args.program.now limit) c.loop-made.made g.full)) (g.S.Store.facts c.turns.new.store))) now.limit c.in-Err.ensures.stopped) in
       let typed = stands_typed c.args.program.now before state now.ran.stands
-      (after_typed machine c.requires.1.1.0.linked c.requires.1.1.0.fits c.loop-number.number g.full c.requires.1.1.1.0) in
+      (after_typed machine c.requires.1.1.0.linked c.requires.1.1.0.fits c.loop-made.made g.full c.requires.1.1.1.0) in
       subst (λ (moment : Moment g.S.Store.Facts). IsTrue (is_kept moment.state.objects moment.state.roots.pending)) (sym stopped.0)
-      (uncaught_kept (g.S.Store.index c.loop-number.store) (g.S.Store.kept c.loop-number.store) (outside_of state) c.args.program.now c.loop-number.roots.roots typed stopped.1);
+      (uncaught_kept (g.S.Store.index c.loop-made.store) (g.S.Store.kept c.loop-made.store) (outside_of state) c.args.program.now c.loop-made.roots.roots typed stopped.1);
 }
 
 pub returns-in-Err-clause-counted : goal.returns-in-Err-clause-counted
 returns-in-Err-clause-counted g c =
-    let later = seen (g.S.Store.index c.turn.new.store) (g.S.Store.kept c.turn.new.store) c.turn.new.roots.roots in
-    counts_then (g.S.Store.faults c.args.store.now) (g.S.Store.faults c.loop-number.store) (g.S.Store.faults c.turn.new.store) c.loop-number.invariant.faults
-    (counts_as (g.S.Store.faults c.loop-number.store) (g.S.Store.faults c.turn.new.store)
+    let later = seen (g.S.Store.index c.turns.new.store) (g.S.Store.kept c.turns.new.store) c.turns.new.roots.roots in
+    counts_then (g.S.Store.faults c.args.store.now) (g.S.Store.faults c.loop-made.store) (g.S.Store.faults c.turns.new.store) c.loop-made.invariant.faults
+    (counts_as (g.S.Store.faults c.loop-made.store) (g.S.Store.faults c.turns.new.store)
     (λ failed. report_ends later c.in-Err.stop c.stopped.result c.stopped.ensures.is (cc (c.in-Err.is, failed)))
-    (λ ended. c.in-Err.is ∙ ap Err (report_stops later c.in-Err.stop c.stopped.result c.stopped.ensures.is ended)) c.turn.ensures.counted)
+    (λ ended. c.in-Err.is ∙ ap Err (report_stops later c.in-Err.stop c.stopped.result c.stopped.ensures.is ended)) c.turns.ensures.counted)
 
 pub returns-in-Err-clause-output : goal.returns-in-Err-clause-output
 returns-in-Err-clause-output g c =
-    let later = seen (g.S.Store.index c.turn.new.store) (g.S.Store.kept c.turn.new.store) c.turn.new.roots.roots in
-    counts_then (g.O.Sink.faults c.args.out.now) (g.O.Sink.faults c.loop-number.out) (g.O.Sink.faults c.turn.new.out) c.loop-number.invariant.output
-    (counts_as (g.O.Sink.faults c.loop-number.out) (g.O.Sink.faults c.turn.new.out)
+    let later = seen (g.S.Store.index c.turns.new.store) (g.S.Store.kept c.turns.new.store) c.turns.new.roots.roots in
+    counts_then (g.O.Sink.faults c.args.out.now) (g.O.Sink.faults c.loop-made.out) (g.O.Sink.faults c.turns.new.out) c.loop-made.invariant.output
+    (counts_as (g.O.Sink.faults c.loop-made.out) (g.O.Sink.faults c.turns.new.out)
     (λ failed. output_ends later c.in-Err.stop c.stopped.result c.stopped.ensures.is (cc (c.in-Err.is, failed)))
-    (λ ended. c.in-Err.is ∙ ap Err (output_stops later c.in-Err.stop c.stopped.result c.stopped.ensures.is ended)) c.turn.ensures.output)
+    (λ ended. c.in-Err.is ∙ ap Err (output_stops later c.in-Err.stop c.stopped.result c.stopped.ensures.is ended)) c.turns.ensures.output)
 
 pub stopped-requires-in-Some : goal.stopped-requires-in-Some
 stopped-requires-in-Some g c = record {
   there = λ same.
       let machine = machine_of c.args.program.now c.args.roots.now.limit in
-      let now = c.loop-number.invariant in
-      let state = after machine c.loop-number.number g.full in
-      let view = seen (g.S.Store.index c.loop-number.store) (g.S.Store.kept c.loop-number.store) c.loop-number.roots.roots in
-      let before = moment_of view (outside_of state) (g.S.Store.facts c.loop-number.store) in
-      let ended = ended_stops g.S.Store.rules machine (g.S.Store.index c.loop-number.store) (g.S.Store.kept c.loop-number.store) (outside_of state) (g.S.Store.facts c.loop-number.store)
-      c.loop-number.roots.roots c.in-Some.stop (sym c.ended.ensures ∙ c.in-Some.is) in
+      let now = c.loop-made.invariant in
+      let state = after machine c.loop-made.made g.full in
+      let view = seen (g.S.Store.index c.loop-made.store) (g.S.Store.kept c.loop-made.store) c.loop-made.roots.roots in
+      let before = moment_of view (outside_of state) (g.S.Store.facts c.loop-made.store) in
+      let ended = ended_stops g.S.Store.rules machine (g.S.Store.index c.loop-made.store) (g.S.Store.kept c.loop-made.store) (outside_of state) (g.S.Store.facts c.loop-made.store)
+      c.loop-made.roots.roots c.in-Some.stop (sym c.ended.ensures ∙ c.in-Some.is) in
       let stopped = stopped_uncaught g.S.Store.rules machine c.in-Some.stop before before same (stops_turn g.S.Store.rules machine c.in-Some.stop before ended.0) in
       let typed = stands_typed c.args.program.now before state now.ran.stands
-      (after_typed machine c.requires.1.1.0.linked c.requires.1.1.0.fits c.loop-number.number g.full c.requires.1.1.1.0) in
-      uncaught_kept (g.S.Store.index c.loop-number.store) (g.S.Store.kept c.loop-number.store) (outside_of state) c.args.program.now c.loop-number.roots.roots typed stopped.1;
+      (after_typed machine c.requires.1.1.0.linked c.requires.1.1.0.fits c.loop-made.made g.full c.requires.1.1.1.0) in
+      uncaught_kept (g.S.Store.index c.loop-made.store) (g.S.Store.kept c.loop-made.store) (outside_of state) c.args.program.now c.loop-made.roots.roots typed stopped.1;
 }
 
 pub returns-in-Some-clause-ended : goal.returns-in-Some-clause-ended
 returns-in-Some-clause-ended g c =
     let machine = machine_of c.args.program.now c.args.roots.now.limit in
-    let now = c.loop-number.invariant in
+    let now = c.loop-made.invariant in
     let first = moment_of (seen (g.S.Store.index c.args.store.now) (g.S.Store.kept c.args.store.now) c.args.roots.now.roots) (outside_of g.full) (g.S.Store.facts c.args.store.now) in
-    let state = after machine c.loop-number.number g.full in
-    let view = seen (g.S.Store.index c.loop-number.store) (g.S.Store.kept c.loop-number.store) c.loop-number.roots.roots in
-    let before = moment_of view (outside_of state) (g.S.Store.facts c.loop-number.store) in
-    let ended = ended_stops g.S.Store.rules machine (g.S.Store.index c.loop-number.store) (g.S.Store.kept c.loop-number.store) (outside_of state) (g.S.Store.facts c.loop-number.store)
-    c.loop-number.roots.roots c.in-Some.stop (sym c.ended.ensures ∙ c.in-Some.is) in
-    ends_at g.S.Store.rules machine g.full c.args.steps c.loop-number.number first view view (g.S.Store.facts c.loop-number.store) (g.S.Store.facts c.loop-number.store)
-    (g.O.Sink.taken c.args.out.now) (g.O.Sink.taken c.loop-number.out) (g.O.Sink.taken c.loop-number.out) now.ran c.in-Some.stop c.stopped-in-Some.result now.low
+    let state = after machine c.loop-made.made g.full in
+    let view = seen (g.S.Store.index c.loop-made.store) (g.S.Store.kept c.loop-made.store) c.loop-made.roots.roots in
+    let before = moment_of view (outside_of state) (g.S.Store.facts c.loop-made.store) in
+    let ended = ended_stops g.S.Store.rules machine (g.S.Store.index c.loop-made.store) (g.S.Store.kept c.loop-made.store) (outside_of state) (g.S.Store.facts c.loop-made.store)
+    c.loop-made.roots.roots c.in-Some.stop (sym c.ended.ensures ∙ c.in-Some.is) in
+    ends_at g.S.Store.rules machine g.full c.args.steps c.loop-made.made first view view (g.S.Store.facts c.loop-made.store) (g.S.Store.facts c.loop-made.store)
+    (g.O.Sink.taken c.args.out.now) (g.O.Sink.taken c.loop-made.out) (g.O.Sink.taken c.loop-made.out) now.ran c.in-Some.stop c.stopped-in-Some.result now.low
     (λ turn. absurd (ended.1 turn)) (stops_turn g.S.Store.rules machine c.in-Some.stop before ended.0)
-    (stays_silent machine before.state c.in-Some.stop (g.O.Sink.taken c.loop-number.out) ended.1) c.stopped-in-Some.ensures.is
+    (stays_silent machine before.state c.in-Some.stop (g.O.Sink.taken c.loop-made.out) ended.1) c.stopped-in-Some.ensures.is
 
 pub returns-in-Some-clause-counted : goal.returns-in-Some-clause-counted
 returns-in-Some-clause-counted g c =
     let machine = machine_of c.args.program.now c.args.roots.now.limit in
-    let state = after machine c.loop-number.number g.full in
-    let view = seen (g.S.Store.index c.loop-number.store) (g.S.Store.kept c.loop-number.store) c.loop-number.roots.roots in
-    let ended = ended_stops g.S.Store.rules machine (g.S.Store.index c.loop-number.store) (g.S.Store.kept c.loop-number.store) (outside_of state) (g.S.Store.facts c.loop-number.store)
-    c.loop-number.roots.roots c.in-Some.stop (sym c.ended.ensures ∙ c.in-Some.is) in
-    counts_as (g.S.Store.faults c.args.store.now) (g.S.Store.faults c.loop-number.store) (λ never. absurd never)
-    (λ ends. ended.1 (subst takes_turn (sym (report_stops view c.in-Some.stop c.stopped-in-Some.result c.stopped-in-Some.ensures.is ends)) tt)) c.loop-number.invariant.faults
+    let state = after machine c.loop-made.made g.full in
+    let view = seen (g.S.Store.index c.loop-made.store) (g.S.Store.kept c.loop-made.store) c.loop-made.roots.roots in
+    let ended = ended_stops g.S.Store.rules machine (g.S.Store.index c.loop-made.store) (g.S.Store.kept c.loop-made.store) (outside_of state) (g.S.Store.facts c.loop-made.store)
+    c.loop-made.roots.roots c.in-Some.stop (sym c.ended.ensures ∙ c.in-Some.is) in
+    counts_as (g.S.Store.faults c.args.store.now) (g.S.Store.faults c.loop-made.store) (λ never. absurd never)
+    (λ ends. ended.1 (subst takes_turn (sym (report_stops view c.in-Some.stop c.stopped-in-Some.result c.stopped-in-Some.ensures.is ends)) tt)) c.loop-made.invariant.faults
 
 pub returns-in-Some-clause-output : goal.returns-in-Some-clause-output
 returns-in-Some-clause-output g c =
     let machine = machine_of c.args.program.now c.args.roots.now.limit in
-    let state = after machine c.loop-number.number g.full in
-    let view = seen (g.S.Store.index c.loop-number.store) (g.S.Store.kept c.loop-number.store) c.loop-number.roots.roots in
-    let ended = ended_stops g.S.Store.rules machine (g.S.Store.index c.loop-number.store) (g.S.Store.kept c.loop-number.store) (outside_of state) (g.S.Store.facts c.loop-number.store)
-    c.loop-number.roots.roots c.in-Some.stop (sym c.ended.ensures ∙ c.in-Some.is) in
-    counts_as (g.O.Sink.faults c.args.out.now) (g.O.Sink.faults c.loop-number.out) (λ never. absurd never)
-    (λ ends. ended.1 (subst takes_turn (sym (output_stops view c.in-Some.stop c.stopped-in-Some.result c.stopped-in-Some.ensures.is ends)) tt)) c.loop-number.invariant.output
+    let state = after machine c.loop-made.made g.full in
+    let view = seen (g.S.Store.index c.loop-made.store) (g.S.Store.kept c.loop-made.store) c.loop-made.roots.roots in
+    let ended = ended_stops g.S.Store.rules machine (g.S.Store.index c.loop-made.store) (g.S.Store.kept c.loop-made.store) (outside_of state) (g.S.Store.facts c.loop-made.store)
+    c.loop-made.roots.roots c.in-Some.stop (sym c.ended.ensures ∙ c.in-Some.is) in
+    counts_as (g.O.Sink.faults c.args.out.now) (g.O.Sink.faults c.loop-made.out) (λ never. absurd never)
+    (λ ends. ended.1 (subst takes_turn (sym (output_stops view c.in-Some.stop c.stopped-in-Some.result c.stopped-in-Some.ensures.is ends)) tt)) c.loop-made.invariant.output
 
 pub returns-in-None-clause-ended : goal.returns-in-None-clause-ended
 returns-in-None-clause-ended g c =
     let machine = machine_of c.args.program.now c.args.roots.now.limit in
-    let now = c.loop-number.invariant in
+    let now = c.loop-made.invariant in
     let first = moment_of (seen (g.S.Store.index c.args.store.now) (g.S.Store.kept c.args.store.now) c.args.roots.now.roots) (outside_of g.full) (g.S.Store.facts c.args.store.now) in
-    let state = after machine c.loop-number.number g.full in
-    let view = seen (g.S.Store.index c.loop-number.store) (g.S.Store.kept c.loop-number.store) c.loop-number.roots.roots in
-    let goes = ended_goes g.S.Store.rules machine (g.S.Store.index c.loop-number.store) (g.S.Store.kept c.loop-number.store) (outside_of state) (g.S.Store.facts c.loop-number.store)
-    c.loop-number.roots.roots (sym c.ended.ensures ∙ c.in-None.is) in
-    ends_spent g.S.Store.rules machine g.full c.args.steps c.loop-number.number first view view (g.S.Store.facts c.loop-number.store) (g.S.Store.facts c.loop-number.store)
-    (g.O.Sink.taken c.args.out.now) (g.O.Sink.taken c.loop-number.out) (g.O.Sink.taken c.loop-number.out) now.ran (omega (arith, now.low, c.loop-number-test.false)) goes refl refl
+    let state = after machine c.loop-made.made g.full in
+    let view = seen (g.S.Store.index c.loop-made.store) (g.S.Store.kept c.loop-made.store) c.loop-made.roots.roots in
+    let goes = ended_goes g.S.Store.rules machine (g.S.Store.index c.loop-made.store) (g.S.Store.kept c.loop-made.store) (outside_of state) (g.S.Store.facts c.loop-made.store)
+    c.loop-made.roots.roots (sym c.ended.ensures ∙ c.in-None.is) in
+    ends_spent g.S.Store.rules machine g.full c.args.steps c.loop-made.made first view view (g.S.Store.facts c.loop-made.store) (g.S.Store.facts c.loop-made.store)
+    (g.O.Sink.taken c.args.out.now) (g.O.Sink.taken c.loop-made.out) (g.O.Sink.taken c.loop-made.out) now.ran (omega (arith, now.low, c.loop-made-test.false)) goes refl refl
 
 pub returns-in-None-clause-counted : goal.returns-in-None-clause-counted
 returns-in-None-clause-counted g c =
-    counts_as (g.S.Store.faults c.args.store.now) (g.S.Store.faults c.loop-number.store) (λ never. absurd never) (λ ends. cc ends) c.loop-number.invariant.faults
+    counts_as (g.S.Store.faults c.args.store.now) (g.S.Store.faults c.loop-made.store) (λ never. absurd never) (λ ends. cc ends) c.loop-made.invariant.faults
 
 pub returns-in-None-clause-output : goal.returns-in-None-clause-output
 returns-in-None-clause-output g c =
-    counts_as (g.O.Sink.faults c.args.out.now) (g.O.Sink.faults c.loop-number.out) (λ never. absurd never) (λ ends. cc ends) c.loop-number.invariant.output
+    counts_as (g.O.Sink.faults c.args.out.now) (g.O.Sink.faults c.loop-made.out) (λ never. absurd never) (λ ends. cc ends) c.loop-made.invariant.output

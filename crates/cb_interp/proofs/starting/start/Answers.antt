@@ -14,7 +14,7 @@ use Rattle.cb_plain.specs.State.{Object}
 use Rattle.cb_plain.specs.declared.want.Want.{Want}
 use Rattle.cb_interp.specs.Arguments.{all_wants}
 use Rattle.cb_interp.specs.Starting.{MayStart, RefusesStart, first_objects, unread}
-use Rattle.cb_interp.specs.Turning.{machine_of, moment_of}
+use Rattle.cb_act.specs.Turning.{machine_of, moment_of}
 use Rattle.cb_interp.proofs.TurnsMaking.{handed_on}
 use Rattle.cb_interp.proofs.TurnsStarting.{begins_with, handed_same, none_left, ruled_so, seen_empty, state_so, statics_count}
 use Rattle.cb_interp.proofs.TurnsStartingRoom.{covers_asked, first_sites}

@@ -3,7 +3,7 @@ use Rattle.std.proofs.lemmas.List.{length-map}
 use Rattle.cb_heap.proofs.Laws.{reads_room}
 use Rattle.cb_heap.specs.Reading.{read_roots, seen, serial_of}
 use Rattle.cb_machine.specs.Initialising.{begun_upon}
-use Rattle.cb_interp.specs.Turning.{machine_of, state_of}
+use Rattle.cb_act.specs.Turning.{machine_of, state_of}
 use Rattle.cb_interp.proofs.TurnsTextAsks.{asked_first, asked_last, asked_next}
 use Rattle.cb_interp.proofs.text_statics.ask_own.Goals as goal
 

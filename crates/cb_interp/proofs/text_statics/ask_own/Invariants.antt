@@ -1,6 +1,6 @@
 use Rattle.cb_heap.specs.Reading.{read_roots, seen}
 use Rattle.cb_machine.specs.Initialising.{begun_upon}
-use Rattle.cb_interp.specs.Turning.{machine_of, state_of}
+use Rattle.cb_act.specs.Turning.{machine_of, state_of}
 use Rattle.cb_interp.proofs.TurnsTextAsks.{AskedSoFar}
 use Rattle.cb_interp.proofs.text_statics.ask_own.Given as goal
 

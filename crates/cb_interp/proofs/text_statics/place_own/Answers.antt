@@ -7,7 +7,7 @@ use Rattle.cb_machine.specs.Initialising.{own_statics}
 use Rattle.cb_machine.specs.Plans.{Plan, leaving}
 use Rattle.cb_interp.specs.Fit.{ShapesOf}
 use Rattle.cb_interp.specs.TextStatics.{set_initial}
-use Rattle.cb_interp.specs.Turning.{machine_of, state_of}
+use Rattle.cb_act.specs.Turning.{machine_of, state_of}
 use Rattle.cb_interp.proofs.TurnsTextOwn.{So, may_enter, may_own, owner_is, owner_not, placed_first, so_other, so_own}
 use Rattle.cb_interp.proofs.TurnsTextPlaced.{placed_next}
 use Rattle.cb_interp.proofs.TurnsTextSlots.{slots_from}

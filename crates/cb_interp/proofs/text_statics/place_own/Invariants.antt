@@ -4,7 +4,7 @@ use Rattle.cb_heap.specs.Reading.{seen}
 use Rattle.cb_machine.specs.Initialising.{own_statics}
 use Rattle.cb_machine.specs.Plans.{leaving}
 use Rattle.cb_interp.specs.TextStatics.{set_initial}
-use Rattle.cb_interp.specs.Turning.{machine_of, state_of}
+use Rattle.cb_act.specs.Turning.{machine_of, state_of}
 use Rattle.cb_interp.proofs.TurnsTextPlaced.{PlacedSoFar}
 use Rattle.cb_interp.proofs.TurnsTextSlots.{slots_from}
 use Rattle.cb_interp.proofs.text_statics.place_own.Given as goal

@@ -1,6 +1,6 @@
 use Rattle.std.proofs.Common.{◌∙◌, ap}
 use Rattle.cb_machine.specs.Plans.{Plan, made}
-use Rattle.cb_interp.specs.Turning.{facts_behind}
+use Rattle.cb_act.specs.Turning.{facts_behind}
 use Rattle.cb_interp.proofs.TurnsTextBegun.{begun_left}
 use Rattle.cb_interp.proofs.text_turns.begin_placed.Goals as goal
 

@@ -12,7 +12,7 @@ use Rattle.cb_safety.proofs.Laws.{typed_states_are_closed}
 use Rattle.cb_interp.specs.Arguments.{Covers}
 use Rattle.cb_interp.specs.Fit.{ShapesOf}
 use Rattle.cb_interp.specs.TextStatics.{HasSerials, first_plan, wants_behind}
-use Rattle.cb_interp.specs.Turning.{facts_behind, machine_of, moment_of, state_of}
+use Rattle.cb_act.specs.Turning.{facts_behind, machine_of, moment_of, state_of}
 use Rattle.cb_interp.proofs.TurnsNeedBegun.{class_there, statics_there}
 use Rattle.cb_interp.proofs.TurnsTextBegun.{asks_again, quiet_texts, sites_known, texts_turn}
 use Rattle.cb_interp.proofs.TurnsTextTurn.{class_again, covers_made, covers_quiet, frame_again, serials_made, serials_quiet, statics_again, texts_again, texts_typed}

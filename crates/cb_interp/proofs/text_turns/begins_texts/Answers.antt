@@ -1,7 +1,7 @@
 use Rattle.std.proofs.Common.{rules, ◌≡◌, ◌∙◌, ap, arith, refl, sym, Some}
 use Rattle.cb_heap.proofs.Laws.{reads_room}
 use Rattle.cb_heap.specs.Reading.{read_roots, seen}
-use Rattle.cb_interp.specs.Turning.{machine_of, state_of}
+use Rattle.cb_act.specs.Turning.{machine_of, state_of}
 use Rattle.cb_interp.proofs.TurnsTextBegun.{deep_so}
 use Rattle.cb_interp.proofs.text_turns.begins_texts.Goals as goal
 

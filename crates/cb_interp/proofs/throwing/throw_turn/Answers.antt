@@ -5,8 +5,8 @@ use Rattle.cb_heap.specs.Reading.{View, seen}
 use Rattle.cb_machine.specs.Machine.{kind_of_site, or_zero}
 use Rattle.cb_plain.specs.Requests.{add_want}
 use Rattle.cb_plain.specs.declared.want.Want.{Want}
-use Rattle.cb_interp.specs.Placing.{thrown}
-use Rattle.cb_interp.specs.Turning.{machine_of, moment_of, state_of}
+use Rattle.cb_act.specs.Placing.{thrown}
+use Rattle.cb_act.specs.Turning.{machine_of, moment_of, state_of}
 use Rattle.cb_interp.proofs.TurnsThrown.{exception_want, thrown_turn}
 use Rattle.cb_interp.proofs.TurnsNeedSerials.{serial_left}
 use Rattle.cb_interp.proofs.throwing.throw_turn.Goals as goal

@@ -8,13 +8,13 @@ use Rattle.cb_link.specs.Calls.{IsOneOf}
 use Rattle.cb_link.specs.Decoding.{decoded}
 use Rattle.cb_machine.specs.Steps.{plan}
 use Rattle.cb_safety.specs.States.{IsTypedState}
-use Rattle.cb_interp.specs.Acting.{Asks, acted}
-use Rattle.cb_interp.specs.Here.{Here, need_plan}
+use Rattle.cb_act.specs.Acting.{Asks, acted}
+use Rattle.cb_act.specs.Here.{Here, need_plan}
 use Rattle.cb_interp.specs.Leaving.{NativeStops}
 use Rattle.cb_interp.specs.Running.{SaysBy, StopsBy, Turned}
-use Rattle.cb_interp.specs.Turning.{Moment, TurnMade, machine_of, moment_of, state_of}
+use Rattle.cb_act.specs.Turning.{Moment, TurnMade, machine_of, moment_of, state_of}
 use Rattle.cb_heap.specs.declared.no_room.NoRoom.TheVariants as rooms
-use Rattle.cb_interp.specs.declared.need.Need.TheVariants as needs
+use Rattle.cb_act.specs.declared.need.Need.TheVariants as needs
 use Rattle.cb_interp.specs.declared.stop.Stop.TheVariants as stops
 use Rattle.cb_interp.proofs.LinkedFew.{few_parameters}
 use Rattle.cb_interp.proofs.LinkedMarks.{marks_natives}

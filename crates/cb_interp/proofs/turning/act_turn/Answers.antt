@@ -1,8 +1,8 @@
 use Rattle.std.proofs.Common.{ap}
 use Rattle.std.specs.Prelude.{is_some}
 use Rattle.cb_heap.specs.Reading.{seen}
-use Rattle.cb_interp.specs.Turning.{machine_of, state_of}
-use Rattle.cb_interp.proofs.InterfaceLaws.{lists_methods}
+use Rattle.cb_act.specs.Turning.{machine_of, state_of}
+use Rattle.cb_interp.proofs.LinkedFew.{lists_methods}
 use Rattle.cb_interp.proofs.TurnsActed.{acted_need, acted_turn}
 use Rattle.cb_interp.proofs.TypedActs.{typed_acts, typed_suits}
 use Rattle.cb_interp.proofs.turning.act_turn.Goals as goal

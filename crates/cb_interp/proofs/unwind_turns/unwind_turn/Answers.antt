@@ -1,6 +1,6 @@
 use Rattle.std.proofs.Common.{ap}
 use Rattle.cb_heap.specs.Reading.{seen}
-use Rattle.cb_interp.specs.Turning.{machine_of}
+use Rattle.cb_act.specs.Turning.{machine_of}
 use Rattle.cb_interp.proofs.TurnsUnwound.{unwound_turn}
 use Rattle.cb_interp.proofs.unwind_turns.unwind_turn.Goals as goal
 

@@ -14,7 +14,7 @@ use Rattle.cb_plain.specs.declared.shape.Shape.TheVariants.{Fields}
 use Rattle.cb_plain.specs.declared.want.Want.{Want}
 use Rattle.cb_safety.proofs.Laws.{linked_sound, typed_states_are_closed}
 use Rattle.cb_unwind.specs.Unwound.{exception_size, unwound}
-use Rattle.cb_interp.specs.Turning.{TurnRefused, machine_of, moment_of, state_of}
+use Rattle.cb_act.specs.Turning.{TurnRefused, machine_of, moment_of, state_of}
 use Rattle.cb_interp.proofs.TurnsFrame.{class_held, may_catch, method_below, pending_kind, pending_there, serial_some}
 use Rattle.cb_interp.proofs.TurnsFrameWrapped.{pending_again, thrown_shape, typed_again, wrapped_refused, wrapped_turn, wraps_at}
 use Rattle.cb_interp.proofs.TurnsMaking.{handed_on}

@@ -1,7 +1,7 @@
 use Rattle.std.proofs.Common.{map, pred, subst, ℕ, [], Some}
 use Rattle.cb_heap.specs.Reading.{seen}
 use Rattle.cb_interp.specs.Starting.{BeginsWith, unread}
-use Rattle.cb_interp.specs.Turning.{machine_of as limited, moment_of}
+use Rattle.cb_act.specs.Turning.{machine_of as limited, moment_of}
 use Rattle.cb_mapheap.specs.Room.{rules_of}
 use Rattle.cb_runner.proofs.executing.run_from.Goals as goal
 

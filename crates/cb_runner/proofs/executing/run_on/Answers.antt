@@ -2,7 +2,7 @@ use Rattle.std.proofs.Common.{◌≡◌, ◌∙◌, ◌≤◌, ap, arith, length
 use Rattle.cb_heap.specs.Reading.{seen, serial_of}
 use Rattle.cb_interp.specs.Running.{Ended, outside_of}
 use Rattle.cb_interp.specs.Starting.{unread}
-use Rattle.cb_interp.specs.Turning.{machine_of as limited, moment_of}
+use Rattle.cb_act.specs.Turning.{machine_of as limited, moment_of}
 use Rattle.cb_machine.specs.Performing.{most_elements}
 use Rattle.cb_machine.specs.Starting.{start}
 use Rattle.cb_mapheap.specs.Room.{rules_of}

@@ -1,5 +1,5 @@
 use Rattle.std.proofs.Common.{[]}
-use Rattle.cb_interp.specs.Turning.{machine_of}
+use Rattle.cb_act.specs.Turning.{machine_of}
 use Rattle.cb_machine.specs.Starting.{start}
 use Rattle.cb_runner.proofs.executing.run_on.Given as goal
 

@@ -1,28 +1,29 @@
 use Rattle.std.proofs.Common.{◌<◌, ◌≡◌, ◌∙◌, [], Some, ap, arith, length, slice_get, sym}
+use Rattle.cb_frames.specs.Slots.{value_of}
 use Rattle.cb_frames.specs.Tops.{on_top, stack_in}
-use Rattle.cb_frames.proofs.Changed.{peeked, stack_counted}
+use Rattle.cb_frames.proofs.Slotted.{stack_inside, stack_of}
 use Rattle.cb_frames.proofs.Stacked.{seen, shown}
 use Rattle.cb_frames.proofs.frame_stack.FrameStack.peek.Goals as goal
 
 pub overflow_sub-self-inside : goal.overflow_sub-self-inside
 overflow_sub-self-inside c =
     let there = seen (λ frames. c.args.below < length (on_top [] stack_in frames)) c.self.view_is c.requires in
-    omega (arith, (stack_counted c.self.inside.slots.items c.self.inside.top _ c.self.invariant.stacked c.self.invariant.inside).0, there)
+    omega (arith, (stack_inside c.self.inside.slots.items c.self.inside.top _ c.self.invariant.stacked c.self.invariant.inside c.args.below there).0)
 
 pub overflow_sub-self-inside-2 : goal.overflow_sub-self-inside-2
 overflow_sub-self-inside-2 c =
     let there = seen (λ frames. c.args.below < length (on_top [] stack_in frames)) c.self.view_is c.requires in
-    omega (arith, (stack_counted c.self.inside.slots.items c.self.inside.top _ c.self.invariant.stacked c.self.invariant.inside).0, there)
+    omega (arith, (stack_inside c.self.inside.slots.items c.self.inside.top _ c.self.invariant.stacked c.self.invariant.inside c.args.below there).0)
 
-pub index-requires : goal.index-requires
-index-requires c =
+pub index-slot-requires : goal.index-slot-requires
+index-slot-requires c =
     let there = seen (λ frames. c.args.below < length (on_top [] stack_in frames)) c.self.view_is c.requires in
-    let few = stack_counted c.self.inside.slots.items c.self.inside.top _ c.self.invariant.stacked c.self.invariant.inside in
-    omega (arith, few.0, few.1, there, c.self.invariant.inside)
+    let within = stack_inside c.self.inside.slots.items c.self.inside.top _ c.self.invariant.stacked c.self.invariant.inside c.args.below there in
+    omega (arith, within.0, within.1)
 
 pub returns : goal.returns
 returns c =
     let there = seen (λ frames. c.args.below < length (on_top [] stack_in frames)) c.self.view_is c.requires in
-    shown (λ frames. slice_get (on_top [] stack_in frames) c.args.below ≡ Some c.index.result.now) c.self.view_is
-    (peeked c.self.inside.slots.items c.self.inside.top _ c.args.below _ c.self.invariant.stacked c.self.invariant.inside there c.index.ensures)
-    ∙ ap Some (sym c.copy_of.ensures)
+    shown (λ frames. slice_get (on_top [] stack_in frames) c.args.below ≡ Some (value_of c.index-slot.result.now)) c.self.view_is
+    (stack_of c.self.inside.slots.items c.self.inside.top _ c.self.invariant.stacked c.self.invariant.inside c.args.below c.index-slot.result.now there c.index-slot.ensures)
+    ∙ ap Some (sym c.value_in.ensures)

@@ -1,0 +1,90 @@
+use Rattle.std.proofs.Common.{◌≡◌, ◌∙◌, ap, sym, ◌+◌}
+use Rattle.std.specs.Prelude.{is_some}
+use Rattle.cb_heap.specs.Reading.{seen}
+use Rattle.cb_machine.specs.Calling.{implementing}
+use Rattle.cb_act.specs.Acting.{call_deed, holder_kind}
+use Rattle.cb_act.proofs.CallLaws.{kind_receiver, null_receiver, receiver_count, receiver_kept, receiver_sort, receiver_taken}
+use Rattle.cb_act.proofs.acting_interfaces.calls_implementing.Goals as goal
+
+pub reference_at-at-requires : goal.reference_at-at-requires
+reference_at-at-requires g c =
+    let program = c.args.program.now in
+    let method = c.args.method in
+    let count = c.parameter_count-count.result in
+    let choose = implementing program method (holder_kind program c.args.caller c.args.index) in
+    let is =
+    receiver_taken program method (g.S.Store.index c.args.store.now) (g.S.Store.kept c.args.store.now) c.args.roots.now.roots count c.parameter_count-count.ensures c.args.roots.now.limit choose c.requires.there in
+    receiver_sort program method (g.S.Store.index c.args.store.now) (g.S.Store.kept c.args.store.now) c.args.roots.now.roots count c.parameter_count-count.ensures is
+
+pub returns-then-at-eq0-clause-deed : goal.returns-then-at-eq0-clause-deed
+returns-then-at-eq0-clause-deed g c =
+    let program = c.args.program.now in
+    let method = c.args.method in
+    let count = c.parameter_count-count.result in
+    let choose = implementing program method (holder_kind program c.args.caller c.args.index) in
+    let is =
+    receiver_taken program method (g.S.Store.index c.args.store.now) (g.S.Store.kept c.args.store.now) c.args.roots.now.roots count c.parameter_count-count.ensures c.args.roots.now.limit choose c.requires.there in
+    null_receiver program method (g.S.Store.index c.args.store.now) (g.S.Store.kept c.args.store.now) c.args.roots.now.roots count c.parameter_count-count.ensures is c.reference_at-at.result c.reference_at-at.ensures c.if-at-eq0.true c.args.roots.now.limit choose
+
+pub kind-requires : goal.kind-requires
+kind-requires g c =
+    let program = c.args.program.now in
+    let method = c.args.method in
+    let count = c.parameter_count-count.result in
+    let choose = implementing program method (holder_kind program c.args.caller c.args.index) in
+    let is =
+    receiver_taken program method (g.S.Store.index c.args.store.now) (g.S.Store.kept c.args.store.now) c.args.roots.now.roots count c.parameter_count-count.ensures c.args.roots.now.limit choose c.requires.there in
+    receiver_kept program method (g.S.Store.index c.args.store.now) (g.S.Store.kept c.args.store.now) c.args.roots.now.roots count c.parameter_count-count.ensures is c.reference_at-at.result c.reference_at-at.ensures c.requires.held c.if-at-eq0.false
+
+pub calls-requires-clause-there : goal.calls-requires-clause-there
+calls-requires-clause-there g c =
+    let program = c.args.program.now in
+    let method = c.args.method in
+    let count = c.parameter_count-count.result in
+    let choose = implementing program method (holder_kind program c.args.caller c.args.index) in
+    let is =
+    receiver_taken program method (g.S.Store.index c.args.store.now) (g.S.Store.kept c.args.store.now) c.args.roots.now.roots count c.parameter_count-count.ensures c.args.roots.now.limit choose c.requires.there in
+    let selected : choose c.kind.result ≡ c.implementing-selected.result =
+    ap (λ interface. implementing program method interface c.kind.result) (sym c.holder_kind-interface.ensures.found) ∙ sym c.implementing-selected.ensures.found in
+    ap is_some (sym (kind_receiver program method (g.S.Store.index c.args.store.now) (g.S.Store.kept c.args.store.now) c.args.roots.now.roots count c.parameter_count-count.ensures is c.reference_at-at.result c.reference_at-at.ensures c.if-at-eq0.false c.kind.result c.kind.ensures c.args.roots.now.limit choose
+    ∙ ap (call_deed program c.args.roots.now.limit (seen (g.S.Store.index c.args.store.now) (g.S.Store.kept c.args.store.now) c.args.roots.now.roots) (count + 1)) selected))
+    ∙ c.requires.there
+
+pub calls-requires-clause-few : goal.calls-requires-clause-few
+calls-requires-clause-few g c =
+    let program = c.args.program.now in
+    let method = c.args.method in
+    let count = c.parameter_count-count.result in
+    let choose = implementing program method (holder_kind program c.args.caller c.args.index) in
+    let is =
+    receiver_taken program method (g.S.Store.index c.args.store.now) (g.S.Store.kept c.args.store.now) c.args.roots.now.roots count c.parameter_count-count.ensures c.args.roots.now.limit choose c.requires.there in
+    receiver_count program method (g.S.Store.index c.args.store.now) (g.S.Store.kept c.args.store.now) c.args.roots.now.roots count c.parameter_count-count.ensures is
+
+pub calls-requires-clause-fit : goal.calls-requires-clause-fit
+calls-requires-clause-fit g c = λ called number numbered body low there has each.
+    let program = c.args.program.now in
+    let method = c.args.method in
+    let count = c.parameter_count-count.result in
+    let choose = implementing program method (holder_kind program c.args.caller c.args.index) in
+    let is =
+    receiver_taken program method (g.S.Store.index c.args.store.now) (g.S.Store.kept c.args.store.now) c.args.roots.now.roots count c.parameter_count-count.ensures c.args.roots.now.limit choose c.requires.there in
+    let selected : choose c.kind.result ≡ c.implementing-selected.result =
+    ap (λ interface. implementing program method interface c.kind.result) (sym c.holder_kind-interface.ensures.found) ∙ sym c.implementing-selected.ensures.found in
+    c.requires.fit called number numbered body low there has
+    (λ limit. kind_receiver program method (g.S.Store.index c.args.store.now) (g.S.Store.kept c.args.store.now) c.args.roots.now.roots count c.parameter_count-count.ensures is c.reference_at-at.result c.reference_at-at.ensures c.if-at-eq0.false c.kind.result c.kind.ensures limit choose
+    ∙ ap (call_deed program limit (seen (g.S.Store.index c.args.store.now) (g.S.Store.kept c.args.store.now) c.args.roots.now.roots) (count + 1)) selected
+    ∙ each limit)
+
+pub returns-clause-deed : goal.returns-clause-deed
+returns-clause-deed g c =
+    let program = c.args.program.now in
+    let method = c.args.method in
+    let count = c.parameter_count-count.result in
+    let choose = implementing program method (holder_kind program c.args.caller c.args.index) in
+    let is =
+    receiver_taken program method (g.S.Store.index c.args.store.now) (g.S.Store.kept c.args.store.now) c.args.roots.now.roots count c.parameter_count-count.ensures c.args.roots.now.limit choose c.requires.there in
+    let selected : choose c.kind.result ≡ c.implementing-selected.result =
+    ap (λ interface. implementing program method interface c.kind.result) (sym c.holder_kind-interface.ensures.found) ∙ sym c.implementing-selected.ensures.found in
+    kind_receiver program method (g.S.Store.index c.args.store.now) (g.S.Store.kept c.args.store.now) c.args.roots.now.roots count c.parameter_count-count.ensures is c.reference_at-at.result c.reference_at-at.ensures c.if-at-eq0.false c.kind.result c.kind.ensures c.args.roots.now.limit choose
+    ∙ ap (call_deed program c.args.roots.now.limit (seen (g.S.Store.index c.args.store.now) (g.S.Store.kept c.args.store.now) c.args.roots.now.roots) (count + 1)) selected
+    ∙ c.calls.ensures.deed

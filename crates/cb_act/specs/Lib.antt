@@ -1,0 +1,16 @@
+pub mod Acting
+pub mod Changing
+pub mod Classes
+pub mod Effects
+pub mod Framing
+pub mod Going
+pub mod Here
+pub mod Keeping
+pub mod Objects
+pub mod Placing
+pub mod Plain
+pub mod Steps
+pub mod Suited
+pub mod Turning
+pub mod Unwound
+pub mod Within

@@ -1,0 +1,31 @@
+use Rattle.std.proofs.Common.{◌<◌, ◌≡◌, [], Some, arith, length, slice_get}
+use Rattle.cb_frames.specs.Slots.{value_of}
+use Rattle.cb_frames.specs.Tops.{on_top, stack_in}
+use Rattle.cb_frames.proofs.Slotted.{place_known, stack_inside, stack_of}
+use Rattle.cb_frames.proofs.Stacked.{seen, shown}
+use Rattle.cb_frames.proofs.frame_stack.FrameStack.reference_at.Goals as goal
+
+pub overflow_sub-self-inside : goal.overflow_sub-self-inside
+overflow_sub-self-inside c =
+    let there = seen (λ frames. c.args.below < length (on_top [] stack_in frames)) c.self.view_is c.requires in
+    omega (arith, (stack_inside c.self.inside.slots.items c.self.inside.top _ c.self.invariant.stacked c.self.invariant.inside c.args.below there).0)
+
+pub overflow_sub-self-inside-2 : goal.overflow_sub-self-inside-2
+overflow_sub-self-inside-2 c =
+    let there = seen (λ frames. c.args.below < length (on_top [] stack_in frames)) c.self.view_is c.requires in
+    omega (arith, (stack_inside c.self.inside.slots.items c.self.inside.top _ c.self.invariant.stacked c.self.invariant.inside c.args.below there).0)
+
+pub index-requires : goal.index-requires
+index-requires c =
+    let there = seen (λ frames. c.args.below < length (on_top [] stack_in frames)) c.self.view_is c.requires in
+    let within = stack_inside c.self.inside.slots.items c.self.inside.top _ c.self.invariant.stacked c.self.invariant.inside c.args.below there in
+    omega (arith, within.0, within.1)
+
+pub returns : goal.returns
+returns c =
+    λ to is.
+    let there = seen (λ frames. c.args.below < length (on_top [] stack_in frames)) c.self.view_is c.requires in
+    let read =
+    shown (λ frames. slice_get (on_top [] stack_in frames) c.args.below ≡ Some (value_of c.index.result.now)) c.self.view_is
+    (stack_of c.self.inside.slots.items c.self.inside.top _ c.self.invariant.stacked c.self.invariant.inside c.args.below c.index.result.now there c.index.ensures) in
+    place_known c.index.result.now _ to read is

@@ -1,5 +1,0 @@
-use Rattle.cb_interp.proofs.ActsAsSaid.{acts_so}
-use Rattle.cb_interp.proofs.acting_law.acts_as_said.Goals as goal
-
-pub returns : goal.returns
-returns c = λ machine state decoded at own goes arrays is. acts_so machine state decoded at own goes arrays is

@@ -1,5 +1,0 @@
-use Rattle.cb_interp.proofs.TurnsStand.{turns_stand}
-use Rattle.cb_interp.proofs.keeping.turns_stand.Goals as goal
-
-pub returns : goal.returns
-returns g c = λ machine steps state closed first last stands turns. turns_stand g.S.Store.rules machine steps first last state turns stands closed
