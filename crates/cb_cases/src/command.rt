@@ -11,7 +11,7 @@ use cb_core::core_classes;
 use cb_io::{MemSink, MemSource};
 use cb_link::Program;
 use cb_load::link;
-use cb_runner::{Ended, run_command};
+use cb_runner::{Ended, are_few, run_command};
 use cb_writer::well_formed;
 use std::alloc::{AllocError, Global};
 
@@ -56,6 +56,9 @@ pub(crate) struct Ran {
 /// Does what the words say, over objects in memory.
 pub(crate) fn run_words(alloc: Global, setup: &mut Setup) -> Result<Ran, Trouble> {
     let words = setup.take_words();
+    if !are_few(words.as_slice()) {
+        return Err(Trouble::TooManyWords);
+    }
     let mut folder = setup.take_folder()?;
     let mut input = setup.take_input()?;
     let mut out = setup.take_out();

@@ -25,6 +25,8 @@ pub(crate) enum Trouble {
     TooFew,
     /// The bytes are no text of the assembly format, of which this line is the first bad one.
     BadAssembly { line: u32 },
+    /// There are more words than the machine is given, or one is too long.
+    TooManyWords,
     /// The library has no class of this number.
     UnknownClass,
     /// It asks, and the case has linked no program.
@@ -49,6 +51,7 @@ impl fmt::Display for Trouble {
             Trouble::BadAssembly { line } => {
                 return write!(f, "assembles a text whose line {line} is bad");
             }
+            Trouble::TooManyWords => "is given too many words",
             Trouble::UnknownClass => "names no class of the library",
             Trouble::NothingLinked => "asks, and no program is linked",
             Trouble::UnknownInProgram => "asks for what the program doesn't have",

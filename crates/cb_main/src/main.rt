@@ -6,11 +6,11 @@ ghost use Rattle.std.specs.IoError.{error_kind};
 ghost use Rattle.std.specs.Process.{exit_status};
 ghost use Rattle.cb_runner.specs.Answer.{IsAnswer};
 ghost use Rattle.cb_runner.specs.Ending.{status_of};
-ghost use Rattle.cb_runner.specs.Words.{SaysNone};
+ghost use Rattle.cb_runner.specs.Words.{AreFew, SaysNone};
 ghost use Rattle.cb_runner.specs.declared.cause.Cause.{Cause};
 
 use cb_io::{DirFolder, Folder, Sink, Source, StreamSink, StreamSource};
-use cb_runner::run_command;
+use cb_runner::{are_few, run_command};
 use std::alloc::Global;
 use std::io::ErrorKind;
 use std::process::ExitCode;
@@ -30,7 +30,9 @@ fn words(rt: &HostRuntime) -> io::Result<Vec<String>> {
 /// is the end of want of memory, or of words that are no command, as words that aren't text are none.
 fn end_of_words(rt: &HostRuntime, words: io::Result<Vec<String>>) -> ExitCode
     ensures status { (cause : Cause) × (exit_status result ≡ status_of cause) }
-    ensures usage { IfOk words (λ words. exit_status result ≡ 120 → SaysNone (map string_bytes (drop 1 words.items))) }
+    ensures usage { IfOk words (λ words. exit_status result ≡ 120 → AreFew (map string_bytes (drop 1 words.items))
+        → SaysNone (map string_bytes (drop 1 words.items))) }
+    ensures many { IfOk words (λ words. ¬ AreFew (map string_bytes (drop 1 words.items)) → exit_status result ≡ 120) }
     ensures none { IfOk words (λ words. SaysNone (map string_bytes (drop 1 words.items))
         → (exit_status result ≡ 120) ⊎ (exit_status result ≡ 127)) }
     ensures memory { IfErr words (λ error. error_kind error ≡ ErrorKind.OutOfMemory → exit_status result ≡ 119) }
@@ -66,8 +68,23 @@ fn end_without_words(rt: &HostRuntime, kind: ErrorKind) -> ExitCode
 }
 
 /// Does what the words say, over the files and the standard streams of the system, and gives the end of the
-/// program.
+/// program. Too many words, or too long ones, are no command, and then nothing is written.
 fn run(rt: &HostRuntime, words: &[String]) -> ExitCode
+    ensures status { (cause : Cause) × (exit_status result ≡ status_of cause) }
+    ensures usage { exit_status result ≡ 120 → AreFew (map string_bytes words.now) → SaysNone (map string_bytes words.now) }
+    ensures many { ¬ AreFew (map string_bytes words.now) → exit_status result ≡ 120 }
+    ensures none { SaysNone (map string_bytes words.now) → (exit_status result ≡ 120) ⊎ (exit_status result ≡ 127) }
+{
+    if are_few(words) {
+        run_few(rt, words)
+    } else {
+        ExitCode::from(120)
+    }
+}
+
+/// The same for words that are few and short enough.
+fn run_few(rt: &HostRuntime, words: &[String]) -> ExitCode
+    requires { AreFew (map string_bytes words.now) }
     ensures status { (cause : Cause) × (exit_status result ≡ status_of cause) }
     ensures usage { exit_status result ≡ 120 → SaysNone (map string_bytes words.now) }
     ensures none { SaysNone (map string_bytes words.now) → (exit_status result ≡ 120) ⊎ (exit_status result ≡ 127) }
@@ -95,6 +112,7 @@ fn exit_code<F: Folder, S: Source, O: Sink, E: Sink>(
     out: &mut O,
     err: &mut E,
 ) -> ExitCode
+    requires { AreFew (map string_bytes words.now) }
     ensures answer { (cause : Cause) × (exit_status result ≡ status_of cause) × IsAnswer (map string_bytes words.now)
         (record { files = F.files folder.old; left = S.left input.old; out = O.taken out.old; err = E.taken err.old })
         (record { files = F.files folder.new; left = S.left input.new; out = O.taken out.new; err = E.taken err.new })

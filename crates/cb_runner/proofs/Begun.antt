@@ -1,47 +1,67 @@
 -- What a run asks where it begins, over a store that never lets an object go.
-use Rattle.std.proofs.Common.{◌≡◌, ◌∙◌, ap, map, pred, refl, sym, subst, ℕ, Bool, true, List, [], Some}
+use Rattle.std.proofs.Common.{◌≡◌, map, pred, refl, sym, subst, ℕ, true, List, [], Option, Some}
 use Rattle.cb_heap.specs.Reading.{View, seen}
+use Rattle.cb_heap.specs.declared.no_room.NoRoom.{NoRoom}
 use Rattle.cb_interp.specs.Fit.{ShapesOf}
-use Rattle.cb_interp.specs.Running.{MayRun, outside_of}
-use Rattle.cb_interp.specs.Starting.{unread}
-use Rattle.cb_act.specs.Turning.{Moment, Outside, StandsAt, machine_of as limited, moment_of, state_of}
+use Rattle.cb_interp.specs.Running.{Ended, MayRun}
+use Rattle.cb_interp.specs.Starting.{BeginsWith, RefusesStart, unread}
+use Rattle.cb_interp.specs.declared.end.End.{End}
+use Rattle.cb_act.specs.Turning.{StandsAt, machine_of as limited, moment_of, state_of}
 use Rattle.cb_link.specs.Program.{Linked}
 use Rattle.cb_machine.specs.Starting.{start}
+use Rattle.cb_mapheap.specs.Room.{rules_of}
 use Rattle.cb_plain.specs.State.{Object, Roots, State}
 use Rattle.cb_plain.specs.declared.shape.Shape.{Shape}
 use Rattle.cb_runner.specs.Inner.{HasBegun}
-use Rattle.cb_runner.specs.Running.{machine_of, most_frames}
+use Rattle.cb_runner.specs.Running.{FillsFirst, machine_of, state_at, texts_of}
+use Rattle.cb_runner.specs.Words.{Run}
+use Rattle.cb_runner.proofs.Executed.{IsRefused}
 use Rattle.cb_safety.specs.Linked.{IsLinked}
 use Rattle.cb_safety.specs.States.{IsTypedState}
 use Rattle.cb_verify.specs.Typed.{IsTyped}
 
-module _ (program : Linked) (shapes : List Shape) (objects : List Object) (roots : Roots) (limit : ℕ) (same : limit ≡ most_frames) (begun : HasBegun program objects roots) where
-  -- the state at the start, whatever the limit is called
-  full_is : start (machine_of program) [] [] ≡ start (limited program limit) [] []
-  full_is = ap (λ limit. start (limited program limit) [] []) (sym same)
+-- the state in which roots and a store stand at the start
+abbrev pub first_of : List Object → Roots → State
+first_of objects roots = state_of (seen pred (map Some objects) roots) (unread [])
 
-  outside_is : unread [] ≡ outside_of (start (limited program limit) [] [])
-  outside_is = ap outside_of (begun.starts ∙ full_is)
+-- whatever the limit is called, and the arguments are
+module _ (asks : Run) (program : Linked) (limit : ℕ) (given : List (List ℕ)) (same : limit ≡ asks.frames) (is : given ≡ texts_of asks) where
+  pub begun_so : (objects : List Object) (roots : Roots) → BeginsWith rules_of (limited program limit) given [] tt (moment_of (seen pred (map Some objects) roots) (unread []) tt)
+      → HasBegun asks program objects roots
+  begun_so objects roots begun =
+      subst (λ (limit : ℕ). BeginsWith rules_of (limited program limit) (texts_of asks) [] tt (moment_of (seen pred (map Some objects) roots) (unread []) tt)) same
+      (subst (λ given. BeginsWith rules_of (limited program limit) given [] tt (moment_of (seen pred (map Some objects) roots) (unread []) tt)) is begun)
 
-  pub begun_runs : IsLinked program → IsTyped program → ShapesOf program shapes → IsTypedState program (state_of (seen pred (map Some objects) roots) (unread []))
-      → MayRun program shapes (λ site. true) (λ one other. true) (state_of (seen pred (map Some objects) roots) (outside_of (start (limited program limit) [] [])))
-  begun_runs linked fits shaped typed = record {
+  pub refused_by : (reason : NoRoom) → RefusesStart rules_of (limited program limit) given tt reason tt → IsRefused asks program reason
+  refused_by reason refuses =
+      let here = subst (λ (limit : ℕ). RefusesStart rules_of (limited program limit) (texts_of asks) tt reason tt) same
+      (subst (λ given. RefusesStart rules_of (limited program limit) given tt reason tt) is refuses) in
+      (_, here.refused [])
+
+module _ (asks : Run) (program : Linked) (objects : List Object) (roots : Roots) (begun : HasBegun asks program objects roots) where
+  -- there was room for what is there
+  pub begins_so : ¬ FillsFirst asks program
+  begins_so fills = absurd (cc (begun.ruled.full.0 fills))
+
+  pub begun_runs : (shapes : List Shape) → IsLinked program → IsTyped program → ShapesOf program shapes → IsTypedState program (first_of objects roots)
+      → MayRun program shapes (λ site. true) (λ one other. true) (first_of objects roots)
+  begun_runs shapes linked fits shaped typed = record {
     linked = linked;
     fits = fits;
     shaped = shaped;
     sites = λ site low. refl;
     pairs = λ one other. refl;
-    typed = subst (λ outside. IsTypedState program (state_of (seen pred (map Some objects) roots) outside)) outside_is typed;
+    typed = typed;
   }
 
-module _ (program : Linked) (objects : List Object) (roots : Roots) (limit : ℕ) (same : limit ≡ most_frames) (begun : HasBegun program objects roots) where
-  pub begun_whole : IsTypedState program (state_of (seen pred (map Some objects) roots) (unread [])) → IsTypedState program (start (limited program limit) [] [])
-  begun_whole typed = subst (IsTypedState program) (begun.starts ∙ ap (λ limit. start (limited program limit) [] []) (sym same)) typed
+  pub begun_stands : StandsAt (moment_of (seen pred (map Some objects) roots) (unread []) (tt {0})) (start (machine_of asks program) (texts_of asks) [])
+      → StandsAt (moment_of (seen pred (map Some objects) roots) (unread []) (tt {0})) (first_of objects roots)
+  begun_stands stands = subst (StandsAt (moment_of (seen pred (map Some objects) roots) (unread []) (tt {0}))) (sym begun.starts) stands
 
-  pub begun_stands : StandsAt (moment_of (seen pred (map Some objects) roots) (unread []) (tt {0})) (start (machine_of program) [] [])
-      → StandsAt (moment_of (seen pred (map Some objects) roots) (outside_of (start (limited program limit) [] [])) (tt {0})) (start (limited program limit) [] [])
-  begun_stands stands =
-      let full : start (machine_of program) [] [] ≡ start (limited program limit) [] [] = ap (λ limit. start (limited program limit) [] []) (sym same) in
-      let outside : unread [] ≡ outside_of (start (limited program limit) [] []) = ap outside_of (begun.starts ∙ full) in
-      subst (λ outside. StandsAt (moment_of (seen pred (map Some objects) roots) outside (tt {0})) (start (limited program limit) [] [])) outside
-      (subst (StandsAt (moment_of (seen pred (map Some objects) roots) (unread []) (tt {0}))) full stands)
+  -- a run from there is one from the start
+  pub ended_so : (limit : ℕ) (end : End) (later : View) (taken takes : Option (List ℕ)) → limit ≡ asks.frames
+      → Ended rules_of (limited program limit) asks.steps end (first_of objects roots) (moment_of (seen pred (map Some objects) roots) (unread []) tt) later tt taken takes
+      → Ended rules_of (machine_of asks program) asks.steps end (state_at asks program 0) (moment_of (seen pred (map Some objects) roots) (unread []) tt) later tt taken takes
+  ended_so limit end later taken takes same ended =
+      subst (λ (limit : ℕ). Ended rules_of (limited program limit) asks.steps end (state_at asks program 0) (moment_of (seen pred (map Some objects) roots) (unread []) tt) later tt taken takes) same
+      (subst (λ (full : State). Ended rules_of (limited program limit) asks.steps end full (moment_of (seen pred (map Some objects) roots) (unread []) tt) later tt taken takes) begun.starts ended)

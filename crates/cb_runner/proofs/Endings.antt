@@ -21,7 +21,7 @@ use Rattle.cb_runner.specs.Inner.{IsCarriedOut, IsRefusal, IsUnfound, Makes, Pri
 use Rattle.cb_runner.specs.List.{ListsFile}
 use Rattle.cb_runner.specs.Messages.{Reason}
 use Rattle.cb_runner.specs.Run.{IsRunnable, RunsClass, Typed, file_limit}
-use Rattle.cb_runner.specs.Words.{Command, RunIn, ListOf, Says, SaysNone}
+use Rattle.cb_runner.specs.Words.{Command, Run, RunIn, ListOf, Says, SaysNone}
 use Rattle.cb_runner.proofs.Laws.{cause_whole, ends_run_whole}
 
 -- nothing more was taken
@@ -110,23 +110,23 @@ list_unfound path files OutOfMemory is = λ left. inr (OfMemory, refl)
 list_unfound path files stop is = absurd is
 
 -- a run of a class whose program isn't run, and of one whose program is
-pub run_at_once : (folder main : List ℕ) (files : Option Files) (stop : Stop) → StopsAtOnce (RunsClass files folder main) stop → (left : Option (List ℕ)) → EndsIn (RunIn folder main) files left (ending_of stop [] 0)
-run_at_once folder main files (Refused text) stops = λ left. inl stops
-run_at_once folder main files FolderFault stops = λ left. inr (OfFolder, refl)
-run_at_once folder main files OutOfMemory stops = λ left. inr (OfMemory, inl refl)
-run_at_once folder main files stop stops = absurd stops
+pub run_at_once : (folder : List ℕ) (run : Run) (files : Option Files) (stop : Stop) → StopsAtOnce (RunsClass files folder run) stop → (left : Option (List ℕ)) → EndsIn (RunIn folder run) files left (ending_of stop [] 0)
+run_at_once folder run files (Refused text) stops = λ left. inl stops
+run_at_once folder run files FolderFault stops = λ left. inr (OfFolder, refl)
+run_at_once folder run files OutOfMemory stops = λ left. inr (OfMemory, inl refl)
+run_at_once folder run files stop stops = absurd stops
 
-pub run_ends : (folder main : List ℕ) (files : Option Files) (program : Linked) (stop : Stop) (out : List ℕ) → IsRunnable files folder main program → RunsTo main program stop out → (left : Option (List ℕ)) → EndsIn (RunIn folder main) files left (ending_of stop out 0)
-run_ends folder main files program OutOfMemory out runnable (inl nothing) = λ left. inr (OfMemory, inl (ap (λ out. ending_of OutOfMemory out 0) nothing))
-run_ends folder main files program OutOfMemory out runnable (inr cuts) = λ left. inr (OfMemory, inr (program, runnable, cuts))
-run_ends folder main files program OutputFault out runnable runs = λ left. inr (OfOutput, (program, runnable, runs))
-run_ends folder main files program Returned out runnable runs = λ left. inl (Typed program runnable runs)
-run_ends folder main files program (Told cause text) out runnable runs = λ left. inl (Typed program runnable runs)
-run_ends folder main files program stop out runnable runs = absurd runs
+pub run_ends : (folder : List ℕ) (run : Run) (files : Option Files) (program : Linked) (stop : Stop) (out : List ℕ) → IsRunnable files folder run.main program → RunsTo run program stop out → (left : Option (List ℕ)) → EndsIn (RunIn folder run) files left (ending_of stop out 0)
+run_ends folder run files program OutOfMemory out runnable (inl nothing) = λ left. inr (OfMemory, inl (ap (λ out. ending_of OutOfMemory out 0) nothing))
+run_ends folder run files program OutOfMemory out runnable (inr cuts) = λ left. inr (OfMemory, inr (program, runnable, cuts))
+run_ends folder run files program OutputFault out runnable runs = λ left. inr (OfOutput, (program, runnable, runs))
+run_ends folder run files program Returned out runnable runs = λ left. inl (Typed program runnable runs)
+run_ends folder run files program (Told cause text) out runnable runs = λ left. inl (Typed program runnable runs)
+run_ends folder run files program stop out runnable runs = absurd runs
 
 -- which no call of the folder ended
-pub runs_quietly : (main : List ℕ) (program : Linked) (stop : Stop) (out : List ℕ) → RunsTo main program stop out → stop ≡ FolderFault → ⊥
-runs_quietly main program stop out runs is = subst (λ stop. RunsTo main program stop out) is runs
+pub runs_quietly : (run : Run) (program : Linked) (stop : Stop) (out : List ℕ) → RunsTo run program stop out → stop ≡ FolderFault → ⊥
+runs_quietly run program stop out runs is = subst (λ stop. RunsTo run program stop out) is runs
 
 -- what a command tells as the cause of a run is none of those that have a stop of their own
 pub refusal_tells : (reason : Reason) (stop : Stop) → IsRefusal reason stop → TellsWhole stop
@@ -145,9 +145,9 @@ pub at_once_tells : (MayEnd : Ending → Type 0) (stop : Stop) → StopsAtOnce M
 at_once_tells MayEnd (Told cause text) stops = absurd stops
 at_once_tells MayEnd stop stops = tt
 
-pub runs_tell : (main : List ℕ) (program : Linked) (stop : Stop) (out : List ℕ) → RunsTo main program stop out → TellsWhole stop
-runs_tell main program (Told cause text) out runs = ends_run_whole main program (ending_of (Told cause text) out 0) runs
-runs_tell main program stop out runs = tt
+pub runs_tell : (run : Run) (program : Linked) (stop : Stop) (out : List ℕ) → RunsTo run program stop out → TellsWhole stop
+runs_tell run program (Told cause text) out runs = ends_run_whole run program (ending_of (Told cause text) out 0) runs
+runs_tell run program stop out runs = tt
 
 -- a count says the same of what comes to the same
 same_count : {One Other : Type 0} (before now : ℕ) → (One ↔ Other) → CountsFaults before now One → CountsFaults before now Other

@@ -1,23 +1,26 @@
 -- How a command stops whose program has run, over a store that never lets an object go.
-use Rattle.std.proofs.Common.{◌≡◌, ◌∙◌, ◌++◌, ◌⊎◌, ◌<◌, ◌≤◌, ap, inl, inr, refl, sym, subst, ℕ, ℤ, ◌==◌, if◌then◌else◌, Bool, true, false, IsTrue, List, [], ◌∷◌, length, map, Option, Some, None, pred, suc, zero}
+use Rattle.std.proofs.Common.{◌≡◌, ◌∙◌, ◌++◌, ◌⊎◌, ap, inl, inr, refl, sym, subst, ℕ, ℤ, if◌then◌else◌, Bool, true, false, IsTrue, List, [], ◌∷◌, length, map, Option, Some, None, pred, suc, zero}
 use Rattle.std.specs.Io.KnownBytes.{Appends}
-use Rattle.std.specs.Prelude.{Result, String, option_and_then, option_map, string_bytes}
+use Rattle.std.specs.Prelude.{String, option_and_then, option_map, string_bytes}
 use Rattle.std.specs.declared.alloc.Global.{Global}
 use Rattle.std.specs.declared.result.Result.TheVariants.{Err}
 use Rattle.std.proofs.lemmas.Bool.{ne_eqb}
 use Rattle.cb_heap.specs.Kept.{keep, residents}
 use Rattle.cb_heap.specs.Reading.{View, seen, serial_of}
+use Rattle.cb_heap.specs.Rules.{Meaning}
+use Rattle.cb_heap.specs.declared.no_room.NoRoom.{NoRoom}
 use Rattle.cb_heap.specs.declared.no_room.NoRoom.TheVariants as rooms
-use Rattle.cb_act.specs.Keeping.{kept_state}
 use Rattle.cb_interp.specs.Leaving.{Leaves}
 use Rattle.cb_interp.specs.Running.{Ended, outside_of}
 use Rattle.cb_act.specs.Steps.{view_of}
-use Rattle.cb_interp.specs.Texts.{TellsException, exception_units}
+use Rattle.cb_interp.specs.Texts.{exception_units}
 use Rattle.cb_act.specs.Turning.{Moment, StandsAt, moment_of}
 use Rattle.cb_interp.specs.declared.end.End.{End}
 use Rattle.cb_interp.specs.declared.end.End.TheVariants as ends
 use Rattle.cb_link.specs.Program.{Linked}
 use Rattle.cb_machine.specs.Runs.{after, outcome}
+use Rattle.cb_machine.specs.Plans.{asked}
+use Rattle.cb_machine.specs.Starting.{empty_state, start_plan}
 use Rattle.cb_machine.specs.Steps.{request}
 use Rattle.cb_machine.specs.declared.outcome.Outcome.TheVariants as outcomes
 use Rattle.cb_mapheap.specs.Room.{MakesRoom, no_room_in, one_has_reached, rules_of}
@@ -29,9 +32,10 @@ use Rattle.cb_runner.specs.declared.cause.Cause.TheVariants as causes
 use Rattle.cb_runner.specs.declared.stop.Stop.{Stop}
 use Rattle.cb_runner.specs.declared.stop.Stop.TheVariants.{FolderFault, InputFault, OutOfMemory, OutputFault, Refused, Returned, Told, Usage}
 use Rattle.cb_runner.specs.Ending.{Ending, output_fault, told}
-use Rattle.cb_runner.specs.Inner.{IsStopOf, IsToldAs, IsUncaughtAs, MayTell, RunsTo, ending_of}
+use Rattle.cb_runner.specs.Inner.{IsRefusedStart, IsStopOf, IsToldAs, IsUncaughtAs, MayTell, RunsTo, ending_of}
 use Rattle.cb_runner.specs.Messages.{NotYet, line, refusal_text}
-use Rattle.cb_runner.specs.Running.{CutsMemory, CutsOutput, EndsRun, Fills, LeavesOut, Returns, Spends, Throws, exception_line, full_line, machine_of, most_steps, spent_line, state_at}
+use Rattle.cb_runner.specs.Running.{EndsBegun, EndsRun, Fills, FillsFirst, LeavesOut, Returns, Spends, Throws, exception_line, full_line, machine_of, spent_line, state_at, texts_of}
+use Rattle.cb_runner.specs.Words.{Run}
 use Rattle.cb_io.specs.Faults.{CountsFaults}
 use Rattle.cb_io.specs.Utf8.{utf8}
 use Rattle.cb_safety.specs.Heap.{IsHeap}
@@ -93,22 +97,26 @@ uncaught_waits : (state : State) → outcome state ≡ outcomes.Uncaught state.r
 uncaught_waits state is none =
     never_uncaught state state.exit state.roots.frames state.roots.argument (sym (ap (λ pending. outcome (pending_with state pending)) none) ∙ is ∙ ap outcomes.Uncaught none)
 
-module _ (main : List ℕ) (program : Linked) (first : Moment (Unit {0})) (index : ℕ → ℕ) (items : List Object) (roots : Roots) (taken takes : Option (List ℕ)) where
+module _ (asks : Run) (program : Linked) (begins : ¬ FillsFirst asks program) (first : Moment (Unit {0})) (index : ℕ → ℕ) (items : List Object) (roots : Roots) (taken takes : Option (List ℕ)) where
   abbrev later : View
   later = seen index (map Some items) roots
 
   abbrev HasRun : End → Type 0
-  HasRun end = Ended rules_of (machine_of program) most_steps end (state_at program 0) first (seen index (map Some items) roots) tt taken takes
+  HasRun end = Ended rules_of (machine_of asks program) asks.steps end (state_at asks program 0) first (seen index (map Some items) roots) tt taken takes
+
+  -- so it ends, as it has begun
+  ends_so : (ending : Ending) → EndsBegun asks program ending → EndsRun asks program ending
+  ends_so ending ends = inr (begins, ends)
 
   -- what a command that stopped so has printed
   abbrev pub Shown : Stop → Type 0
-  Shown stop = (printed : List ℕ) × Appends taken takes printed × RunsTo main program stop printed
+  Shown stop = (printed : List ℕ) × Appends taken takes printed × RunsTo asks program stop printed
 
-  module _ (nothing : (state_at program 0).printed ≡ []) where
-    said_so : (end : End) → (run : HasRun end) → run.said ≡ (state_at program run.count).printed
+  module _ (nothing : (state_at asks program 0).printed ≡ []) where
+    said_so : (end : End) → (run : HasRun end) → run.said ≡ (state_at asks program run.count).printed
     said_so end run = sym (run.grows ∙ ap (λ printed. printed ++ run.said) nothing)
 
-    same_told : (end : End) → (run : HasRun end) → (cause : Cause) (err : List ℕ) → told cause run.said err ≡ told cause (state_at program run.count).printed err
+    same_told : (end : End) → (run : HasRun end) → (cause : Cause) (err : List ℕ) → told cause run.said err ≡ told cause (state_at asks program run.count).printed err
     same_told end run cause err = ap (λ printed. told cause printed err) (said_so end run)
 
     told_is : (cause own : Cause) (text : String Global) (out err : List ℕ) → own ≡ cause → string_bytes text ≡ err → ending_of (Told own text) out 0 ≡ told cause out err
@@ -119,20 +127,20 @@ module _ (main : List ℕ) (program : Linked) (first : Moment (Unit {0})) (index
     no_memory end run out = (run.said, out, inr (run.count, run.within, same_told end run causes.OutOfMemory _))
 
     -- where nothing has changed, a moment is the whole state
-    before_whole : (end : End) → (run : HasRun end) → moment_of (seen index (map Some items) roots) (outside_of (state_at program run.count)) tt ≡ run.before → run.before.state ≡ state_at program run.count
-    before_whole end run same = whole_so run.before (state_at program run.count) items run.stands (sym (ap (λ (moment : Moment (Unit {0})). moment.state.objects) same))
+    before_whole : (end : End) → (run : HasRun end) → moment_of (seen index (map Some items) roots) (outside_of (state_at asks program run.count)) tt ≡ run.before → run.before.state ≡ state_at asks program run.count
+    before_whole end run same = whole_so run.before (state_at asks program run.count) items run.stands (sym (ap (λ (moment : Moment (Unit {0})). moment.state.objects) same))
 
     returns_so : (run : HasRun ends.Returned) → (stop : Stop) → stop ≡ Returned → Shown stop
     returns_so run stop is =
-        subst Shown (sym is) (run.said, run.out, Returns run.count run.within run.ends.0 (same_told ends.Returned run causes.Returned []))
+        subst Shown (sym is) (run.said, run.out, ends_so _ (Returns run.count run.within run.ends.0 (same_told ends.Returned run causes.Returned [])))
 
-    spends_so : (run : HasRun ends.BudgetSpent) → (stop : Stop) → IsToldAs causes.BudgetSpent spent_line stop → Shown stop
+    spends_so : (run : HasRun ends.BudgetSpent) → (stop : Stop) → IsToldAs causes.BudgetSpent (spent_line asks.steps) stop → Shown stop
     spends_so run (Told cause text) (same, is) = (
       run.said,
       run.out,
-      Spends (subst (λ count. outcome (state_at program count) ≡ outcomes.Running) run.ends.1 run.ends.0.0)
-          (told_is causes.BudgetSpent cause text run.said spent_line same is ∙ same_told ends.BudgetSpent run causes.BudgetSpent spent_line
-          ∙ ap (λ count. told causes.BudgetSpent (state_at program count).printed spent_line) run.ends.1),
+      ends_so _ (Spends (subst (λ count. outcome (state_at asks program count) ≡ outcomes.Running) run.ends.1 run.ends.0.0)
+          (told_is causes.BudgetSpent cause text run.said (spent_line asks.steps) same is ∙ same_told ends.BudgetSpent run causes.BudgetSpent (spent_line asks.steps)
+          ∙ ap (λ count. told causes.BudgetSpent (state_at asks program count).printed (spent_line asks.steps)) run.ends.1)),
     )
     spends_so run OutOfMemory is = no_memory ends.BudgetSpent run run.out
     spends_so run Returned is = absurd is
@@ -142,13 +150,13 @@ module _ (main : List ℕ) (program : Linked) (first : Moment (Unit {0})) (index
     spends_so run InputFault is = absurd is
     spends_so run OutputFault is = absurd is
 
-    leaves_so : (run : HasRun ends.NotYet) → (stop : Stop) → IsToldAs causes.NotYet (line (refusal_text (NotYet (utf8 main)))) stop → Shown stop
+    leaves_so : (run : HasRun ends.NotYet) → (stop : Stop) → IsToldAs causes.NotYet (line (refusal_text (NotYet (utf8 asks.main)))) stop → Shown stop
     leaves_so run (Told cause text) (same, is) = (
       run.said,
       run.out,
-      LeavesOut run.count run.ends.0
-          (subst (Leaves (machine_of program)) (before_whole ends.NotYet run run.ends.1) run.ends.2)
-          (told_is causes.NotYet cause text run.said (line (refusal_text (NotYet (utf8 main)))) same is ∙ same_told ends.NotYet run causes.NotYet (line (refusal_text (NotYet (utf8 main))))),
+      ends_so _ (LeavesOut run.count run.ends.0
+          (subst (Leaves (machine_of asks program)) (before_whole ends.NotYet run run.ends.1) run.ends.2)
+          (told_is causes.NotYet cause text run.said (line (refusal_text (NotYet (utf8 asks.main)))) same is ∙ same_told ends.NotYet run causes.NotYet (line (refusal_text (NotYet (utf8 asks.main)))))),
     )
     leaves_so run OutOfMemory is = no_memory ends.NotYet run run.out
     leaves_so run Returned is = absurd is
@@ -187,11 +195,11 @@ module _ (main : List ℕ) (program : Linked) (first : Moment (Unit {0})) (index
     fills_so live asked limit run (Told cause text) (same, is) = (
       run.said,
       run.out,
-      Fills run.count run.ends.0 reached
+      ends_so _ (Fills run.count run.ends.0 reached
           (told_is causes.HeapFull cause text run.said (full_line (rooms.Full live asked limit)) same is ∙ same_told (ends.HeapFull live asked limit) run causes.HeapFull (full_line (rooms.Full live asked limit))
-          ∙ ap (λ room. told causes.HeapFull (state_at program run.count).printed (full_line room)) numbers),
+          ∙ ap (λ room. told causes.HeapFull (state_at asks program run.count).printed (full_line room)) numbers)),
     ) where
-      refused : MakesRoom tt (view_of run.before.state) (request (machine_of program) run.before.state) (Err (rooms.Full live asked limit))
+      refused : MakesRoom tt (view_of run.before.state) (request (machine_of asks program) run.before.state) (Err (rooms.Full live asked limit))
           (record { facts = tt; residents = residents (map Some items) })
       refused = run.ends.1.refused.ruled
 
@@ -208,14 +216,14 @@ module _ (main : List ℕ) (program : Linked) (first : Moment (Unit {0})) (index
           let collects = run.ends.1.refused.collects in
           sym (all_kept (residents (map Some items)) run.before.state.objects items (sym collects.objects) (marks_count (map Some items) ∙ collects.count)) ∙ sym collects.objects
 
-      whole : run.before.state ≡ state_at program run.count
-      whole = whole_so run.before (state_at program run.count) items run.stands objects_so
+      whole : run.before.state ≡ state_at asks program run.count
+      whole = whole_so run.before (state_at asks program run.count) items run.stands objects_so
 
-      numbers : rooms.Full live asked limit ≡ no_room_in (view_of (state_at program run.count))
+      numbers : rooms.Full live asked limit ≡ no_room_in (view_of (state_at asks program run.count))
       numbers = full ∙ ap (λ (state : State). no_room_in (view_of state)) whole
 
-      reached : IsTrue (one_has_reached most_words (request (machine_of program) (state_at program run.count)))
-      reached = subst (λ (state : State). IsTrue (one_has_reached most_words (request (machine_of program) state))) whole (refused.full.1 (ap Err full))
+      reached : IsTrue (one_has_reached most_words (request (machine_of asks program) (state_at asks program run.count)))
+      reached = subst (λ (state : State). IsTrue (one_has_reached most_words (request (machine_of asks program) state))) whole (refused.full.1 (ap Err full))
 
     -- the exception is the one that is told
     kind_found : (found : Option Object) (class : ℕ) → option_map (λ object. object.kind) found ≡ Some class → (object : Object) × (found ≡ Some object) × (object.kind ≡ class)
@@ -231,7 +239,7 @@ module _ (main : List ℕ) (program : Linked) (first : Moment (Unit {0})) (index
     throws_so class at place run InputFault is = absurd is
     throws_so class at place run OutputFault is = absurd is
     throws_so class at place run (Told cause text) (same, units, tells, is) =
-        let state = state_at program run.count in
+        let state = state_at asks program run.count in
         let whole : run.before.state ≡ state = before_whole (ends.Uncaught class at) run run.ends.0.1 in
         let later_is : later ≡ view_of state = ap (λ (moment : Moment (Unit {0})). view_of moment.state) run.ends.0.1 ∙ ap view_of whole in
         let objects : state.objects ≡ map Some items = sym (ap (λ (view : View). view.objects) later_is) in
@@ -241,13 +249,13 @@ module _ (main : List ℕ) (program : Linked) (first : Moment (Unit {0})) (index
         sym (ap (option_and_then (exception_units program state)) (ap (object_at state) serial ∙ there)) ∙ tells state objects in (
           run.said,
           run.out,
-          Throws run.count state.roots.pending object units run.within run.ends.0.0 there told_units
+          ends_so _ (Throws run.count state.roots.pending object units run.within run.ends.0.0 there told_units
               (told_is (causes.Uncaught class) cause text run.said (exception_line units) same is ∙ same_told (ends.Uncaught class at) run (causes.Uncaught class) (exception_line units)
-              ∙ ap (λ class. told (causes.Uncaught class) (state_at program run.count).printed (exception_line units)) (sym kind)),
+              ∙ ap (λ class. told (causes.Uncaught class) (state_at asks program run.count).printed (exception_line units)) (sym kind))),
         )
 
     pub shown_so : (end : End) (stop : Stop) → ((class at : ℕ) → end ≡ ends.Uncaught class at → serial_of pred at ≡ later.roots.pending) → HasRun end
-        → IsStopOf main program (map Some items) end stop → Shown stop
+        → IsStopOf asks program (map Some items) end stop → Shown stop
     shown_so ends.Returned stop place run is = returns_so run stop is
     shown_so (ends.Uncaught class at) stop place run is = throws_so class at (place class at refl) run stop is
     shown_so ends.BudgetSpent stop place run is = spends_so run stop is
@@ -258,10 +266,10 @@ module _ (main : List ℕ) (program : Linked) (first : Moment (Unit {0})) (index
     shown_so ends.NotYet stop place run is = leaves_so run stop is
 
     -- so what is asked of the objects before it is told is there
-    may_tell : (class at : ℕ) → serial_of pred at ≡ later.roots.pending → (run : HasRun (ends.Uncaught class at)) → IsTypedState program (state_at program run.count)
+    may_tell : (class at : ℕ) → serial_of pred at ≡ later.roots.pending → (run : HasRun (ends.Uncaught class at)) → IsTypedState program (state_at asks program run.count)
         → MayTell program (map Some items) (ends.Uncaught class at)
     may_tell class at place run typed =
-        let state = state_at program run.count in
+        let state = state_at asks program run.count in
         let whole : run.before.state ≡ state = before_whole (ends.Uncaught class at) run run.ends.0.1 in
         let later_is : later ≡ view_of state = ap (λ (moment : Moment (Unit {0})). view_of moment.state) run.ends.0.1 ∙ ap view_of whole in
         let objects : state.objects ≡ map Some items = sym (ap (λ (view : View). view.objects) later_is) in
@@ -273,7 +281,7 @@ module _ (main : List ℕ) (program : Linked) (first : Moment (Unit {0})) (index
         )
 
     pub tells_so : (end : End) → ((class at : ℕ) → end ≡ ends.Uncaught class at → serial_of pred at ≡ later.roots.pending) → (run : HasRun end)
-        → IsTypedState program (state_at program run.count) → MayTell program (map Some items) end
+        → IsTypedState program (state_at asks program run.count) → MayTell program (map Some items) end
     tells_so (ends.Uncaught class at) place run typed = may_tell class at (place class at refl) run typed
     tells_so ends.Returned place run typed = tt
     tells_so ends.BudgetSpent place run typed = tt
@@ -293,17 +301,46 @@ counts_as before now on back counts = record {
 told_never : (cause : Cause) (text : List ℕ) (stop : Stop) → IsToldAs cause text stop → stop ≡ OutputFault → ⊥
 told_never cause text stop is same = subst (IsToldAs cause text) same is
 
-pub output_stops : (main : List ℕ) (program : Linked) (objects : List (Option Object)) (end : End) (stop : Stop) → IsStopOf main program objects end stop → end ≡ ends.OutputFault
+pub output_stops : (asks : Run) (program : Linked) (objects : List (Option Object)) (end : End) (stop : Stop) → IsStopOf asks program objects end stop → end ≡ ends.OutputFault
     → stop ≡ OutputFault
-output_stops main program objects end stop is same = subst (λ end. IsStopOf main program objects end stop) same is
+output_stops asks program objects end stop is same = subst (λ end. IsStopOf asks program objects end stop) same is
 
-pub output_ends : (main : List ℕ) (program : Linked) (objects : List (Option Object)) (end : End) (stop : Stop) → IsStopOf main program objects end stop → stop ≡ OutputFault
+pub output_ends : (asks : Run) (program : Linked) (objects : List (Option Object)) (end : End) (stop : Stop) → IsStopOf asks program objects end stop → stop ≡ OutputFault
     → end ≡ ends.OutputFault
-output_ends main program objects ends.Returned stop is same = absurd (cc (is, same))
-output_ends main program objects (ends.Uncaught class at) stop is same = absurd (subst (IsUncaughtAs program objects class at) same is)
-output_ends main program objects ends.BudgetSpent stop is same = absurd (told_never causes.BudgetSpent spent_line stop is same)
-output_ends main program objects (ends.HeapFull live asked limit) stop is same = absurd (told_never causes.HeapFull (full_line (rooms.Full live asked limit)) stop is same)
-output_ends main program objects ends.ReportFault stop is same = absurd (cc (is, same))
-output_ends main program objects ends.OutputFault stop is same = refl
-output_ends main program objects ends.OutOfMemory stop is same = absurd (cc (is, same))
-output_ends main program objects ends.NotYet stop is same = absurd (told_never causes.NotYet (line (refusal_text (NotYet (utf8 main)))) stop is same)
+output_ends asks program objects ends.Returned stop is same = absurd (cc (is, same))
+output_ends asks program objects (ends.Uncaught class at) stop is same = absurd (subst (IsUncaughtAs program objects class at) same is)
+output_ends asks program objects ends.BudgetSpent stop is same = absurd (told_never causes.BudgetSpent (spent_line asks.steps) stop is same)
+output_ends asks program objects (ends.HeapFull live asked limit) stop is same = absurd (told_never causes.HeapFull (full_line (rooms.Full live asked limit)) stop is same)
+output_ends asks program objects ends.ReportFault stop is same = absurd (cc (is, same))
+output_ends asks program objects ends.OutputFault stop is same = refl
+output_ends asks program objects ends.OutOfMemory stop is same = absurd (cc (is, same))
+output_ends asks program objects ends.NotYet stop is same = absurd (told_never causes.NotYet (line (refusal_text (NotYet (utf8 asks.main)))) stop is same)
+
+-- a run that hasn't begun for want of room
+abbrev pub IsRefused : Run → Linked → NoRoom → Type 0
+IsRefused asks program reason =
+    (after : Meaning (Unit {0})) × MakesRoom tt (view_of (empty_state program [])) (asked (start_plan (machine_of asks program) (texts_of asks) [])) (Err reason) after
+
+pub refused_so : (asks : Run) (program : Linked) (reason : NoRoom) (stop : Stop) → IsRefused asks program reason → IsRefusedStart reason stop → RunsTo asks program stop []
+refused_so asks program rooms.ReportFault stop refused is = subst (λ stop. RunsTo asks program stop []) (sym is) (inl refl)
+refused_so asks program rooms.OutOfMemory stop refused is = subst (λ stop. RunsTo asks program stop []) (sym is) (inl refl)
+refused_so asks program (rooms.Full live most limit) OutOfMemory refused is = inl refl
+refused_so asks program (rooms.Full live most limit) Returned refused is = absurd is
+refused_so asks program (rooms.Full live most limit) Usage refused is = absurd is
+refused_so asks program (rooms.Full live most limit) (Refused text) refused is = absurd is
+refused_so asks program (rooms.Full live most limit) FolderFault refused is = absurd is
+refused_so asks program (rooms.Full live most limit) InputFault refused is = absurd is
+refused_so asks program (rooms.Full live most limit) OutputFault refused is = absurd is
+refused_so asks program (rooms.Full live most limit) (Told cause text) (after, refused) (same, is) =
+    let full = full_is (refused.refused (rooms.Full live most limit) refl) in
+    inl (refused.full.1 (ap Err full), ap (λ cause. told cause [] (string_bytes text)) same ∙ ap (λ err. told causes.HeapFull [] err) (is ∙ ap full_line full))
+  where
+    full_is : (rooms.Full live most limit ≡ no_room_in (view_of (empty_state program []))) ⊎ (rooms.Full live most limit ≡ rooms.OutOfMemory)
+        → rooms.Full live most limit ≡ no_room_in (view_of (empty_state program []))
+    full_is (inl is) = is
+    full_is (inr is) = absurd (cc is)
+
+pub refused_quietly : (reason : NoRoom) (stop : Stop) → IsRefusedStart reason stop → stop ≡ OutputFault → ⊥
+refused_quietly rooms.ReportFault stop is same = absurd (cc (is, same))
+refused_quietly rooms.OutOfMemory stop is same = absurd (cc (is, same))
+refused_quietly (rooms.Full live most limit) stop is same = told_never causes.HeapFull (full_line (rooms.Full live most limit)) stop is same

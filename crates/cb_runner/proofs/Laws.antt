@@ -10,8 +10,8 @@ use Rattle.cb_runner.specs.Asm.{AssemblesText, TooLong, Assembled, Bad}
 use Rattle.cb_runner.specs.Ending.{Ending}
 use Rattle.cb_runner.specs.List.{ListsBytes, ListsFile, OfVersion, OfNoClass, OfItem, Listed}
 use Rattle.cb_runner.specs.Run.{RunsClass, Stopped, Typed, Untyped}
-use Rattle.cb_runner.specs.Running.{EndsRun, Returns, Throws, Spends, Fills, LeavesOut}
-use Rattle.cb_runner.specs.Words.{Command, RunIn, ListOf, Assemble, SaysNone}
+use Rattle.cb_runner.specs.Running.{EndsBegun, EndsRun, Returns, Throws, Spends, Fills, LeavesOut}
+use Rattle.cb_runner.specs.Words.{Command, Run, RunIn, ListOf, Assemble, SaysNone}
 
 -- whether an end is whole, its cause says
 pub whole_by : (ending other : Ending) → ending ≡ other → IsWhole other → IsWhole ending
@@ -21,17 +21,21 @@ pub cause_whole : (one other : Cause) → one ≡ other → IsTrue (ends_whole o
 cause_whole one other is whole = subst (λ cause. IsTrue (ends_whole cause)) is whole
 
 -- a command that nothing cuts short returns or is refused, or the program that it runs ends in another way
-pub ends_run_whole : (main : List ℕ) (program : Linked) (ending : Ending) → EndsRun main program ending → IsWhole ending
-ends_run_whole main program ending (Returns count within returns is) = whole_by ending _ is refl
-ends_run_whole main program ending (Throws count serial object units within throws there tells is) = whole_by ending _ is refl
-ends_run_whole main program ending (Spends runs is) = whole_by ending _ is refl
-ends_run_whole main program ending (Fills count below fills is) = whole_by ending _ is refl
-ends_run_whole main program ending (LeavesOut count below leaves is) = whole_by ending _ is refl
+ends_begun_whole : (run : Run) (program : Linked) (ending : Ending) → EndsBegun run program ending → IsWhole ending
+ends_begun_whole run program ending (Returns count within returns is) = whole_by ending _ is refl
+ends_begun_whole run program ending (Throws count serial object units within throws there tells is) = whole_by ending _ is refl
+ends_begun_whole run program ending (Spends runs is) = whole_by ending _ is refl
+ends_begun_whole run program ending (Fills count below fills is) = whole_by ending _ is refl
+ends_begun_whole run program ending (LeavesOut count below leaves is) = whole_by ending _ is refl
 
-runs_class_whole : (files : Option Files) (folder main : List ℕ) (ending : Ending) → RunsClass files folder main ending → IsWhole ending
-runs_class_whole files folder main ending (Stopped library refusal reason known stops says is) = whole_by ending _ is refl
-runs_class_whole files folder main ending (Untyped library classes method reason known loaded good untyped is) = whole_by ending _ is refl
-runs_class_whole files folder main ending (Typed program runnable runs) = ends_run_whole main program ending runs
+pub ends_run_whole : (run : Run) (program : Linked) (ending : Ending) → EndsRun run program ending → IsWhole ending
+ends_run_whole run program ending (inl (fills, is)) = whole_by ending _ is refl
+ends_run_whole run program ending (inr (begins, ends)) = ends_begun_whole run program ending ends
+
+runs_class_whole : (files : Option Files) (folder : List ℕ) (run : Run) (ending : Ending) → RunsClass files folder run ending → IsWhole ending
+runs_class_whole files folder run ending (Stopped library refusal reason known stops says is) = whole_by ending _ is refl
+runs_class_whole files folder run ending (Untyped library classes method reason known loaded good untyped is) = whole_by ending _ is refl
+runs_class_whole files folder run ending (Typed program runnable runs) = ends_run_whole run program ending runs
 
 lists_bytes_whole : (path bytes : List ℕ) (ending : Ending) → ListsBytes path bytes ending → IsWhole ending
 lists_bytes_whole path bytes ending (Listed class listed is) = whole_by ending _ is refl
@@ -50,7 +54,7 @@ assembles_whole text ending (Assembled short class text_of is) = whole_by ending
 assembles_whole text ending (Bad short line stops is) = whole_by ending _ is refl
 
 pub answers_whole : (command : Command) (files : Option Files) (left : Option (List ℕ)) (ending : Ending) → Answers command files left ending → IsWhole ending
-answers_whole (RunIn folder main) files left ending runs = runs_class_whole files folder main ending runs
+answers_whole (RunIn folder run) files left ending runs = runs_class_whole files folder run ending runs
 answers_whole (ListOf path) files left ending (file, may, lists) = lists_whole path file ending lists
 answers_whole Assemble files left ending (text, may, assembles) = assembles_whole text ending assembles
 
@@ -63,17 +67,17 @@ fault_cause OfOutput = OutputFault
 
 pub cut_cause : (fault : Fault) (command : Command) (files : Option Files) (left : Option (List ℕ)) (ending : Ending) → IsCutShort fault command files left ending → ending.cause ≡ fault_cause fault
 unfolding fault_cause
-cut_cause OfMemory (RunIn folder main) files left ending (inl is) = ap (λ e. e.cause) is
-cut_cause OfMemory (RunIn folder main) files left ending (inr (program, runnable, (count, within, is))) = ap (λ e. e.cause) is
+cut_cause OfMemory (RunIn folder run) files left ending (inl is) = ap (λ e. e.cause) is
+cut_cause OfMemory (RunIn folder run) files left ending (inr (program, runnable, (count, within, is))) = ap (λ e. e.cause) is
 cut_cause OfMemory (ListOf path) files left ending is = ap (λ e. e.cause) is
 cut_cause OfMemory Assemble files left ending (read, may, is) = ap (λ e. e.cause) is
-cut_cause OfFolder (RunIn folder main) files left ending is = ap (λ e. e.cause) is
+cut_cause OfFolder (RunIn folder run) files left ending is = ap (λ e. e.cause) is
 cut_cause OfFolder (ListOf path) files left ending is = ap (λ e. e.cause) is
 cut_cause OfFolder Assemble files left ending is = absurd is
-cut_cause OfInput (RunIn folder main) files left ending is = absurd is
+cut_cause OfInput (RunIn folder run) files left ending is = absurd is
 cut_cause OfInput (ListOf path) files left ending is = absurd is
 cut_cause OfInput Assemble files left ending (read, may, is) = ap (λ e. e.cause) is
-cut_cause OfOutput (RunIn folder main) files left ending (program, runnable, (count, more, front, below, prints, prefix, is)) = ap (λ e. e.cause) is
+cut_cause OfOutput (RunIn folder run) files left ending (program, runnable, (count, more, front, below, prints, prefix, is)) = ap (λ e. e.cause) is
 cut_cause OfOutput (ListOf path) files left ending (whole, answers, front, prefix, is) = ap (λ e. e.cause) is
 cut_cause OfOutput Assemble files left ending (whole, answers, front, prefix, is) = ap (λ e. e.cause) is
 
@@ -118,7 +122,7 @@ pub asks_input : (command : Command) (files : Option Files) (left : Option (List
 unfolding fault_cause
 asks_input command files left ending (inl answers) is = absurd (false≢true (cause_whole ending.cause InputFault is (answers_whole command files left ending answers)))
 asks_input Assemble files left ending (inr (fault, cut)) is = refl
-asks_input (RunIn folder main) files left ending (inr (OfInput, cut)) is = absurd cut
+asks_input (RunIn folder run) files left ending (inr (OfInput, cut)) is = absurd cut
 asks_input (ListOf path) files left ending (inr (OfInput, cut)) is = absurd cut
 asks_input command files left ending (inr (OfMemory, cut)) is = let no : OutOfMemory ≡ InputFault = sym (cut_cause OfMemory command files left ending cut) ∙ is in absurd cc
 asks_input command files left ending (inr (OfFolder, cut)) is = let no : FolderFault ≡ InputFault = sym (cut_cause OfFolder command files left ending cut) ∙ is in absurd cc

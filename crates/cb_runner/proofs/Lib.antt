@@ -1,5 +1,9 @@
 pub mod Reading
 pub mod FewItems
+pub mod Options
+pub mod Plain
+pub mod RunSaid
+pub mod Texts
 pub mod Digits
 pub mod Endings
 pub mod Unlinked

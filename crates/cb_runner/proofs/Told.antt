@@ -10,7 +10,7 @@ use Rattle.cb_runner.specs.declared.cause.Cause.{Cause}
 use Rattle.cb_runner.specs.declared.stop.Stop.{Stop}
 use Rattle.cb_runner.specs.declared.stop.Stop.TheVariants.{OutOfMemory, Told}
 use Rattle.cb_runner.specs.Inner.{IsToldAs}
-use Rattle.cb_runner.specs.Running.{full_line, most_steps, spent_line}
+use Rattle.cb_runner.specs.Running.{full_line, spent_line}
 
 pub ok_on : {T E : Type 0} {P Q : T → Type 0} (result : Result T E) → IfOk result P → ((value : T) → P value → Q value) → IfOk result Q
 ok_on (Ok value) is go = go value is
@@ -22,8 +22,8 @@ told_as cause text (Ok line) stop told none is = subst (IsToldAs cause text) (sy
 told_as cause text (Err error) stop told none is = subst (IsToldAs cause text) (sym none) tt
 
 -- the words of two of them
-pub spent_is : codes "cbvm: budget spent after " ++ decimal most_steps ++ codes " steps\n" ≡ spent_line
-spent_is = ap (λ tail. codes "cbvm: budget spent after " ++ tail) (sym (append_assoc (decimal most_steps) (codes " steps") (codes "\n")))
+pub spent_is : (steps : ℕ) → codes "cbvm: budget spent after " ++ decimal steps ++ codes " steps\n" ≡ spent_line steps
+spent_is steps = ap (λ tail. codes "cbvm: budget spent after " ++ tail) (sym (append_assoc (decimal steps) (codes " steps") (codes "\n")))
 
 pub full_is : (live asked limit : ℕ)
     → codes "cbvm: heap full " ++ (decimal live ++ (codes " live " ++ (decimal asked ++ (codes " asked " ++ (decimal limit ++ codes " allowed\n"))))) ≡ full_line (Full live asked limit)

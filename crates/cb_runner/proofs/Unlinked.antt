@@ -13,6 +13,7 @@ use Rattle.cb_runner.specs.Ending.{Ending, refused}
 use Rattle.cb_runner.specs.Inner.{IsRefusal, IsUnlinked, StopsAtOnce}
 use Rattle.cb_runner.specs.Messages.{Reason, BadHierarchy, MissingClass, MissingMember, Malformed, BadVersion, NoMain, Unsupported, TooLarge}
 use Rattle.cb_runner.specs.Run.{RunsClass, Stopped, quantity_of, reason_of_linking}
+use Rattle.cb_runner.specs.Words.{Run}
 use Rattle.cb_runner.proofs.Endings.{refusal_is}
 
 -- a refusal for a reason stops at once
@@ -21,17 +22,17 @@ refused_at_once MayEnd reason (Refused text) is may = subst MayEnd (refusal_is r
 refused_at_once MayEnd reason OutOfMemory is may = tt
 refused_at_once MayEnd reason stop is may = absurd is
 
-unlinked_for : (files : Option Files) (root main : List ℕ) (library : List ClassFile) (refusal : Refusal) (reason : Reason) (stop : Stop) → AreLibrary library → IsHindered files root library main refusal → reason_of_linking refusal ≡ Some reason → IsRefusal reason stop → StopsAtOnce (RunsClass files root main) stop
-unlinked_for files root main library refusal reason stop known stops says is = refused_at_once (RunsClass files root main) reason stop is (Stopped library refusal reason known stops says refl)
+unlinked_for : (files : Option Files) (root : List ℕ) (run : Run) (library : List ClassFile) (refusal : Refusal) (reason : Reason) (stop : Stop) → AreLibrary library → IsHindered files root library run.main refusal → reason_of_linking refusal ≡ Some reason → IsRefusal reason stop → StopsAtOnce (RunsClass files root run) stop
+unlinked_for files root run library refusal reason stop known stops says is = refused_at_once (RunsClass files root run) reason stop is (Stopped library refusal reason known stops says refl)
 
-pub unlinked_so : (files : Option Files) (root main : List ℕ) (library : List ClassFile) (refusal : Refusal) (stop : Stop) → AreLibrary library → Hinders files root library main refusal → IsUnlinked refusal stop → StopsAtOnce (RunsClass files root main) stop
-unlinked_so files root main library links.FolderFault stop known stops is = subst (StopsAtOnce (RunsClass files root main)) (sym is) tt
-unlinked_so files root main library links.OutOfMemory stop known stops is = subst (StopsAtOnce (RunsClass files root main)) (sym is) tt
-unlinked_so files root main library (links.MissingClass name) stop known stops is = unlinked_for files root main library (links.MissingClass name) (MissingClass (utf8 name)) stop known stops refl is
-unlinked_so files root main library (links.TooLarge what count limit) stop known stops is = unlinked_for files root main library (links.TooLarge what count limit) (TooLarge (quantity_of what) count limit) stop known stops refl is
-unlinked_so files root main library (links.Malformed class) stop known stops is = unlinked_for files root main library (links.Malformed class) (Malformed (utf8 class)) stop known stops refl is
-unlinked_so files root main library (links.BadVersion class major) stop known stops is = unlinked_for files root main library (links.BadVersion class major) (BadVersion (utf8 class) major) stop known stops refl is
-unlinked_so files root main library (links.Unsupported class item) stop known stops is = unlinked_for files root main library (links.Unsupported class item) (Unsupported (utf8 class) item) stop known stops refl is
-unlinked_so files root main library (links.BadHierarchy class) stop known stops is = unlinked_for files root main library (links.BadHierarchy class) (BadHierarchy (utf8 class)) stop known stops refl is
-unlinked_so files root main library (links.MissingMember class member) stop known stops is = unlinked_for files root main library (links.MissingMember class member) (MissingMember (utf8 class) (utf8 member)) stop known stops refl is
-unlinked_so files root main library (links.NoMain class) stop known stops is = unlinked_for files root main library (links.NoMain class) (NoMain (utf8 class)) stop known stops refl is
+pub unlinked_so : (files : Option Files) (root : List ℕ) (run : Run) (library : List ClassFile) (refusal : Refusal) (stop : Stop) → AreLibrary library → Hinders files root library run.main refusal → IsUnlinked refusal stop → StopsAtOnce (RunsClass files root run) stop
+unlinked_so files root run library links.FolderFault stop known stops is = subst (StopsAtOnce (RunsClass files root run)) (sym is) tt
+unlinked_so files root run library links.OutOfMemory stop known stops is = subst (StopsAtOnce (RunsClass files root run)) (sym is) tt
+unlinked_so files root run library (links.MissingClass name) stop known stops is = unlinked_for files root run library (links.MissingClass name) (MissingClass (utf8 name)) stop known stops refl is
+unlinked_so files root run library (links.TooLarge what count limit) stop known stops is = unlinked_for files root run library (links.TooLarge what count limit) (TooLarge (quantity_of what) count limit) stop known stops refl is
+unlinked_so files root run library (links.Malformed class) stop known stops is = unlinked_for files root run library (links.Malformed class) (Malformed (utf8 class)) stop known stops refl is
+unlinked_so files root run library (links.BadVersion class major) stop known stops is = unlinked_for files root run library (links.BadVersion class major) (BadVersion (utf8 class) major) stop known stops refl is
+unlinked_so files root run library (links.Unsupported class item) stop known stops is = unlinked_for files root run library (links.Unsupported class item) (Unsupported (utf8 class) item) stop known stops refl is
+unlinked_so files root run library (links.BadHierarchy class) stop known stops is = unlinked_for files root run library (links.BadHierarchy class) (BadHierarchy (utf8 class)) stop known stops refl is
+unlinked_so files root run library (links.MissingMember class member) stop known stops is = unlinked_for files root run library (links.MissingMember class member) (MissingMember (utf8 class) (utf8 member)) stop known stops refl is
+unlinked_so files root run library (links.NoMain class) stop known stops is = unlinked_for files root run library (links.NoMain class) (NoMain (utf8 class)) stop known stops refl is

@@ -40,7 +40,7 @@ MayStandAt files path file = IfSome files (λ files. get files path ≡ file)
 
 -- it comes to this end, by what its files may be, or by what may be left of the input
 abbrev pub Answers : Command → Option Files → Option (List ℕ) → Ending → Type 0
-Answers (RunIn folder main) files left ending = RunsClass files folder main ending
+Answers (RunIn folder run) files left ending = RunsClass files folder run ending
 Answers (ListOf path) files left ending = (file : Option (List ℕ)) × MayStandAt files path file × ListsFile path file ending
 Answers Assemble files left ending = (text : List ℕ) × IfSome left (λ left. left ≡ text) × AssemblesText text ending
 
@@ -67,9 +67,10 @@ StopsShort fault command left ending = ⊥
 
 -- it is cut short so, or within what it prints. A run may be cut short behind each of its steps
 abbrev pub IsCutShort : Fault → Command → Option Files → Option (List ℕ) → Ending → Type 0
-IsCutShort OfMemory (RunIn folder main) files left ending =
-    (ending ≡ out_of_memory 0) ⊎ ((program : Linked) × IsRunnable files folder main program × CutsMemory program ending)
-IsCutShort OfOutput (RunIn folder main) files left ending = (program : Linked) × IsRunnable files folder main program × CutsOutput program ending
+IsCutShort OfMemory (RunIn folder run) files left ending =
+    (ending ≡ out_of_memory 0) ⊎ ((program : Linked) × IsRunnable files folder run.main program × CutsMemory run program ending)
+IsCutShort OfOutput (RunIn folder run) files left ending =
+    (program : Linked) × IsRunnable files folder run.main program × CutsOutput run program ending
 IsCutShort OfOutput command files left ending =
     (whole : Ending) × Answers command files left whole × (front : List ℕ) × IsProperPrefix front whole.out × (ending ≡ output_fault front whole.read)
 IsCutShort fault command files left ending = StopsShort fault command left ending

@@ -1,19 +1,23 @@
 -- What private contracts and proofs cite: no public clause names this file.
-use Rattle.std.specs.Prelude.{◌≡◌, ◌⊎◌, map, pred, ℕ, ◌+◌, ◌<◌, ◌≤◌, Bool, true, false, List, [], ◌++◌, length, drop, codes, string_bytes, Vec, Result, Ok, Err, Option, Some, IfSome, IsSomeAnd, IsTrue}
+use Rattle.std.specs.Prelude.{◌≡◌, ◌⊎◌, map, pred, ℕ, ◌+◌, ◌<◌, ◌≤◌, Bool, true, false, List, [], ◌∷◌, ◌++◌, length, drop, codes, string_bytes, Vec, Result, Ok, Err, Option, Some, IfSome, IsSomeAnd, IsTrue}
 use Rattle.std.specs.Io.KnownBytes.{Appends, Consumes, IsAtEnd, Keeps}
+use Rattle.std.specs.List.{AllByRecursion}
 use Rattle.std.specs.declared.alloc.Global.{Global}
 use Rattle.cb_heap.specs.Reading.{seen, serial_of}
-use Rattle.cb_heap.specs.declared.no_room.NoRoom.TheVariants.{Full}
+use Rattle.cb_heap.specs.declared.no_room.NoRoom.{NoRoom}
+use Rattle.cb_heap.specs.declared.no_room.NoRoom.TheVariants as rooms
 use Rattle.cb_interp.specs.Starting.{BeginsWith, unread}
 use Rattle.cb_interp.specs.Texts.{TellsException}
 use Rattle.cb_act.specs.Turning.{moment_of}
 use Rattle.cb_interp.specs.declared.end.End.{End}
 use Rattle.cb_interp.specs.declared.end.End.TheVariants as ends
 use Rattle.cb_io.specs.Utf8.{utf8}
+use Rattle.cb_machine.specs.Performing.{most_elements}
 use Rattle.cb_mapheap.specs.Room.{rules_of}
 use Rattle.cb_plain.specs.State.{Object, Roots}
 use Rattle.cb_safety.specs.Heap.{IsHeap}
 use Rattle.cb_safety.specs.Kinds.{IsOfKind, kinds_of}
+use Rattle.cb_safety.specs.Strings.{IsText}
 use Rattle.cb_verify.specs.Within.{kind_of_throwable}
 use Rattle.cb_io.specs.Sink.{IsProperPrefix}
 use Rattle.cb_classfile.specs.declared.fault.ClassFault.{ClassFault}
@@ -28,18 +32,27 @@ use Rattle.cb_runner.specs.declared.input.Input.TheVariants.{Whole, TooLong}
 use Rattle.cb_runner.specs.declared.refusal.Refusal.{Refusal}
 use Rattle.cb_runner.specs.declared.stop.Stop.{Stop}
 use Rattle.cb_runner.specs.declared.stop.Stop.TheVariants.{FolderFault, InputFault, OutOfMemory, OutputFault, Refused, Returned, Told, Usage}
+use Rattle.cb_runner.specs.declared.arguments.Arguments.{Arguments}
+use Rattle.cb_runner.specs.declared.run_words.RunWords.{RunWords}
 use Rattle.cb_runner.specs.declared.words.Command.{Command as SaidCommand}
 use Rattle.cb_runner.specs.declared.words.Command.TheVariants as said_commands
 use Rattle.cb_runner.specs.Answer.{ends_whole}
 use Rattle.cb_runner.specs.Ending.{Ending, returned}
 use Rattle.cb_runner.specs.Messages.{Reason, BadVersion, Malformed, NotYet, Unsupported, line, reason_of, refusal_text}
 use Rattle.cb_runner.specs.Run.{IsUntyped, reason_of_linking}
-use Rattle.cb_runner.specs.Running.{CutsMemory, CutsOutput, EndsRun, exception_line, full_line, machine_of, spent_line}
-use Rattle.cb_runner.specs.Words.{Command, RunIn, ListOf, Assemble, internal_name}
+use Rattle.cb_runner.specs.Running.{CutsMemory, CutsOutput, EndsRun, exception_line, full_line, machine_of, spent_line, texts_of}
+use Rattle.cb_runner.specs.Words.{AreOptions, Command, IsOption, IsOptionOf, RunIn, ListOf, Assemble, Run, TellsNumber, internal_name}
 
--- the command that a value of the program is
+-- the words that are arguments, and the run and the command that a value of the program is
+abbrev pub words_of : Arguments → List (List ℕ)
+words_of arguments = map string_bytes arguments.front.now ++ map string_bytes arguments.back.now
+
+abbrev pub run_of : RunWords → Run
+run_of run =
+    record { steps = run.steps; frames = run.frames; main = internal_name run.class.now; arguments = words_of run.arguments }
+
 abbrev pub said : SaidCommand → Command
-said (said_commands.Run folder class) = RunIn folder.now (internal_name class.now)
+said (said_commands.Run run) = RunIn run.folder.now (run_of run)
 said (said_commands.List path) = ListOf path.now
 said said_commands.Assemble = Assemble
 
@@ -142,23 +155,59 @@ StopsBy MayEnd read OutputFault out = (whole : Ending) × MayEnd whole × IsProp
 StopsBy MayEnd read OutOfMemory out = out ≡ []
 StopsBy MayEnd read other out = ⊥
 
--- a program of a main class was run, stopped so and printed this
-abbrev pub RunsTo : List ℕ → Linked → Stop → List ℕ → Type 0
-RunsTo main program OutOfMemory out = (out ≡ []) ⊎ CutsMemory program (ending_of OutOfMemory out 0)
-RunsTo main program OutputFault out = CutsOutput program (ending_of OutputFault out 0)
-RunsTo main program Returned out = EndsRun main program (ending_of Returned out 0)
-RunsTo main program (Told cause text) out = EndsRun main program (ending_of (Told cause text) out 0)
-RunsTo main program other out = ⊥
+-- the first word is this one
+abbrev pub LeadsWith : List ℕ → List (List ℕ) → Type 0
+LeadsWith name words = (behind : List (List ℕ)) × (words ≡ name ∷ behind)
 
--- a run has begun, without arguments: what is kept stands at the start
-abbrev pub HasBegun : Linked → List Object → Roots → Type 0
-HasBegun program objects roots = BeginsWith rules_of (machine_of program) [] [] tt (moment_of (seen pred (map Some objects) roots) (unread []) tt)
+-- an option stands at the front of words, with this value
+abbrev pub TellsOption : (name : List ℕ) (most value : ℕ) → List (List ℕ) → Type 0
+TellsOption name most value words =
+    (number : List ℕ) × (behind : List (List ℕ)) × (words ≡ name ∷ number ∷ behind) × TellsNumber most value number
+
+-- an option was taken from the front of words, if it stands there
+pub record TakesOption (name : List ℕ) (most usual value : ℕ) (words rest : List (List ℕ)) : Type 0 where
+  pub front : List (List ℕ)
+  pub is : IsOptionOf name most usual value front
+  pub words_are : words ≡ front ++ rest
+  pub told : (other : ℕ) (number : List ℕ) (behind : List (List ℕ)) → words ≡ name ∷ number ∷ behind → TellsNumber most other number
+      → (value ≡ other) × (rest ≡ behind)
+
+-- all options were, where a word behind them is none
+pub record TakesOptions (steps frames : ℕ) (words rest : List (List ℕ)) : Type 0 where
+  pub front : List (List ℕ)
+  pub are : AreOptions steps frames front
+  pub words_are : words ≡ front ++ rest
+  pub told : (most few : ℕ) (options : List (List ℕ)) (word : List ℕ) (behind : List (List ℕ)) → AreOptions most few options
+      → words ≡ options ++ word ∷ behind → ¬ IsOption word → (steps ≡ most) × (frames ≡ few) × (rest ≡ word ∷ behind)
+
+-- arguments are texts, and no more than an array has elements
+abbrev pub AreTexts : List (List ℕ) → Type 0
+AreTexts given = AllByRecursion IsText given × (length given ≤ most_elements)
+
+-- a program was run, stopped so and printed this
+abbrev pub RunsTo : Run → Linked → Stop → List ℕ → Type 0
+RunsTo run program OutOfMemory out = (out ≡ []) ⊎ CutsMemory run program (ending_of OutOfMemory out 0)
+RunsTo run program OutputFault out = CutsOutput run program (ending_of OutputFault out 0)
+RunsTo run program Returned out = EndsRun run program (ending_of Returned out 0)
+RunsTo run program (Told cause text) out = EndsRun run program (ending_of (Told cause text) out 0)
+RunsTo run program other out = ⊥
+
+-- a run has begun: what is kept stands at the start
+abbrev pub HasBegun : Run → Linked → List Object → Roots → Type 0
+HasBegun run program objects roots =
+    BeginsWith rules_of (machine_of run program) (texts_of run) [] tt (moment_of (seen pred (map Some objects) roots) (unread []) tt)
 
 -- a command stops for a cause with this last line, or there was no memory for it
 abbrev pub IsToldAs : Cause → List ℕ → Stop → Type 0
 IsToldAs cause text (Told own line) = (own ≡ cause) × (string_bytes line ≡ text)
 IsToldAs cause text OutOfMemory = Unit {0}
 IsToldAs cause text other = ⊥
+
+-- how a command stops whose run hasn't begun for this want of room
+abbrev pub IsRefusedStart : NoRoom → Stop → Type 0
+IsRefusedStart (rooms.Full live asked limit) stop = IsToldAs causes.HeapFull (full_line (rooms.Full live asked limit)) stop
+IsRefusedStart rooms.ReportFault stop = stop ≡ OutOfMemory
+IsRefusedStart rooms.OutOfMemory stop = stop ≡ OutOfMemory
 
 -- so is the exception of a place told, among the objects of a store that never lets one go
 abbrev pub IsUncaughtAs : Linked → List (Option Object) → (class at : ℕ) → Stop → Type 0
@@ -168,15 +217,15 @@ IsUncaughtAs program objects class at OutOfMemory = Unit {0}
 IsUncaughtAs program objects class at other = ⊥
 
 -- how a command stops whose run has ended so
-abbrev pub IsStopOf : List ℕ → Linked → List (Option Object) → End → Stop → Type 0
-IsStopOf main program objects ends.Returned stop = stop ≡ Returned
-IsStopOf main program objects (ends.Uncaught class at) stop = IsUncaughtAs program objects class at stop
-IsStopOf main program objects ends.BudgetSpent stop = IsToldAs causes.BudgetSpent spent_line stop
-IsStopOf main program objects (ends.HeapFull live asked limit) stop = IsToldAs causes.HeapFull (full_line (Full live asked limit)) stop
-IsStopOf main program objects ends.ReportFault stop = stop ≡ OutOfMemory
-IsStopOf main program objects ends.OutputFault stop = stop ≡ OutputFault
-IsStopOf main program objects ends.OutOfMemory stop = stop ≡ OutOfMemory
-IsStopOf main program objects ends.NotYet stop = IsToldAs causes.NotYet (line (refusal_text (NotYet (utf8 main)))) stop
+abbrev pub IsStopOf : Run → Linked → List (Option Object) → End → Stop → Type 0
+IsStopOf run program objects ends.Returned stop = stop ≡ Returned
+IsStopOf run program objects (ends.Uncaught class at) stop = IsUncaughtAs program objects class at stop
+IsStopOf run program objects ends.BudgetSpent stop = IsToldAs causes.BudgetSpent (spent_line run.steps) stop
+IsStopOf run program objects (ends.HeapFull live asked limit) stop = IsToldAs causes.HeapFull (full_line (rooms.Full live asked limit)) stop
+IsStopOf run program objects ends.ReportFault stop = stop ≡ OutOfMemory
+IsStopOf run program objects ends.OutputFault stop = stop ≡ OutputFault
+IsStopOf run program objects ends.OutOfMemory stop = stop ≡ OutOfMemory
+IsStopOf run program objects ends.NotYet stop = IsToldAs causes.NotYet (line (refusal_text (NotYet (utf8 run.main)))) stop
 
 -- what is asked for that of the objects: they are typed, and an exception is one
 abbrev pub MayTell : Linked → List (Option Object) → End → Type 0

@@ -22,6 +22,7 @@ use Rattle.cb_runner.specs.declared.refusal.Quantity.TheVariants.{ClassFileBytes
 use Rattle.cb_runner.specs.Ending.{Ending, refused}
 use Rattle.cb_runner.specs.Messages.{Reason, BadHierarchy, MissingClass, MissingMember, Malformed, BadVersion, NoMain, Unsupported, TooLarge, Unverified}
 use Rattle.cb_runner.specs.Running.{EndsRun}
+use Rattle.cb_runner.specs.Words.{Run}
 
 -- the most bytes of a class file
 abbrev pub file_limit : ℕ
@@ -81,14 +82,14 @@ pub record IsRunnable (files : Option Files) (folder main : List ℕ) (program :
 
 -- linking the class stops for a reason, which is told; or its classes are a program that isn't typed, for a reason that is told; or
 -- they are one that is, and it is run
-pub data RunsClass (files : Option Files) (folder main : List ℕ) (ending : Ending) : Type 0 where
+pub data RunsClass (files : Option Files) (folder : List ℕ) (run : Run) (ending : Ending) : Type 0 where
   Stopped : (library : List ClassFile) (refusal : LinkRefusal) (reason : Reason) → AreLibrary library
-      → IsHindered files folder library main refusal → reason_of_linking refusal ≡ Some reason → ending ≡ refused reason 0
-      → RunsClass files folder main ending
-  Untyped : (library classes : List ClassFile) (method : ℕ) (reason : Reason) → AreLibrary library → AreLoaded files folder main classes
-      → IsProgram (library ++ classes) main method → IsUntyped (linked (library ++ classes) main method) reason → ending ≡ refused reason 0
-      → RunsClass files folder main ending
-  Typed : (program : Linked) → IsRunnable files folder main program → EndsRun main program ending → RunsClass files folder main ending
+      → IsHindered files folder library run.main refusal → reason_of_linking refusal ≡ Some reason → ending ≡ refused reason 0
+      → RunsClass files folder run ending
+  Untyped : (library classes : List ClassFile) (method : ℕ) (reason : Reason) → AreLibrary library → AreLoaded files folder run.main classes
+      → IsProgram (library ++ classes) run.main method → IsUntyped (linked (library ++ classes) run.main method) reason → ending ≡ refused reason 0
+      → RunsClass files folder run ending
+  Typed : (program : Linked) → IsRunnable files folder run.main program → EndsRun run program ending → RunsClass files folder run ending
 
 -- classes that were loaded are a program, whatever the layout of the library's records; or they are none for this reason
 abbrev pub AreProgram : List ClassFile → List ℕ → Type 0

@@ -8,7 +8,8 @@ pub enum Cause {
     Uncaught(u32),
     /// As many steps were made as a run makes at most. What they print stands.
     BudgetSpent,
-    /// What the next step of the program places takes more words than there may be. What was printed before stands.
+    /// What the next step of the program places takes more words than there may be, or what is there at its start does. What was
+    /// printed before stands.
     HeapFull,
     /// The next step of the program performs a native that isn't done yet. What was printed before stands.
     NotYet,

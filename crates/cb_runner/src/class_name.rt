@@ -42,7 +42,7 @@ pub(crate) fn internal_name(alloc: Global, word: &str) -> Result<Units, OutOfMem
 }
 
 /// Adds the UTF-16 units of a character.
-fn push_units(character: char, name: &mut Units) -> Result<(), OutOfMemory>
+pub(crate) fn push_units(character: char, name: &mut Units) -> Result<(), OutOfMemory>
     ensures { OnOk result (name.new ≡ name.old ++ encode_utf16 character) }
 {
     let mut buffer = [0; 2];

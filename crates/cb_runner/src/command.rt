@@ -4,7 +4,7 @@ ghost use Rattle.cb_io.specs.Faults.{CountsFaults};
 ghost use Rattle.cb_runner.specs.Answer.{Ends, IsAnswer};
 ghost use Rattle.cb_runner.specs.Ending.{status_of};
 ghost use Rattle.cb_runner.specs.Inner.{IsCarriedOut, TellsWhole};
-ghost use Rattle.cb_runner.specs.Words.{Assemble, Says};
+ghost use Rattle.cb_runner.specs.Words.{AreFew, Assemble, Says};
 ghost use Rattle.cb_runner.specs.declared.stop.Stop.TheVariants as stops;
 
 use crate::Ended;
@@ -18,9 +18,9 @@ use std::alloc::Global;
 
 /// Does what the words of the command line say, which are those after the program's name.
 ///
-/// `run FOLDER MAIN` links the class MAIN: it reads `FOLDER/MAIN.class` and the files of the classes that are needed. Then it
-/// verifies their methods (JVMS §4.10.1). If all are typed, the program is run without arguments, and what it prints goes to
-/// `out`. `list PATH` prints the listing of a class file. `asm` reads an assembly text from `input` and
+/// `run [--steps N] [--frames N] FOLDER MAIN [ARGS]` links the class MAIN: it reads `FOLDER/MAIN.class` and the files of the
+/// classes that are needed. Then it verifies their methods (JVMS §4.10.1). If all are typed, the program is run with the
+/// arguments, for at most so many steps and with at most so many frames, and what it prints goes to `out`. `list PATH` prints the listing of a class file. `asm` reads an assembly text from `input` and
 /// writes the class file to `out`; no other command reads anything from it. How the call ended goes to `err` as its last line,
 /// but where the command came to its end. `Ended::status` is that of its cause: 0, 1, or 119 to 127.
 pub fn run_command<F: Folder, S: Source, O: Sink, E: Sink>(
@@ -31,6 +31,7 @@ pub fn run_command<F: Folder, S: Source, O: Sink, E: Sink>(
     out: &mut O,
     err: &mut E,
 ) -> Ended
+    requires few { AreFew (map string_bytes words.now) }
     ensures answer { IsAnswer (map string_bytes words.now)
         (record { files = F.files folder.old; left = S.left input.old; out = O.taken out.old; err = E.taken err.old })
         (record { files = F.files folder.new; left = S.left input.new; out = O.taken out.new; err = E.taken err.new })
@@ -53,6 +54,7 @@ fn carry_out<F: Folder, S: Source, O: Sink>(
     input: &mut S,
     out: &mut O,
 ) -> Stop
+    requires few { AreFew (map string_bytes words.now) }
     ensures ends { IsCarriedOut (Ends (map string_bytes words.now) (F.files folder.old) (S.left input.old))
         (S.left input.old) (S.left input.new) (O.taken out.old) (O.taken out.new) result }
     ensures kept { F.files folder.new ≡ F.files folder.old }
@@ -64,12 +66,7 @@ fn carry_out<F: Folder, S: Source, O: Sink>(
     ensures output_fault { CountsFaults (O.faults out.old) (O.faults out.new) (result ≡ stops.OutputFault) }
 {
     match command_of(words) {
-        Some(
-            Command::Run {
-                folder: root,
-                class,
-            },
-        ) => run_class(alloc, root, class, folder, out),
+        Some(Command::Run(asked)) => run_class(alloc, &asked, folder, out),
         Some(Command::List { path }) => list_file(alloc, path, folder, out),
         Some(Command::Assemble) => assemble_input(alloc, input, out),
         None => Stop::Usage,

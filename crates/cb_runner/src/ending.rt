@@ -3,9 +3,11 @@ ghost use Rattle.std.specs.Prelude.{◌≡◌, ℕ, List, map, pred, string_byte
 ghost use Rattle.cb_heap.specs.Reading.{serial_of};
 ghost use Rattle.cb_io.specs.Utf8.{utf8};
 ghost use Rattle.cb_interp.specs.Texts.{TellsException};
-ghost use Rattle.cb_runner.specs.Inner.{IsStopOf, IsToldAs, IsUncaughtAs, MayTell};
+ghost use Rattle.cb_heap.specs.declared.no_room.NoRoom.TheVariants.{Full};
+ghost use Rattle.cb_runner.specs.Inner.{IsRefusedStart, IsStopOf, IsToldAs, IsUncaughtAs, MayTell, run_of};
 ghost use Rattle.cb_runner.specs.Messages.{NotYet, line, refusal_text};
-ghost use Rattle.cb_runner.specs.Running.{exception_line};
+ghost use Rattle.cb_runner.specs.Running.{exception_line, full_line, spent_line};
+ghost use Rattle.cb_runner.specs.Words.{internal_name};
 ghost use Rattle.cb_runner.specs.declared.cause.Cause.TheVariants as causes;
 ghost use Rattle.cb_runner.specs.declared.stop.Stop.TheVariants as stops;
 ghost use Rattle.cb_safety.specs.Heap.{IsHeap};
@@ -14,9 +16,11 @@ ghost use Rattle.cb_safety.specs.Linked.{IsLinked};
 ghost use Rattle.cb_verify.specs.Typed.{IsTyped};
 ghost use Rattle.cb_verify.specs.Within.{kind_of_throwable};
 
-use crate::executing::MOST_STEPS;
+use crate::class_name::internal_name;
+use crate::run_words::RunWords;
 use crate::stop::Stop;
 use crate::{Cause, Refusal};
+use cb_heap::NoRoom;
 use cb_interp::{End, exception_text};
 use cb_io::text_of;
 use cb_link::Program;
@@ -29,29 +33,23 @@ pub(crate) fn stop_of(
     alloc: Global,
     program: &Program,
     store: &MapHeap,
-    main: &[u16],
+    asked: &RunWords<'_>,
     end: End,
 ) -> Stop
     requires linked { IsLinked program.now }
     requires fits { IsTyped program.now }
     requires may { MayTell program.now (map Some store.now.objects) end }
-    ensures { IsStopOf main.now program.now (map Some store.now.objects) end result }
+    ensures { IsStopOf (run_of asked.now) program.now (map Some store.now.objects) end result }
 {
     match end {
         End::Returned => Stop::Returned,
         End::Uncaught { class, at } => uncaught(alloc, program, store, class, at),
-        End::BudgetSpent => told(
-            Cause::BudgetSpent,
-            format!(in alloc; "cbvm: budget spent after {MOST_STEPS} steps\n"),
-        ),
-        End::HeapFull { live, asked, limit } => told(
-            Cause::HeapFull,
-            format!(in alloc; "cbvm: heap full {live} live {asked} asked {limit} allowed\n"),
-        ),
+        End::BudgetSpent => spent(alloc, asked.steps),
+        End::HeapFull { live, asked, limit } => full(alloc, live, asked, limit),
         End::OutputFault => Stop::OutputFault,
         End::ReportFault => Stop::OutOfMemory,
         End::OutOfMemory => Stop::OutOfMemory,
-        End::NotYet => not_yet(alloc, main),
+        End::NotYet => not_yet(alloc, asked.class),
     }
 }
 
@@ -66,11 +64,45 @@ fn told(cause: Cause, line: Result<String, OutOfMemory>) -> Stop
     }
 }
 
-/// Stops since a step isn't done yet, of the program of a main class.
-fn not_yet(alloc: Global, main: &[u16]) -> Stop
-    ensures { IsToldAs causes.NotYet (line (refusal_text (NotYet (utf8 main.now)))) result }
+/// How a command stops whose run hasn't begun for want of room.
+pub(crate) fn unbegun(alloc: Global, reason: NoRoom) -> Stop
+    ensures { IsRefusedStart reason result }
 {
-    let Ok(class) = text_of(alloc, main) else {
+    match reason {
+        NoRoom::Full { live, asked, limit } => full(alloc, live, asked, limit),
+        NoRoom::ReportFault => Stop::OutOfMemory,
+        NoRoom::OutOfMemory => Stop::OutOfMemory,
+    }
+}
+
+/// Stops since so many steps were made.
+fn spent(alloc: Global, steps: u64) -> Stop
+    ensures { IsToldAs causes.BudgetSpent (spent_line steps) result }
+{
+    told(
+        Cause::BudgetSpent,
+        format!(in alloc; "cbvm: budget spent after {steps} steps\n"),
+    )
+}
+
+/// Stops since there is no room, with so many words live, asked for and allowed.
+fn full(alloc: Global, live: u64, asked: u64, limit: u64) -> Stop
+    ensures { IsToldAs causes.HeapFull (full_line (Full live asked limit)) result }
+{
+    told(
+        Cause::HeapFull,
+        format!(in alloc; "cbvm: heap full {live} live {asked} asked {limit} allowed\n"),
+    )
+}
+
+/// Stops since a step isn't done yet, of the program of the class that a word names.
+fn not_yet(alloc: Global, class: &str) -> Stop
+    ensures { IsToldAs causes.NotYet (line (refusal_text (NotYet (utf8 (internal_name class.now))))) result }
+{
+    let Ok(main) = internal_name(alloc, class) else {
+        return Stop::OutOfMemory;
+    };
+    let Ok(class) = text_of(alloc, main.as_slice()) else {
         return Stop::OutOfMemory;
     };
     let refusal = Refusal::NotYet { class };

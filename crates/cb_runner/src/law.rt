@@ -19,7 +19,7 @@ ghost use Rattle.cb_runner.specs.List.{IsListed, LeavesOut};
 ghost use Rattle.cb_runner.specs.Messages.{Reason, MissingClass, Malformed, BadVersion, Unsupported, TooLarge, BadLine};
 ghost use Rattle.cb_runner.specs.Run.{AreNoProgram, AreProgram, AreTyped, AreUntyped, IsRunnable, file_limit, reason_of_linking};
 ghost use Rattle.cb_runner.specs.Running.{EndsRun};
-ghost use Rattle.cb_runner.specs.Words.{Assemble, Command, ListOf, RunIn, SaysNone};
+ghost use Rattle.cb_runner.specs.Words.{Assemble, Command, ListOf, Run, RunIn, SaysNone};
 ghost use Rattle.cb_runner.specs.declared.cause.Cause.TheVariants as causes;
 ghost use Rattle.cb_runner.specs.declared.refusal.Quantity.TheVariants.{ClassFileBytes, AssemblyBytes};
 
@@ -51,21 +51,21 @@ pub fn refused_silently()
 /// are one that isn't typed, it is refused for its first method that isn't and the least place of it that fails. Where they are one
 /// that is typed, it ends as a run of their program does.
 pub fn run_exactly()
-    ensures unloaded { (folder main : List ℕ) (files : Files) (left : Option (List ℕ)) (ending : Ending)
-        (refusal : LinkRefusal) (reason : Reason) → Answers (RunIn folder main) (Some files) left ending
-        → StopsFor (Some files) folder main refusal → reason_of_linking refusal ≡ Some reason → ending ≡ refused reason 0 }
-    ensures unlinked { (folder main : List ℕ) (files : Files) (left : Option (List ℕ)) (ending : Ending)
-        (classes : List ClassFile) (refusal : LinkRefusal) (reason : Reason) → Answers (RunIn folder main) (Some files) left ending
-        → AreLoaded (Some files) folder main classes → AreNoProgram classes main refusal → reason_of_linking refusal ≡ Some reason
+    ensures unloaded { (folder : List ℕ) (run : Run) (files : Files) (left : Option (List ℕ)) (ending : Ending)
+        (refusal : LinkRefusal) (reason : Reason) → Answers (RunIn folder run) (Some files) left ending
+        → StopsFor (Some files) folder run.main refusal → reason_of_linking refusal ≡ Some reason → ending ≡ refused reason 0 }
+    ensures unlinked { (folder : List ℕ) (run : Run) (files : Files) (left : Option (List ℕ)) (ending : Ending)
+        (classes : List ClassFile) (refusal : LinkRefusal) (reason : Reason) → Answers (RunIn folder run) (Some files) left ending
+        → AreLoaded (Some files) folder run.main classes → AreNoProgram classes run.main refusal → reason_of_linking refusal ≡ Some reason
         → ending ≡ refused reason 0 }
-    ensures untyped { (folder main : List ℕ) (files : Files) (left : Option (List ℕ)) (ending : Ending)
-        (classes : List ClassFile) (reason : Reason) → Answers (RunIn folder main) (Some files) left ending
-        → AreLoaded (Some files) folder main classes → AreProgram classes main → AreUntyped classes main reason
+    ensures untyped { (folder : List ℕ) (run : Run) (files : Files) (left : Option (List ℕ)) (ending : Ending)
+        (classes : List ClassFile) (reason : Reason) → Answers (RunIn folder run) (Some files) left ending
+        → AreLoaded (Some files) folder run.main classes → AreProgram classes run.main → AreUntyped classes run.main reason
         → ending ≡ refused reason 0 }
-    ensures runs { (folder main : List ℕ) (files : Files) (left : Option (List ℕ)) (ending : Ending)
-        (classes : List ClassFile) → Answers (RunIn folder main) (Some files) left ending
-        → AreLoaded (Some files) folder main classes → AreProgram classes main → AreTyped classes main
-        → (program : Linked) × IsRunnable (Some files) folder main program × EndsRun main program ending }
+    ensures runs { (folder : List ℕ) (run : Run) (files : Files) (left : Option (List ℕ)) (ending : Ending)
+        (classes : List ClassFile) → Answers (RunIn folder run) (Some files) left ending
+        → AreLoaded (Some files) folder run.main classes → AreProgram classes run.main → AreTyped classes run.main
+        → (program : Linked) × IsRunnable (Some files) folder run.main program × EndsRun run program ending }
 {
     one_loading();
     one_judgement();

@@ -1,7 +1,7 @@
 // Linking the class that is run.
 ghost use Rattle.std.specs.Prelude.{◌≡◌, IfErr, IfOk, IsErrOf};
 ghost use Rattle.cb_io.specs.Faults.{CountsFaults};
-ghost use Rattle.cb_runner.specs.Inner.{IsConverted, IsUnlinked, StopsAtOnce, StopsUntyped};
+ghost use Rattle.cb_runner.specs.Inner.{IsConverted, IsUnlinked, StopsAtOnce, StopsUntyped, run_of};
 ghost use Rattle.cb_runner.specs.Run.{IsRunnable, RunsClass, quantity_of};
 ghost use Rattle.cb_safety.specs.Linked.{IsLinked};
 ghost use Rattle.cb_verify.specs.Typed.{IsTyped};
@@ -9,6 +9,7 @@ ghost use Rattle.cb_runner.specs.Words.{internal_name};
 ghost use Rattle.cb_runner.specs.declared.stop.Stop.TheVariants as stops;
 
 use crate::class_name::internal_name;
+use crate::run_words::RunWords;
 use crate::stop::Stop;
 use crate::verifying::verify_program;
 use crate::{Quantity, Refusal};
@@ -19,27 +20,26 @@ use cb_load::link;
 use cb_safety::linking_links;
 use std::alloc::Global;
 
-/// Links the class that a word names, with the library's classes and those of a folder, and verifies the program, which it gives.
+/// Links the class that words name, with the library's classes and those of a folder, and verifies the program, which it gives.
 pub(crate) fn link_class<F: Folder>(
     alloc: Global,
-    root: &str,
-    class: &str,
+    asked: &RunWords<'_>,
     folder: &mut F,
 ) -> Result<Program, Stop>
     ensures kept { F.files folder.new ≡ F.files folder.old }
-    ensures runnable { IfOk result (λ program. IsRunnable (F.files folder.old) root.now (internal_name class.now) program) }
+    ensures runnable { IfOk result (λ program. IsRunnable (F.files folder.old) asked.now.folder.now (internal_name asked.now.class.now) program) }
     ensures linked { IfOk result IsLinked }
-    ensures stopped { IfErr result (StopsAtOnce (RunsClass (F.files folder.old) root.now (internal_name class.now))) }
+    ensures stopped { IfErr result (StopsAtOnce (RunsClass (F.files folder.old) asked.now.folder.now (run_of asked.now))) }
     ensures fault { CountsFaults (F.faults folder.old) (F.faults folder.new) (IsErrOf result stops.FolderFault) }
 {
     linking_links();
     let Ok(library) = core_classes(alloc) else {
         return Err(Stop::OutOfMemory);
     };
-    let Ok(main) = internal_name(alloc, class) else {
+    let Ok(main) = internal_name(alloc, asked.class) else {
         return Err(Stop::OutOfMemory);
     };
-    match link(alloc, library, folder, root, main) {
+    match link(alloc, library, folder, asked.folder, main) {
         Ok(program) => verified(alloc, program),
         Err(refusal) => Err(unlinked(alloc, refusal)),
     }

@@ -1,15 +1,15 @@
 // The words of the command line.
 ghost use Rattle.std.specs.Prelude.{◌≡◌, ◌∷◌, [], ◌↔◌, List, ℕ, codes, map, string_bytes, IsTrue, MatchOption};
 ghost use Rattle.cb_runner.specs.Inner.{said};
-ghost use Rattle.cb_runner.specs.Words.{IsList, IsMain, IsOption, IsRun, Says, SaysNone};
+ghost use Rattle.cb_runner.specs.Words.{IsList, IsOption, Says, SaysNone};
 
-use crate::class_name::names_class;
+use crate::run_words::{RunWords, run_of};
 
 /// A command.
 #[derive(Clone, Copy, Debug)]
 pub(crate) enum Command<'a> {
-    /// `run FOLDER MAIN`
-    Run { folder: &'a str, class: &'a str },
+    /// `run [--steps N] [--frames N] FOLDER MAIN [ARGS]`
+    Run(RunWords<'a>),
     /// `list PATH`
     List { path: &'a str },
     /// `asm`
@@ -22,31 +22,13 @@ pub(crate) fn command_of(words: &[String]) -> Option<Command<'_>>
         (λ command. Says (map string_bytes words.now) (said command)) }
 {
     if let Some(run) = run_of(words) {
-        return Some(run);
+        return Some(Command::Run(run));
     }
     if let Some(path) = path_of_list(words) {
         return Some(Command::List { path });
     }
     if is_assemble(words) {
         Some(Command::Assemble)
-    } else {
-        None
-    }
-}
-
-/// The command `run FOLDER MAIN`, or `None` where the words are another or none.
-fn run_of(words: &[String]) -> Option<Command<'_>>
-    ensures { MatchOption result ((folder main : List ℕ) → IsRun folder main (map string_bytes words.now) → ⊥)
-        (λ command. Says (map string_bytes words.now) (said command)) }
-{
-    let [command, folder, class] = words else {
-        return None;
-    };
-    if command.as_str() == "run" && !is_option(folder.as_str()) && is_main(class.as_str()) {
-        Some(Command::Run {
-            folder: folder.as_str(),
-            class: class.as_str(),
-        })
     } else {
         None
     }
@@ -78,15 +60,8 @@ fn is_assemble(words: &[String]) -> bool
 }
 
 /// Whether a word begins as an option does.
-fn is_option(word: &str) -> bool
+pub(crate) fn is_option(word: &str) -> bool
     ensures { IsTrue result ↔ IsOption word.now }
 {
     word.as_bytes().first() == Some(&b'-')
-}
-
-/// Whether a word may stand for MAIN.
-fn is_main(word: &str) -> bool
-    ensures { IsTrue result ↔ IsMain word.now }
-{
-    !is_option(word) && names_class(word)
 }

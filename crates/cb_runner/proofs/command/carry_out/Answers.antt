@@ -1,20 +1,29 @@
 use Rattle.std.proofs.Common.{◌≡◌, inr, map, string_bytes, ap, subst}
-use Rattle.cb_runner.specs.Inner.{cause_of, said}
-use Rattle.cb_runner.specs.Words.{Assemble, ListOf, RunIn, Says, internal_name}
+use Rattle.cb_runner.specs.Inner.{cause_of, run_of, said}
+use Rattle.cb_runner.specs.Words.{Assemble, ListOf, RunIn, Says}
 use Rattle.cb_runner.proofs.Endings.{carried, unchanged_count, unsaid}
+use Rattle.cb_runner.proofs.RunSaid.{few_said}
 use Rattle.cb_runner.proofs.Laws.{asks_folder, asks_input}
 use Rattle.cb_runner.proofs.command.carry_out.Goals as goal
 
+pub run_class-requires : goal.run_class-requires
+run_class-requires g c =
+    let asked = c.in-Some-Run.asked in
+    let says = subst (λ command. Says (map string_bytes c.args.words.now) (said command)) c.in-Some-Run.field-0-is c.in-Some-Run.ensures in
+    record { few = few_said _ asked.folder.now (run_of asked) says c.requires.few }
+
 pub returns-in-Some-Run-clause-ends : goal.returns-in-Some-Run-clause-ends
 returns-in-Some-Run-clause-ends g c =
+    let asked = c.in-Some-Run.asked in
     let says = subst (λ command. Says (map string_bytes c.args.words.now) (said command)) c.in-Some-Run.field-0-is c.in-Some-Run.ensures in
     let (printed, appends, ends) = c.run_class.ensures.ends in
-    carried _ _ _ _ _ (RunIn c.in-Some-Run.root.now (internal_name c.in-Some-Run.class.now)) c.run_class.result printed says appends ends
+    carried _ _ _ _ _ (RunIn asked.folder.now (run_of asked)) c.run_class.result printed says appends ends
 
 pub returns-in-Some-Run-clause-input_fault : goal.returns-in-Some-Run-clause-input_fault
 returns-in-Some-Run-clause-input_fault g c =
+    let asked = c.in-Some-Run.asked in
     let (printed, appends, ends) = c.run_class.ensures.ends in
-    unchanged_count _ (λ is. let no : RunIn c.in-Some-Run.root.now (internal_name c.in-Some-Run.class.now) ≡ Assemble = asks_input _ _ (g.S.Source.left c.args.input.now) _ (ends (g.S.Source.left c.args.input.now)) (ap cause_of is) in cc)
+    unchanged_count _ (λ is. let no : RunIn asked.folder.now (run_of asked) ≡ Assemble = asks_input _ _ (g.S.Source.left c.args.input.now) _ (ends (g.S.Source.left c.args.input.now)) (ap cause_of is) in cc)
 
 pub returns-in-Some-List-clause-ends : goal.returns-in-Some-List-clause-ends
 returns-in-Some-List-clause-ends g c =

@@ -1,11 +1,20 @@
-use Rattle.std.proofs.Common.{map, pred, subst, ℕ, [], Some}
-use Rattle.cb_heap.specs.Reading.{seen}
-use Rattle.cb_interp.specs.Starting.{BeginsWith, unread}
-use Rattle.cb_act.specs.Turning.{machine_of as limited, moment_of}
-use Rattle.cb_mapheap.specs.Room.{rules_of}
+use Rattle.std.proofs.Common.{[]}
+use Rattle.cb_runner.specs.Inner.{run_of}
+use Rattle.cb_runner.proofs.Begun.{begun_so, refused_by}
+use Rattle.cb_runner.proofs.Endings.{Appends-nothing, unchanged_count}
+use Rattle.cb_runner.proofs.Executed.{refused_quietly, refused_so}
 use Rattle.cb_runner.proofs.executing.run_from.Goals as goal
 
 pub run_on-requires-clause-begun : goal.run_on-requires-clause-begun
 run_on-requires-clause-begun g c =
-    subst (λ (limit : ℕ). BeginsWith rules_of (limited c.args.program.now limit) [] [] tt
-    (moment_of (seen pred (map Some c.start.new.store.objects) c.start.new.roots.roots) (unread []) tt)) c.requires.limit (c.in-Ok.ensures.begun [])
+    begun_so (run_of c.args.asked.now) c.args.program.now c.args.roots.now.limit c.args.given.now c.requires.limit c.requires.given c.start.new.store.objects c.start.new.roots.roots
+    (c.in-Ok.ensures.begun [])
+
+pub returns-in-Err-clause-runs : goal.returns-in-Err-clause-runs
+returns-in-Err-clause-runs g c =
+    let asks = run_of c.args.asked.now in
+    let refused = refused_by asks c.args.program.now c.args.roots.now.limit c.args.given.now c.requires.limit c.requires.given c.in-Err.reason c.in-Err.ensures.refused in
+    ([], Appends-nothing _, refused_so asks c.args.program.now c.in-Err.reason c.unbegun.result refused c.unbegun.ensures)
+
+pub returns-in-Err-clause-fault : goal.returns-in-Err-clause-fault
+returns-in-Err-clause-fault g c = unchanged_count _ (refused_quietly c.in-Err.reason c.unbegun.result c.unbegun.ensures)

@@ -7,8 +7,8 @@ use Rattle.cb_runner.specs.Asm.{AssemblesText, TooLong, Assembled, Bad}
 use Rattle.cb_runner.specs.Ending.{Ending}
 use Rattle.cb_runner.specs.List.{ListsBytes, ListsFile, OfVersion, OfNoClass, OfItem, Listed}
 use Rattle.cb_runner.specs.Run.{RunsClass, Stopped, Typed, Untyped}
-use Rattle.cb_runner.specs.Running.{EndsRun, Returns, Throws, Spends, Fills, LeavesOut}
-use Rattle.cb_runner.specs.Words.{Command, RunIn, ListOf, Assemble}
+use Rattle.cb_runner.specs.Running.{EndsBegun, EndsRun, Returns, Throws, Spends, Fills, LeavesOut}
+use Rattle.cb_runner.specs.Words.{Command, Run, RunIn, ListOf, Assemble}
 use Rattle.cb_runner.proofs.Laws.{cause_whole, cut_cause, cut_whole}
 use Rattle.cb_runner.proofs.law.refused_silently.Goals as goal
 
@@ -32,17 +32,21 @@ full_apart is = cc
 undone_apart : NotYet ≡ Refused → ⊥
 undone_apart is = cc
 
-run_unrefused : (main : List ℕ) (program : Linked) (ending : Ending) → EndsRun main program ending → ending.cause ≡ Refused → ⊥
-run_unrefused main program ending (Returns count within returns is) refused = unrefused ending _ is refl refused
-run_unrefused main program ending (Throws count serial object units within throws there tells is) refused = uncaught_apart object.kind (other_cause ending _ is refused)
-run_unrefused main program ending (Spends runs is) refused = spent_apart (other_cause ending _ is refused)
-run_unrefused main program ending (Fills count below fills is) refused = full_apart (other_cause ending _ is refused)
-run_unrefused main program ending (LeavesOut count below leaves is) refused = undone_apart (other_cause ending _ is refused)
+begun_unrefused : (run : Run) (program : Linked) (ending : Ending) → EndsBegun run program ending → ending.cause ≡ Refused → ⊥
+begun_unrefused run program ending (Returns count within returns is) refused = unrefused ending _ is refl refused
+begun_unrefused run program ending (Throws count serial object units within throws there tells is) refused = uncaught_apart object.kind (other_cause ending _ is refused)
+begun_unrefused run program ending (Spends runs is) refused = spent_apart (other_cause ending _ is refused)
+begun_unrefused run program ending (Fills count below fills is) refused = full_apart (other_cause ending _ is refused)
+begun_unrefused run program ending (LeavesOut count below leaves is) refused = undone_apart (other_cause ending _ is refused)
 
-silent_run : (files : Option Files) (folder main : List ℕ) (ending : Ending) → RunsClass files folder main ending → ending.cause ≡ Refused → (ending.out ≡ []) × (ending.read ≡ 0)
-silent_run files folder main ending (Stopped library refusal reason known stops says is) refused = (ap (λ e. e.out) is, ap (λ e. e.read) is)
-silent_run files folder main ending (Untyped library classes method reason known loaded good untyped is) refused = (ap (λ e. e.out) is, ap (λ e. e.read) is)
-silent_run files folder main ending (Typed program runnable runs) refused = absurd (run_unrefused main program ending runs refused)
+run_unrefused : (run : Run) (program : Linked) (ending : Ending) → EndsRun run program ending → ending.cause ≡ Refused → ⊥
+run_unrefused run program ending (inl (fills, is)) refused = full_apart (other_cause ending _ is refused)
+run_unrefused run program ending (inr (begins, ends)) refused = begun_unrefused run program ending ends refused
+
+silent_run : (files : Option Files) (folder : List ℕ) (run : Run) (ending : Ending) → RunsClass files folder run ending → ending.cause ≡ Refused → (ending.out ≡ []) × (ending.read ≡ 0)
+silent_run files folder run ending (Stopped library refusal reason known stops says is) refused = (ap (λ e. e.out) is, ap (λ e. e.read) is)
+silent_run files folder run ending (Untyped library classes method reason known loaded good untyped is) refused = (ap (λ e. e.out) is, ap (λ e. e.read) is)
+silent_run files folder run ending (Typed program runnable runs) refused = absurd (run_unrefused run program ending runs refused)
 
 silent_bytes : (path bytes : List ℕ) (ending : Ending) → ListsBytes path bytes ending → ending.cause ≡ Refused → (ending.out ≡ []) × (ending.read ≡ 0)
 silent_bytes path bytes ending (Listed class listed is) refused = absurd (unrefused ending _ is refl refused)
@@ -61,7 +65,7 @@ silent_text text ending (Assembled short class text_of is) refused = absurd (unr
 silent_text text ending (Bad short line stops is) refused = ap (λ e. e.out) is
 
 silent : (command : Command) (files : Option Files) (left : Option (List ℕ)) (ending : Ending) → EndsIn command files left ending → ending.cause ≡ Refused → (ending.out ≡ []) × ((ending.read ≡ 0) ⊎ (command ≡ Assemble))
-silent (RunIn folder main) files left ending (inl runs) refused = let (out, read) = silent_run files folder main ending runs refused in (out, inl read)
+silent (RunIn folder run) files left ending (inl runs) refused = let (out, read) = silent_run files folder run ending runs refused in (out, inl read)
 silent (ListOf path) files left ending (inl (file, may, lists)) refused = let (out, read) = silent_list path file ending lists refused in (out, inl read)
 silent Assemble files left ending (inl (text, may, assembles)) refused = (silent_text text ending assembles refused, inr refl)
 silent command files left ending (inr (fault, cut)) refused = absurd (cut_whole fault ending (cut_cause fault command files left ending cut) (cause_whole Refused ending.cause (sym refused) refl))
