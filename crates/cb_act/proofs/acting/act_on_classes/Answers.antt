@@ -1,15 +1,8 @@
-use Rattle.std.proofs.Common.{◌∙◌, ap, subst, ◌<◌, Some}
+use Rattle.std.proofs.Common.{◌∙◌, ap, Some}
 use Rattle.std.specs.Prelude.{option_and_then}
 use Rattle.cb_heap.specs.Reading.{seen}
-use Rattle.cb_machine.specs.Growing.{lays_one}
 use Rattle.cb_act.specs.Acting.{acted_as}
-use Rattle.cb_act.proofs.FramesActed.{room_read}
 use Rattle.cb_act.proofs.acting.act_on_classes.Goals as goal
-
-pub gets_static-requires-clause-room : goal.gets_static-requires-clause-room
-gets_static-requires-clause-room g c =
-    subst (λ room. 0 < room) (room_read (g.S.Store.index c.args.store.now) c.args.roots.now.roots)
-    (c.requires.suited.room.lays c.args.action.now c.requires.is (ap lays_one c.in-GetStatic.is))
 
 pub invokes_static-requires-clause-fit : goal.invokes_static-requires-clause-fit
 invokes_static-requires-clause-fit g c = λ method count numbered body low is has enters.
