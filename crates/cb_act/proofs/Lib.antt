@@ -49,6 +49,7 @@ mod PlacingSteps
 mod PlainLaws
 mod Read
 mod ReadGoing
+mod SortLaws
 mod Taken
 mod TurnsNestedStack
 mod TurnsStand

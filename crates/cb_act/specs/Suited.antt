@@ -5,6 +5,7 @@ use Rattle.cb_heap.specs.Kept.{contents_at, is_held}
 use Rattle.cb_heap.specs.Reading.{View, read_value}
 use Rattle.cb_kinds.specs.declared.basic.Basic.{Basic}
 use Rattle.cb_kinds.specs.declared.basic.Basic.TheVariants as basics
+use Rattle.cb_link.specs.Decoding.{basic_named}
 use Rattle.cb_link.specs.Program.{Linked}
 use Rattle.cb_link.specs.Slots.{field_basic}
 use Rattle.cb_link.specs.declared.decoded.Decoded.{Decoded}
@@ -40,6 +41,7 @@ pub record HasRoom (decoded : Decoded) (view : View) : Type 0 where
 -- of the objects on the stack, and of their words
 pub record HasWords (allows : ℕ → ℕ → Bool) (program : Linked) (decoded : Decoded) (view : View) : Type 0 where
   pub kinds : (serial : ℕ) (object : Object) → object_in view.objects serial ≡ Some object → object.kind < length program.kinds
+  pub told : decoded.basic ≡ basic_named program decoded.named
   pub whole : (value : Value) → decoded.named ≡ meanings.Whole value → (index : ℕ → ℕ) → read_value index value ≡ value
   pub static_low : (index class slot : ℕ) → decoded.action ≡ Some (actions.PutStatic index) → decoded.named ≡ meanings.Static class slot → slot < length view.roots.statics
   pub held : (depth : ℕ) → IsTrue (is_held view.objects (object_on view depth))

@@ -5,6 +5,7 @@ ghost use Rattle.cb_heap.specs.Kept.{is_held};
 ghost use Rattle.cb_heap.specs.Reading.{read_roots, read_value, seen};
 ghost use Rattle.cb_plain.specs.declared.value.Value.{Value as AnyValue};
 ghost use Rattle.cb_link.specs.declared.named.Named.TheVariants as meanings;
+ghost use Rattle.cb_link.specs.Decoding.{basic_named};
 ghost use Rattle.cb_link.specs.Named.{IsThere};
 ghost use Rattle.cb_machine.specs.Machine.{or_zero};
 ghost use Rattle.cb_shapes.specs.declared.action.Action.TheVariants as actions;
@@ -15,6 +16,7 @@ ghost use Rattle.cb_act.specs.Going.{behind_return};
 ghost use Rattle.cb_act.specs.Objects.{object_on};
 
 use crate::Need;
+use crate::named::basic_of;
 use crate::plain_steps::frame_step;
 use crate::references::test_references;
 use crate::returning::give_back;
@@ -126,7 +128,7 @@ pub(crate) fn loads_constant<S: Store>(
         return Err(Need::Loads);
     };
     let Some(next) = decoded.next else {
-        return Ok(());
+        unreachable!()
     };
     roots.push(value);
     roots.set_place(next);
@@ -150,13 +152,13 @@ pub(crate) fn gets_static<S: Store>(
     ensures limit { roots.new.limit ≡ roots.old.limit }
 {
     let Named::Static { class, slot } = decoded.named else {
-        return Ok(());
+        unreachable!()
     };
     if let Some(need) = unready(roots, class) {
         return Err(need);
     }
     let Some(next) = decoded.next else {
-        return Ok(());
+        unreachable!()
     };
     get_static(roots, slot);
     roots.set_place(next);
@@ -176,6 +178,7 @@ pub(crate) fn puts_static<S: Store>(
     requires runs { runs_method roots.old.roots ≡ true }
     requires low { (class slot : ℕ) → decoded.now.named ≡ meanings.Static class slot
         → slot < length roots.old.roots.statics }
+    requires told { decoded.now.basic ≡ basic_named program.now decoded.now.named }
     ensures deed { on_static (put_deed program.now decoded.now (seen (S.index store.now)
         (S.kept store.now) roots.old.roots)) decoded.now.named
         ≡ Some (deed_by result (seen (S.index store.now) (S.kept store.now) roots.new.roots)) }
@@ -183,15 +186,15 @@ pub(crate) fn puts_static<S: Store>(
     ensures limit { roots.new.limit ≡ roots.old.limit }
 {
     let Named::Static { class, slot } = decoded.named else {
-        return Ok(());
+        unreachable!()
     };
     if let Some(need) = unready(roots, class) {
         return Err(need);
     }
     let Some(next) = decoded.next else {
-        return Ok(());
+        unreachable!()
     };
-    put_static(roots, slot, program.static_basic(slot));
+    put_static(roots, slot, basic_of(program, decoded));
     roots.set_place(next);
     Ok(())
 }

@@ -5,6 +5,7 @@ ghost use Rattle.cb_heap.specs.Kept.{contents_at, is_held};
 ghost use Rattle.cb_heap.specs.Reading.{seen};
 ghost use Rattle.cb_kinds.specs.declared.basic.Basic.{Basic as AnyBasic};
 ghost use Rattle.cb_kinds.specs.declared.basic.Basic.TheVariants as basics;
+ghost use Rattle.cb_link.specs.Decoding.{basic_named};
 ghost use Rattle.cb_link.specs.Named.{IsThere};
 ghost use Rattle.cb_link.specs.Slots.{field_basic};
 ghost use Rattle.cb_link.specs.declared.named.Named.TheVariants as meanings;
@@ -22,6 +23,7 @@ use crate::Need;
 use crate::arrays::{array_length, load_element, store_element, store_reference};
 use crate::classes::{cast, fits, instance, throw_object};
 use crate::fields::{get_field, put_field};
+use crate::named::basic_of;
 use crate::operands::reference_at;
 use cb_frames::Roots;
 use cb_heap::Store;
@@ -37,6 +39,7 @@ pub(crate) fn gets_field<S: Store>(
     roots: &mut Roots,
     decoded: &Decoded,
 ) -> Result<(), Need>
+    requires told { decoded.now.basic ≡ basic_named program.now decoded.now.named }
     requires there { is_some (on_field program.now (λ slot basic. going_on decoded.now
         (behind_get_field slot basic (seen (S.index store.now)
         (S.kept store.now) roots.old.roots))) decoded.now.named) ≡ true }
@@ -52,13 +55,13 @@ pub(crate) fn gets_field<S: Store>(
     ensures same { OnErr result (roots.new ≡ roots.old) }
     ensures limit { roots.new.limit ≡ roots.old.limit }
 {
-    let Named::Field { class, slot } = decoded.named else {
-        return Ok(());
+    let Named::Field { slot, .. } = decoded.named else {
+        unreachable!()
     };
     let Some(next) = decoded.next else {
-        return Ok(());
+        unreachable!()
     };
-    let left = get_field(store, roots, slot, program.field_basic(class, slot));
+    let left = get_field(store, roots, slot, basic_of(program, decoded));
     goes_on(store, roots, next, left)
 }
 
@@ -70,6 +73,7 @@ pub(crate) fn puts_field<S: Store>(
     roots: &mut Roots,
     decoded: &Decoded,
 ) -> Result<(), Need>
+    requires told { decoded.now.basic ≡ basic_named program.now decoded.now.named }
     requires there { is_some (on_field program.now (λ slot basic. going_on decoded.now
         (behind_put_field slot basic (seen (S.index store.old)
         (S.kept store.old) roots.old.roots))) decoded.now.named) ≡ true }
@@ -95,13 +99,13 @@ pub(crate) fn puts_field<S: Store>(
     ensures allows { S.allows store.new ≡ S.allows store.old }
     ensures shapes { S.shapes store.new ≡ S.shapes store.old }
 {
-    let Named::Field { class, slot } = decoded.named else {
-        return Ok(());
+    let Named::Field { slot, .. } = decoded.named else {
+        unreachable!()
     };
     let Some(next) = decoded.next else {
-        return Ok(());
+        unreachable!()
     };
-    let left = put_field(store, roots, slot, program.field_basic(class, slot));
+    let left = put_field(store, roots, slot, basic_of(program, decoded));
     goes_on(store, roots, next, left)
 }
 
@@ -124,7 +128,7 @@ pub(crate) fn measures<S: Store>(
     ensures limit { roots.new.limit ≡ roots.old.limit }
 {
     let Some(next) = decoded.next else {
-        return Ok(());
+        unreachable!()
     };
     let left = array_length(store, roots);
     goes_on(store, roots, next, left)
@@ -142,10 +146,6 @@ pub(crate) fn loads<S: Store>(
     requires there { is_some (loaded program.now decoded.now (seen (S.index store.now)
         (S.kept store.now) roots.old.roots) sort) ≡ true }
     requires runs { runs_method roots.old.roots ≡ true }
-    requires kinds { (serial : ℕ) (object : Object) → object_in (S.kept store.now) serial
-        ≡ Some object → object.kind < length program.now.kinds }
-    requires held { IsTrue (is_held (S.kept store.now) (object_on (seen (S.index store.now)
-        (S.kept store.now) roots.old.roots) 1)) }
     requires suits { SuitsArray program.now sort 1 (seen (S.index store.now)
         (S.kept store.now) roots.old.roots) }
     ensures deed { loaded program.now decoded.now (seen (S.index store.now)
@@ -155,10 +155,10 @@ pub(crate) fn loads<S: Store>(
     ensures limit { roots.new.limit ≡ roots.old.limit }
 {
     let Some(next) = decoded.next else {
-        return Ok(());
+        unreachable!()
     };
-    let basic = element_on(program, store, roots, 1, sort);
-    let left = load_element(store, roots, basic);
+    let _ = program;
+    let left = load_element(store, roots, default_of(sort));
     goes_on(store, roots, next, left)
 }
 
@@ -197,7 +197,7 @@ pub(crate) fn stores<S: Store>(
     ensures shapes { S.shapes store.new ≡ S.shapes store.old }
 {
     let Some(next) = decoded.next else {
-        return Ok(());
+        unreachable!()
     };
     let basic = element_on(program, store, roots, 2, sort);
     let left = store_element(store, roots, basic);
@@ -242,7 +242,7 @@ pub(crate) fn stores_reference<S: Store>(
     ensures shapes { S.shapes store.new ≡ S.shapes store.old }
 {
     let Some(next) = decoded.next else {
-        return Ok(());
+        unreachable!()
     };
     let fit = fits_array(program, store, roots);
     let left = store_reference(store, roots, fit);
@@ -270,10 +270,10 @@ pub(crate) fn casts<S: Store>(
     ensures limit { roots.new.limit ≡ roots.old.limit }
 {
     let Named::Kind(kind) = decoded.named else {
-        return Ok(());
+        unreachable!()
     };
     let Some(next) = decoded.next else {
-        return Ok(());
+        unreachable!()
     };
     let left = cast(program, store, roots, kind);
     goes_on(store, roots, next, left)
@@ -301,10 +301,10 @@ pub(crate) fn asks_kind<S: Store>(
     ensures limit { roots.new.limit ≡ roots.old.limit }
 {
     let Named::Kind(kind) = decoded.named else {
-        return Ok(());
+        unreachable!()
     };
     let Some(next) = decoded.next else {
-        return Ok(());
+        unreachable!()
     };
     instance(program, store, roots, kind);
     goes_on(store, roots, next, Ok(()))

@@ -7,7 +7,7 @@ ghost use Rattle.cb_machine.specs.Values.{sort_of_basic};
 ghost use Rattle.cb_act.specs.Objects.{MayPut, SuitsWords, behind_length, behind_load_element, behind_store_element};
 ghost use Rattle.cb_act.specs.Objects.{behind_store_reference, left_by, object_on, place_of};
 
-use crate::operands::{give_for_one, give_for_two, int_at, reference_at, take_three};
+use crate::operands::{give_for_one, give_for_two, int_at, operand_of, reference_at, take_three};
 use crate::sites::{ARRAY_INDEX, ARRAY_STORE, NULL_POINTER};
 use crate::words::{kept_value, put_value, value_at};
 use cb_frames::Roots;
@@ -90,7 +90,7 @@ pub fn store_element<S: Store>(store: &mut S, roots: &mut Roots, basic: Basic) -
     ensures allows { S.allows store.new ≡ S.allows store.old }
     ensures shapes { S.shapes store.new ≡ S.shapes store.old }
 {
-    let value = kept_value(basic, roots.peek(0));
+    let value = kept_value(basic, operand_of(roots, basic));
     let index = int_at(roots, 1);
     let at = reference_at(roots, 2);
     if at == 0 {
@@ -152,8 +152,9 @@ pub fn store_reference<S: Store>(store: &mut S, roots: &mut Roots, fits: bool) -
 fn place_of(index: i32, count: u32) -> Option<u32>
     ensures { result ≡ place_of index count }
 {
-    match u32::try_from(index) {
-        Ok(place) if place < count => Some(place),
-        _ => None,
+    if index < 0 {
+        return None;
     }
+    let place = index as u32;
+    if place < count { Some(place) } else { None }
 }

@@ -3,7 +3,7 @@ ghost use Rattle.std.specs.Prelude.{◌≡◌, is_some, true, OnErr, Some};
 ghost use Rattle.cb_heap.specs.Reading.{seen};
 ghost use Rattle.cb_act.specs.Objects.{MayPut, SuitsWord, behind_get_field, behind_put_field, left_by};
 
-use crate::operands::{give_for_one, reference_at, take_two};
+use crate::operands::{give_for_one, operand_of, reference_at, take_two};
 use crate::sites::NULL_POINTER;
 use crate::words::{kept_value, put_value, value_at};
 use cb_frames::Roots;
@@ -62,7 +62,7 @@ pub fn put_field<S: Store>(
     ensures allows { S.allows store.new ≡ S.allows store.old }
     ensures shapes { S.shapes store.new ≡ S.shapes store.old }
 {
-    let value = kept_value(basic, roots.peek(0));
+    let value = kept_value(basic, operand_of(roots, basic));
     let at = reference_at(roots, 1);
     if at == 0 {
         return Err(NULL_POINTER);

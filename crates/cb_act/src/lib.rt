@@ -26,6 +26,7 @@ mod fields;
 mod keeping;
 mod law;
 mod moving;
+mod named;
 mod natives;
 mod need;
 mod operands;

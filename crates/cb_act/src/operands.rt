@@ -2,11 +2,13 @@
 ghost use Rattle.std.specs.Prelude.{◌≡◌, ◌<◌, ◌+◌, ◌∷◌, drop, length, slice_get, true, Some};
 ghost use Rattle.cb_frames.specs.Limited.{with_roots};
 ghost use Rattle.cb_frames.specs.Tops.{top_room, top_stack};
+ghost use Rattle.cb_machine.specs.Values.{sort_of_basic};
 ghost use Rattle.cb_plain.specs.declared.value.Value.TheVariants as values;
 ghost use Rattle.cb_shapes.specs.declared.sort.Sort.TheVariants as sorts;
 ghost use Rattle.cb_act.specs.Effects.{has_sort, stacked};
 
 use cb_frames::Roots;
+use cb_kinds::Basic;
 use cb_plain::Value;
 
 /// The int at a depth of the stack.
@@ -25,6 +27,21 @@ pub fn long_at(roots: &Roots, below: u32) -> i64
     ensures { slice_get (top_stack roots.now.roots) below ≡ Some (values.Long result) }
 {
     roots.long(below)
+}
+
+/// The value on top of the stack, where it is of the sort of a type.
+#[inline(always)]
+pub(crate) fn operand_of(roots: &Roots, basic: Basic) -> Value
+    requires { has_sort (sort_of_basic basic) (slice_get (top_stack roots.now.roots) 0) ≡ true }
+    ensures { slice_get (top_stack roots.now.roots) 0 ≡ Some result }
+{
+    match basic {
+        Basic::Reference(_) => Value::Ref(reference_at(roots, 0)),
+        Basic::Long => Value::Long(long_at(roots, 0)),
+        Basic::Boolean | Basic::Byte | Basic::Char | Basic::Short | Basic::Int => {
+            Value::Int(int_at(roots, 0))
+        }
+    }
 }
 
 /// Puts a value in place of the topmost one.

@@ -218,6 +218,7 @@ module _ (machine : Machine) (state : State) (frame : MethodFrame) (below : List
       → HasWords allows machine.program (decoded_as machine.program frame.method frame.pc insn) (view_of state)
   has_words allows all closed = record {
     kinds = λ serial object is. (typed.heap.each serial object is).kind;
+    told = refl;
     whole = λ value names index. whole_read machine.program frame.method frame.pc value names index;
     static_low = static_low;
     held = λ depth. held_on machine state frame below frames closed depth;

@@ -18,3 +18,12 @@ pub loads_constant-requires-clause-room : goal.loads_constant-requires-clause-ro
 loads_constant-requires-clause-room g c =
     subst (λ room. 0 < room) (room_read (g.S.Store.index c.args.store.now) c.args.roots.now.roots)
     (c.requires.suited.room.lays c.args.action.now c.requires.is (ap lays_one c.in-Constant.is))
+
+pub gets_field-requires-clause-told : goal.gets_field-requires-clause-told
+gets_field-requires-clause-told g c = c.requires.suited.words.told
+
+pub puts_field-requires-clause-told : goal.puts_field-requires-clause-told
+puts_field-requires-clause-told g c = c.requires.suited.words.told
+
+pub puts_static-requires-clause-told : goal.puts_static-requires-clause-told
+puts_static-requires-clause-told g c = c.requires.suited.words.told

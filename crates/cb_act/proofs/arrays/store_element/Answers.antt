@@ -15,6 +15,10 @@ use Rattle.cb_act.proofs.FieldLaws.{allowed_so, kept_read, kept_refers, puts_so,
 use Rattle.cb_act.proofs.Taken.{stands}
 use Rattle.cb_act.proofs.arrays.store_element.Goals as goal
 
+pub operand_of-requires : goal.operand_of-requires
+operand_of-requires g c =
+    stands (g.S.Store.index c.args.store.now) c.args.roots.now.roots _ (sort_of_basic c.args.basic ∷ sorts.Int ∷ sorts.Reference ∷ []) c.requires.there 0 (sort_of_basic c.args.basic) refl
+
 pub int_at-index-requires : goal.int_at-index-requires
 int_at-index-requires g c =
     stands (g.S.Store.index c.args.store.now) c.args.roots.now.roots _ (sort_of_basic c.args.basic ∷ sorts.Int ∷ sorts.Reference ∷ []) c.requires.there 1 sorts.Int refl
@@ -28,10 +32,10 @@ returns-then-at-eq0-clause-behind g c =
     let index = g.S.Store.index c.args.store.now in
     let objects = g.S.Store.kept c.args.store.now in
     let held = c.args.roots.now.roots in
-    stored_so index objects held c.reference_at-at.result c.int_at-index.result (sort_of_basic c.args.basic) c.args.basic c.peek.result
-    (ap (has_sort (sort_of_basic c.args.basic)) (sym c.peek.ensures)
+    stored_so index objects held c.reference_at-at.result c.int_at-index.result (sort_of_basic c.args.basic) c.args.basic c.operand_of.result
+    (ap (has_sort (sort_of_basic c.args.basic)) (sym c.operand_of.ensures)
     ∙ stands index held _ (sort_of_basic c.args.basic ∷ sorts.Int ∷ sorts.Reference ∷ []) c.requires.there 0 (sort_of_basic c.args.basic) refl)
-    c.peek.ensures c.int_at-index.ensures c.reference_at-at.ensures
+    c.operand_of.ensures c.int_at-index.ensures c.reference_at-at.ensures
     ∙ of_null (seen index objects held) index c.reference_at-at.result c.int_at-index.result _ c.if-at-eq0.true
 
 pub length-count-requires : goal.length-count-requires
@@ -40,20 +44,20 @@ length-count-requires g c =
     let objects = g.S.Store.kept c.args.store.now in
     let held = c.args.roots.now.roots in
     kept_so (seen index objects held) index c.reference_at-at.result c.int_at-index.result _ c.if-at-eq0.false
-    (ap is_some (sym (stored_so index objects held c.reference_at-at.result c.int_at-index.result (sort_of_basic c.args.basic) c.args.basic c.peek.result
-    (ap (has_sort (sort_of_basic c.args.basic)) (sym c.peek.ensures)
+    (ap is_some (sym (stored_so index objects held c.reference_at-at.result c.int_at-index.result (sort_of_basic c.args.basic) c.args.basic c.operand_of.result
+    (ap (has_sort (sort_of_basic c.args.basic)) (sym c.operand_of.ensures)
     ∙ stands index held _ (sort_of_basic c.args.basic ∷ sorts.Int ∷ sorts.Reference ∷ []) c.requires.there 0 (sort_of_basic c.args.basic) refl)
-    c.peek.ensures c.int_at-index.ensures c.reference_at-at.ensures)) ∙ c.requires.there)
+    c.operand_of.ensures c.int_at-index.ensures c.reference_at-at.ensures)) ∙ c.requires.there)
 
 pub returns-in_default-clause-behind : goal.returns-in_default-clause-behind
 returns-in_default-clause-behind g c =
     let index = g.S.Store.index c.args.store.now in
     let objects = g.S.Store.kept c.args.store.now in
     let held = c.args.roots.now.roots in
-    stored_so index objects held c.reference_at-at.result c.int_at-index.result (sort_of_basic c.args.basic) c.args.basic c.peek.result
-    (ap (has_sort (sort_of_basic c.args.basic)) (sym c.peek.ensures)
+    stored_so index objects held c.reference_at-at.result c.int_at-index.result (sort_of_basic c.args.basic) c.args.basic c.operand_of.result
+    (ap (has_sort (sort_of_basic c.args.basic)) (sym c.operand_of.ensures)
     ∙ stands index held _ (sort_of_basic c.args.basic ∷ sorts.Int ∷ sorts.Reference ∷ []) c.requires.there 0 (sort_of_basic c.args.basic) refl)
-    c.peek.ensures c.int_at-index.ensures c.reference_at-at.ensures
+    c.operand_of.ensures c.int_at-index.ensures c.reference_at-at.ensures
     ∙ index_out (seen index objects held) index c.reference_at-at.result c.length-count.result c.int_at-index.result _ c.if-at-eq0.false c.length-count.ensures
     (ap (λ i. place_of i c.length-count.result) (sym (to_z-of_z w32 c.int_at-index.result (record { sfits = c.int_at-index.type_inv }))) ∙ sym c.place_of.ensures ∙ c.in_default.is)
 
@@ -64,8 +68,8 @@ put_value-requires-clause-takes g c =
     let held = c.args.roots.now.roots in
     let there : place_of c.int_at-index.result c.length-count.result ≡ Some c.in-Some.place = ap (λ i. place_of i c.length-count.result) (sym (to_z-of_z w32 c.int_at-index.result (record { sfits = c.int_at-index.type_inv }))) ∙ sym c.place_of.ensures ∙ c.in-Some.is in
     ap (λ value. takes value (content_at objects (serial_of index c.reference_at-at.result) c.in-Some.place)) c.kept_value-value.ensures
-    ∙ takes_so c.args.basic c.peek.result (content_at objects (serial_of index c.reference_at-at.result) c.in-Some.place)
-    (ap (has_sort (sort_of_basic c.args.basic)) (sym c.peek.ensures)
+    ∙ takes_so c.args.basic c.operand_of.result (content_at objects (serial_of index c.reference_at-at.result) c.in-Some.place)
+    (ap (has_sort (sort_of_basic c.args.basic)) (sym c.operand_of.ensures)
     ∙ stands index held _ (sort_of_basic c.args.basic ∷ sorts.Int ∷ sorts.Reference ∷ []) c.requires.there 0 (sort_of_basic c.args.basic) refl)
     (words_so index objects held c.args.basic 2 c.reference_at-at.result c.in-Some.place c.length-count.result c.reference_at-at.ensures c.length-count.ensures
     (place_low c.int_at-index.result c.length-count.result c.in-Some.place there) c.requires.suits)
@@ -75,8 +79,8 @@ put_value-requires-clause-held g c =
     let index = g.S.Store.index c.args.store.now in
     let objects = g.S.Store.kept c.args.store.now in
     ap (λ value. is_held objects (serial_of index (referent value))) c.kept_value-value.ensures
-    ∙ ap (λ place. is_held objects (serial_of index place)) (kept_refers c.args.basic c.peek.result)
-    ∙ ap (is_held objects) (sym (referred_so index objects c.args.roots.now.roots 0 c.peek.result c.peek.ensures)) ∙ c.requires.may.held
+    ∙ ap (λ place. is_held objects (serial_of index place)) (kept_refers c.args.basic c.operand_of.result)
+    ∙ ap (is_held objects) (sym (referred_so index objects c.args.roots.now.roots 0 c.operand_of.result c.operand_of.ensures)) ∙ c.requires.may.held
 
 pub put_value-requires-clause-allowed : goal.put_value-requires-clause-allowed
 put_value-requires-clause-allowed g c =
@@ -84,8 +88,8 @@ put_value-requires-clause-allowed g c =
     let objects = g.S.Store.kept c.args.store.now in
     let allows = g.S.Store.allows c.args.store.now in
     ap (λ value. may_point allows objects (serial_of index c.reference_at-at.result) (serial_of index (referent value))) c.kept_value-value.ensures
-    ∙ ap (λ place. may_point allows objects (serial_of index c.reference_at-at.result) (serial_of index place)) (kept_refers c.args.basic c.peek.result)
-    ∙ ap (may_point allows objects (serial_of index c.reference_at-at.result)) (sym (referred_so index objects c.args.roots.now.roots 0 c.peek.result c.peek.ensures))
+    ∙ ap (λ place. may_point allows objects (serial_of index c.reference_at-at.result) (serial_of index place)) (kept_refers c.args.basic c.operand_of.result)
+    ∙ ap (may_point allows objects (serial_of index c.reference_at-at.result)) (sym (referred_so index objects c.args.roots.now.roots 0 c.operand_of.result c.operand_of.ensures))
     ∙ allowed_so index objects c.args.roots.now.roots allows 2 c.reference_at-at.result c.reference_at-at.ensures c.if-at-eq0.false c.requires.may
 
 pub returns-clause-behind : goal.returns-clause-behind
@@ -95,15 +99,15 @@ returns-clause-behind g c =
     let held = c.args.roots.now.roots in
     let serial = serial_of index c.reference_at-at.result in
     let there : place_of c.int_at-index.result c.length-count.result ≡ Some c.in-Some.place = ap (λ i. place_of i c.length-count.result) (sym (to_z-of_z w32 c.int_at-index.result (record { sfits = c.int_at-index.type_inv }))) ∙ sym c.place_of.ensures ∙ c.in-Some.is in
-    stored_so index objects held c.reference_at-at.result c.int_at-index.result (sort_of_basic c.args.basic) c.args.basic c.peek.result
-    (ap (has_sort (sort_of_basic c.args.basic)) (sym c.peek.ensures)
+    stored_so index objects held c.reference_at-at.result c.int_at-index.result (sort_of_basic c.args.basic) c.args.basic c.operand_of.result
+    (ap (has_sort (sort_of_basic c.args.basic)) (sym c.operand_of.ensures)
     ∙ stands index held _ (sort_of_basic c.args.basic ∷ sorts.Int ∷ sorts.Reference ∷ []) c.requires.there 0 (sort_of_basic c.args.basic) refl)
-    c.peek.ensures c.int_at-index.ensures c.reference_at-at.ensures
+    c.operand_of.ensures c.int_at-index.ensures c.reference_at-at.ensures
     ∙ place_in (seen index objects held) index c.reference_at-at.result c.length-count.result c.in-Some.place c.int_at-index.result _ c.if-at-eq0.false c.length-count.ensures there
-    ∙ ap (λ word. put_on (seen index objects held) (map (read_value index) (drop 3 (top_stack held))) serial word (content_of (kept_value c.args.basic (read_value index c.peek.result))))
+    ∙ ap (λ word. put_on (seen index objects held) (map (read_value index) (drop 3 (top_stack held))) serial word (content_of (kept_value c.args.basic (read_value index c.operand_of.result))))
     (natural_place c.int_at-index.result c.length-count.result c.in-Some.place there)
     ∙ ap (λ value. put_on (seen index objects held) (map (read_value index) (drop 3 (top_stack held))) serial c.in-Some.place (content_of value))
-    (kept_read index c.args.basic c.peek.result ∙ ap (read_value index) (sym c.kept_value-value.ensures))
+    (kept_read index c.args.basic c.operand_of.result ∙ ap (read_value index) (sym c.kept_value-value.ensures))
     ∙ puts_so index objects held c.reference_at-at.result c.in-Some.place c.kept_value-value.result 3 (counted_there objects serial c.length-count.result c.length-count.ensures)
     ∙ ap (λ kept. Some (Goes (seen index kept (stacked held (drop 3 (top_stack held)))))) (sym c.put_value.ensures.kept)
     ∙ ap (λ index. Some (Goes (seen index (g.S.Store.kept c.put_value.new.store) (stacked held (drop 3 (top_stack held)))))) (sym c.put_value.ensures.places)

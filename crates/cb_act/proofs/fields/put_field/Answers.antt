@@ -12,15 +12,19 @@ use Rattle.cb_act.proofs.FieldLaws.{allowed_so, kept_read, kept_refers, null_so,
 use Rattle.cb_act.proofs.Taken.{stands}
 use Rattle.cb_act.proofs.fields.put_field.Goals as goal
 
+pub operand_of-requires : goal.operand_of-requires
+operand_of-requires g c =
+    stands (g.S.Store.index c.args.store.now) c.args.roots.now.roots _ (sort_of_basic c.args.basic ∷ sorts.Reference ∷ []) c.requires.there 0 (sort_of_basic c.args.basic) refl
+
 pub reference_at-at-requires : goal.reference_at-at-requires
 reference_at-at-requires g c = stands (g.S.Store.index c.args.store.now) c.args.roots.now.roots _ (sort_of_basic c.args.basic ∷ sorts.Reference ∷ []) c.requires.there 1 sorts.Reference refl
 
 pub returns-then-at-eq0-clause-behind : goal.returns-then-at-eq0-clause-behind
 returns-then-at-eq0-clause-behind g c =
-    put_so (g.S.Store.index c.args.store.now) (g.S.Store.kept c.args.store.now) c.args.roots.now.roots c.args.slot c.reference_at-at.result c.args.basic c.peek.result
-    (ap (has_sort (sort_of_basic c.args.basic)) (sym c.peek.ensures)
+    put_so (g.S.Store.index c.args.store.now) (g.S.Store.kept c.args.store.now) c.args.roots.now.roots c.args.slot c.reference_at-at.result c.args.basic c.operand_of.result
+    (ap (has_sort (sort_of_basic c.args.basic)) (sym c.operand_of.ensures)
     ∙ stands (g.S.Store.index c.args.store.now) c.args.roots.now.roots _ (sort_of_basic c.args.basic ∷ sorts.Reference ∷ []) c.requires.there 0 (sort_of_basic c.args.basic) refl)
-    c.peek.ensures c.reference_at-at.ensures
+    c.operand_of.ensures c.reference_at-at.ensures
     ∙ null_so (g.S.Store.index c.args.store.now) c.reference_at-at.result _ c.if-at-eq0.true
 
 pub put_value-requires-clause-takes : goal.put_value-requires-clause-takes
@@ -29,8 +33,8 @@ put_value-requires-clause-takes g c =
     let objects = g.S.Store.kept c.args.store.now in
     let held = c.args.roots.now.roots in
     ap (λ value. takes value (content_at objects (serial_of index c.reference_at-at.result) c.args.slot)) c.kept_value-value.ensures
-    ∙ takes_so c.args.basic c.peek.result (content_at objects (serial_of index c.reference_at-at.result) c.args.slot)
-    (ap (has_sort (sort_of_basic c.args.basic)) (sym c.peek.ensures)
+    ∙ takes_so c.args.basic c.operand_of.result (content_at objects (serial_of index c.reference_at-at.result) c.args.slot)
+    (ap (has_sort (sort_of_basic c.args.basic)) (sym c.operand_of.ensures)
     ∙ stands index held _ (sort_of_basic c.args.basic ∷ sorts.Reference ∷ []) c.requires.there 0 (sort_of_basic c.args.basic) refl)
     (suits_so index objects held c.args.basic 1 c.args.slot c.reference_at-at.result c.reference_at-at.ensures c.if-at-eq0.false c.requires.suits)
 
@@ -39,8 +43,8 @@ put_value-requires-clause-held g c =
     let index = g.S.Store.index c.args.store.now in
     let objects = g.S.Store.kept c.args.store.now in
     ap (λ value. is_held objects (serial_of index (referent value))) c.kept_value-value.ensures
-    ∙ ap (λ place. is_held objects (serial_of index place)) (kept_refers c.args.basic c.peek.result)
-    ∙ ap (is_held objects) (sym (referred_so index objects c.args.roots.now.roots 0 c.peek.result c.peek.ensures)) ∙ c.requires.may.held
+    ∙ ap (λ place. is_held objects (serial_of index place)) (kept_refers c.args.basic c.operand_of.result)
+    ∙ ap (is_held objects) (sym (referred_so index objects c.args.roots.now.roots 0 c.operand_of.result c.operand_of.ensures)) ∙ c.requires.may.held
 
 pub put_value-requires-clause-allowed : goal.put_value-requires-clause-allowed
 put_value-requires-clause-allowed g c =
@@ -48,8 +52,8 @@ put_value-requires-clause-allowed g c =
     let objects = g.S.Store.kept c.args.store.now in
     let allows = g.S.Store.allows c.args.store.now in
     ap (λ value. may_point allows objects (serial_of index c.reference_at-at.result) (serial_of index (referent value))) c.kept_value-value.ensures
-    ∙ ap (λ place. may_point allows objects (serial_of index c.reference_at-at.result) (serial_of index place)) (kept_refers c.args.basic c.peek.result)
-    ∙ ap (may_point allows objects (serial_of index c.reference_at-at.result)) (sym (referred_so index objects c.args.roots.now.roots 0 c.peek.result c.peek.ensures))
+    ∙ ap (λ place. may_point allows objects (serial_of index c.reference_at-at.result) (serial_of index place)) (kept_refers c.args.basic c.operand_of.result)
+    ∙ ap (may_point allows objects (serial_of index c.reference_at-at.result)) (sym (referred_so index objects c.args.roots.now.roots 0 c.operand_of.result c.operand_of.ensures))
     ∙ allowed_so index objects c.args.roots.now.roots allows 1 c.reference_at-at.result c.reference_at-at.ensures c.if-at-eq0.false c.requires.may
 
 pub returns-clause-behind : goal.returns-clause-behind
@@ -58,14 +62,14 @@ returns-clause-behind g c =
     let objects = g.S.Store.kept c.args.store.now in
     let held = c.args.roots.now.roots in
     let serial = serial_of index c.reference_at-at.result in
-    let is = put_so index objects held c.args.slot c.reference_at-at.result c.args.basic c.peek.result
-    (ap (has_sort (sort_of_basic c.args.basic)) (sym c.peek.ensures)
+    let is = put_so index objects held c.args.slot c.reference_at-at.result c.args.basic c.operand_of.result
+    (ap (has_sort (sort_of_basic c.args.basic)) (sym c.operand_of.ensures)
     ∙ stands index held _ (sort_of_basic c.args.basic ∷ sorts.Reference ∷ []) c.requires.there 0 (sort_of_basic c.args.basic) refl)
-    c.peek.ensures c.reference_at-at.ensures
+    c.operand_of.ensures c.reference_at-at.ensures
     ∙ unless_so index c.reference_at-at.result _ c.if-at-eq0.false in
     is
     ∙ ap (λ value. put_on (seen index objects held) (map (read_value index) (drop 2 (top_stack held))) serial c.args.slot (content_of value))
-    (kept_read index c.args.basic c.peek.result ∙ ap (read_value index) (sym c.kept_value-value.ensures))
+    (kept_read index c.args.basic c.operand_of.result ∙ ap (read_value index) (sym c.kept_value-value.ensures))
     ∙ puts_so index objects held c.reference_at-at.result c.args.slot c.kept_value-value.result 2
     (some_there objects serial c.args.slot c.args.basic (suits_so index objects held c.args.basic 1 c.args.slot c.reference_at-at.result c.reference_at-at.ensures c.if-at-eq0.false c.requires.suits))
     ∙ ap (λ kept. Some (Goes (seen index kept (stacked held (drop 2 (top_stack held)))))) (sym c.put_value.ensures.kept)
