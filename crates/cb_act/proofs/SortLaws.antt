@@ -1,10 +1,10 @@
 -- What is read of a word goes by the sort of a type alone, and what the values of a field are is told where one is named.
 use Rattle.std.proofs.Common.{◌≡◌, ◌∙◌, ap, refl, subst, sym, ℕ, true, false, List, [], ◌∷◌, Option, Some, None}
 use Rattle.std.proofs.lemmas.Bool.{false≢true}
-use Rattle.std.specs.Prelude.{is_some, option_and_then, slice_get}
+use Rattle.std.specs.Prelude.{is_some, option_and_then, option_map, slice_get}
 use Rattle.cb_frames.specs.Tops.{top_stack}
 use Rattle.cb_heap.specs.Kept.{content_at}
-use Rattle.cb_heap.specs.Reading.{View}
+use Rattle.cb_heap.specs.Reading.{View, read_roots, seen}
 use Rattle.cb_kinds.specs.declared.basic.Basic.{Basic}
 use Rattle.cb_kinds.specs.declared.basic.Basic.TheVariants as basics
 use Rattle.cb_link.specs.Decoding.{basic_named}
@@ -15,18 +15,26 @@ use Rattle.cb_link.specs.declared.named.Named.{Named}
 use Rattle.cb_link.specs.declared.named.Named.TheVariants as meanings
 use Rattle.cb_machine.specs.Standing.{taken}
 use Rattle.cb_machine.specs.Values.{natural, sort_of_basic, value_in}
-use Rattle.cb_plain.specs.State.{Content, Number, Reference}
+use Rattle.cb_plain.specs.State.{Content, Number, Object, Reference, Roots}
 use Rattle.cb_plain.specs.declared.class_state.ClassState.{ClassState}
 use Rattle.cb_plain.specs.declared.value.Value.{Value}
 use Rattle.cb_plain.specs.declared.value.Value.TheVariants.{Int, Long, Ref}
 use Rattle.cb_shapes.specs.declared.sort.Sort.{Sort}
 use Rattle.cb_shapes.specs.declared.sort.Sort.TheVariants as sorts
-use Rattle.cb_act.specs.Acting.{Deed, default_of, going_on, need_of, on_field, on_static, put_deed, roots_left}
+use Rattle.cb_act.specs.Acting.{Deed, default_of, going_on, need_of, on_field, on_static, put_deed, roots_left, with_roots}
 use Rattle.cb_act.specs.Going.{behind_put_static}
 use Rattle.cb_act.specs.Objects.{Goes, Suits, SuitsWords, behind_load_element, element_read, object_on, on_element, on_stack, read_on}
+use Rattle.cb_act.proofs.Going.{going_there}
+use Rattle.cb_act.proofs.ReadGoing.{put_static_read}
 
 value_same : (basic : Basic) (content : Content) → value_in basic content ≡ value_in (default_of (sort_of_basic basic)) content
-value_same basic (Reference serial) = refl
+value_same basics.Boolean (Reference serial) = refl
+value_same basics.Byte (Reference serial) = refl
+value_same basics.Char (Reference serial) = refl
+value_same basics.Short (Reference serial) = refl
+value_same basics.Int (Reference serial) = refl
+value_same basics.Long (Reference serial) = refl
+value_same (basics.Reference kind) (Reference serial) = refl
 value_same basics.Boolean (Number number) = refl
 value_same basics.Byte (Number number) = refl
 value_same basics.Char (Number number) = refl
@@ -100,3 +108,22 @@ static_told program decoded view class slot own names at ready there =
     let go : (Basic → Option Deed) = λ basic. going_on decoded (roots_left view (behind_put_static slot basic view.roots)) in
     let same : on_static (put_deed program decoded view) decoded.named ≡ option_and_then go (static_basic program slot) = rw (names, at, ready) refl in
     ap (λ named. is_some (basic_named program named)) names ∙ there_of go (static_basic program slot) (ap is_some (sym same) ∙ there)
+
+pub field_on : (program : Linked) (go : ℕ → Basic → Option Deed) (named : Named) (class slot : ℕ) (basic : Basic) → named ≡ meanings.Field class slot
+    → field_basic program class slot ≡ Some basic → on_field program go named ≡ go slot basic
+field_on program go named class slot basic names is = ap (on_field program go) names ∙ ap (option_and_then (go slot)) is
+
+some_mapped : {A B : Type 0} (f : A → B) (some : Option A) → is_some (option_map f some) ≡ is_some some
+some_mapped f None = refl
+some_mapped f (Some a) = refl
+
+pub put_there : (index : ℕ → ℕ) (objects : List (Option Object)) (held : Roots) (program : Linked) (decoded : Decoded) (class slot : ℕ) (own : ClassState) (basic : Basic)
+    → decoded.named ≡ meanings.Static class slot → slice_get held.classes class ≡ Some own → need_of class own ≡ None → static_basic program slot ≡ Some basic
+    → is_some (on_static (put_deed program decoded (seen index objects held)) decoded.named) ≡ true → is_some (behind_put_static slot basic held) ≡ true
+put_there index objects held program decoded class slot own basic names at ready typed there =
+    let view = seen index objects held in
+    let same : on_static (put_deed program decoded view) decoded.named ≡ going_on decoded (roots_left view (behind_put_static slot basic (read_roots index held))) =
+    rw (names, at, ready, typed) refl in
+    let left = going_there decoded (roots_left view (behind_put_static slot basic (read_roots index held))) (ap is_some (sym same) ∙ there) in
+    sym (some_mapped (read_roots index) (behind_put_static slot basic held)) ∙ ap is_some (sym (put_static_read index held slot basic))
+    ∙ sym (some_mapped (λ roots. Goes (with_roots view roots)) (behind_put_static slot basic (read_roots index held))) ∙ left

@@ -3,7 +3,7 @@ use Rattle.std.specs.Prelude.{slice_get}
 use Rattle.cb_heap.specs.Reading.{seen}
 use Rattle.cb_act.specs.Acting.{Does}
 use Rattle.cb_act.proofs.FramesActed.{put_done, ready_so}
-use Rattle.cb_act.proofs.SortLaws.{static_told}
+use Rattle.cb_act.proofs.SortLaws.{put_there, static_told}
 use Rattle.cb_act.proofs.acting_frames.puts_static.Goals as goal
 
 pub basic_of-requires-clause-there : goal.basic_of-requires-clause-there
@@ -11,6 +11,12 @@ basic_of-requires-clause-there g c =
     let view = seen (g.S.Store.index c.args.store.now) (g.S.Store.kept c.args.store.now) c.args.roots.now.roots in
     let ready = ready_so c.in-Static.class (slice_get c.args.roots.now.roots.classes c.in-Static.class) (c.unready.ensures ∙ ap Some c.in_default-unready.is) in
     static_told c.args.program.now c.args.decoded.now view c.in-Static.class c.in-Static.slot ready.0 c.in-Static.is ready.1 ready.2 c.requires.there
+
+pub put_static-requires-clause-there : goal.put_static-requires-clause-there
+put_static-requires-clause-there g c =
+    let ready = ready_so c.in-Static.class (slice_get c.args.roots.now.roots.classes c.in-Static.class) (c.unready.ensures ∙ ap Some c.in_default-unready.is) in
+    put_there (g.S.Store.index c.args.store.now) (g.S.Store.kept c.args.store.now) c.args.roots.now.roots c.args.program.now c.args.decoded.now c.in-Static.class c.in-Static.slot ready.0 c.basic_of.result
+    c.in-Static.is ready.1 ready.2 (c.basic_of.ensures.static_ c.in-Static.class c.in-Static.slot c.in-Static.is) c.requires.there
 
 pub returns-clause-deed : goal.returns-clause-deed
 returns-clause-deed g c =
