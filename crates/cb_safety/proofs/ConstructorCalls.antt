@@ -1,5 +1,5 @@
 -- A typed state advances at a call of a constructor, in a linked program.
-use Rattle.std.proofs.Common.{◌≡◌, ◌∙◌, ap, refl, sym, subst, ℕ, suc, ◌<◌, ◌==◌, Bool, true, false, not, ◌||◌, ◌&&◌, List, [], ◌∷◌, ◌++◌, length, map, reverse, Option, Some, None, option_map, slice_get, if◌then◌else◌}
+use Rattle.std.proofs.Common.{◌≡◌, ◌∙◌, ap, refl, sym, subst, subst₂, ℕ, suc, ◌<◌, ◌==◌, Bool, true, false, not, ◌||◌, ◌&&◌, List, [], ◌∷◌, ◌++◌, length, map, reverse, Option, Some, None, option_and_then, option_map, slice_get, if◌then◌else◌}
 use Rattle.std.specs.Prelude.{codes}
 use Rattle.std.proofs.lemmas.Bool.{eq-eqb, eqb-true, false≢true}
 use Rattle.std.proofs.lemmas.List.{reverse-reverse}
@@ -8,12 +8,15 @@ use Rattle.cb_classfile.specs.Pool.{text_at}
 use Rattle.cb_hierarchy.specs.declared.member.Method.{Method as RankedMethod}
 use Rattle.cb_hierarchy.specs.Orders.{upwards}
 use Rattle.cb_hierarchy.specs.Selection.{found}
+use Rattle.cb_hierarchy.specs.declared.selected.Selected.TheVariants as chosen
 use Rattle.cb_insn.specs.declared.insn.Insn.{Insn}
 use Rattle.cb_insn.specs.declared.opcode.TheConstants as opcodes
 use Rattle.cb_kinds.specs.Texts.{same_text}
 use Rattle.cb_kinds.specs.declared.basic.Basic.{Basic}
+use Rattle.cb_link.specs.Having.{parameters_at}
 use Rattle.cb_link.specs.Numbers.{Numbered, class_number, hierarchy, or_none, ranked_methods, same_name}
 use Rattle.cb_link.specs.Program.{Linked, linked_method}
+use Rattle.cb_link.specs.Special.{holder_named, special}
 use Rattle.cb_link.specs.declared.linked.LinkedMethod.{LinkedMethod}
 use Rattle.cb_link.specs.declared.named.Named.TheVariants as meanings
 use Rattle.cb_machine.specs.Calling.{asked_sorts, invokes_special}
@@ -45,19 +48,34 @@ use Rattle.cb_safety.specs.Held.{HaveTypes}
 use Rattle.cb_safety.specs.Kinds.{IsOfKind, Kinds, holds_kind, kinds_of}
 use Rattle.cb_safety.specs.Natives.{CallsNative}
 use Rattle.cb_safety.proofs.CallNames.{NamesMethod}
-use Rattle.cb_safety.proofs.Called.{Call, HasParts, class_low, falls_by, has_parts, leaves_by, member_there, sorts_are}
+use Rattle.cb_safety.proofs.Called.{Call, HasParts, class_low, falls_by, has_parts, leaves_by, member_there, parameters_there, sorts_are}
 use Rattle.cb_safety.proofs.Chosen.{found_is}
 use Rattle.cb_safety.proofs.Constructing.{Constructed, First, constructed_by, finished_reference, first_upwards}
 use Rattle.cb_safety.proofs.Entering.{map_reverse}
 use Rattle.cb_safety.proofs.Going.{now_at}
 use Rattle.cb_safety.proofs.Links.{Links}
-use Rattle.cb_safety.proofs.Receiving.{HasObject, InFront, Receiver, has_object, held_low, object_in_front, object_taken, received}
-use Rattle.cb_safety.proofs.Runs.{IsReceiver, MayRun, by_method, is_static_method, linked_there, selected_advances}
+use Rattle.cb_safety.proofs.Receiving.{HasObject, InFront, OnObject, Receiver, has_object, held_low, in_order, object_in_front, object_taken, received}
+use Rattle.cb_safety.proofs.Runs.{Given, IsReceiver, MayRun, Takes, by_method, is_static_method, linked_there, selected_advances}
 use Rattle.cb_safety.proofs.Signed.{found_texts, kind_numbered}
 use Rattle.cb_safety.proofs.Taken.{Taken, popped_typed, taken_behind}
 use Rattle.cb_safety.proofs.Variables.{replaced_stack, replaced_types}
 
 -- ---- what the machine does
+
+constructor_selected : (program : Linked) (caller index number class own_class : ℕ) (numbered own : Numbered Method) (member : MemberNames) (more : List ℕ)
+    → class_declaring program caller ≡ Some own_class
+    → method_numbered program number ≡ Some numbered
+    → same_text (or_none (text_at numbered.pool numbered.member.name)) (codes "<init>") ≡ true
+    → method_numbered program caller ≡ Some own
+    → member_named own.pool index ≡ Some member
+    → class_number program.classes member.class ≡ Some class
+    → class_declaring program number ≡ Some class
+    → upwards (hierarchy program.classes) class ≡ class ∷ more
+    → (class == class) ≡ true
+    → special program number (class_declaring program caller) (option_and_then (class_number program.classes) (holder_named program caller index))
+    ≡ found (ranked_methods program.classes) number
+constructor_selected program caller index number class own_class numbered own member more declares found init found_own member_is class_is declared up same =
+    rw (declares, found, init, found_own, member_is, class_is, declared, up, same) refl
 
 constructor_runs : (now : Now) (index number place class own_class : ℕ) (held arguments left : List Value) (numbered own : Numbered Method) (member : MemberNames)
     (more : List ℕ) (object : StateObject)
@@ -77,7 +95,9 @@ constructor_runs : (now : Now) (index number place class own_class : ℕ) (held 
     → invokes_special now index ≡ by_method now (values.Ref (suc place) ∷ arguments) left (found (ranked_methods now.machine.program.classes) number)
 constructor_runs now index number place class own_class held arguments left numbered own member more object
     names took first there declares found init found_own member_is class_is declared up same =
-    rw (names, took, first, there, declares, found, init, found_own, member_is, class_is, declared, up, same) refl
+    rw (names, took, first, there)
+    (ap (by_method now (values.Ref (suc place) ∷ arguments) left)
+    (constructor_selected now.machine.program now.frame.method index number class own_class numbered own member more declares found init found_own member_is class_is declared up same))
 
 -- ---- what linking asks of a constructor
 
@@ -97,9 +117,8 @@ suits_constructor (Some number) false true class is so = record { of_objects = r
 
 -- ---- a call
 
-module _ (machine : Machine) (state : State) (frame : MethodFrame) (below : List Frame) (insn : Insn) (index : ℕ) (fits : IsTyped machine.program) (linked : Links machine.program)
+module _ (machine : Machine) (state : State) (frame : MethodFrame) (below : List Frame) (insn : Insn) (index : ℕ) (linked : Links machine.program)
     (call : Call machine state frame below insn (actions.InvokeSpecial index)) (names : NamesMethod machine.program frame.method frame.pc opcodes.INVOKESPECIAL index call.at.method)
-    (natives : CallsNative machine state frame below → Advances machine state) (does : plan machine state ≡ invokes_special (now_at machine state frame below) index)
     (init : is_init (name_at call.at.method index) ≡ true) where
   abbrev kinds : Kinds
   kinds = kinds_of state.objects
@@ -203,18 +222,20 @@ module _ (machine : Machine) (state : State) (frame : MethodFrame) (below : List
   holds_class : holds_kind method.program class class ≡ true
   holds_class = subst HoldsOwn (sym call.own) linked.owns class (held_low method.program receiver.of.own class receiver.of.goes)
 
-  may : MayRun machine state frame below insn (actions.InvokeSpecial index) call fits linked.spelled linked.coded linked.whole linked.thrown natives number
-      (values.Ref (suc has.place) ∷ front.arguments) all.left
+  given_front : Given machine.program kinds method own (values.Ref (suc has.place) ∷ front.arguments)
+  given_front = record {
+    receiver = values.Ref (suc has.place) ∷ [];
+    others = front.arguments;
+    are = refl;
+    on = subst (λ (static : Bool). IsReceiver machine.program kinds own.class static (values.Ref (suc has.place) ∷ [])) (sym of_objects) (IsReceiver.AnObject (suc has.place) of_class);
+    have = others;
+  }
+
+  may : MayRun machine state frame below insn (actions.InvokeSpecial index) call number (values.Ref (suc has.place) ∷ front.arguments) all.left
   may = record {
     own = own;
     there = names.declared.there;
-    given = record {
-      receiver = values.Ref (suc has.place) ∷ [];
-      others = front.arguments;
-      are = refl;
-      on = subst (λ (static : Bool). IsReceiver machine.program kinds own.class static (values.Ref (suc has.place) ∷ [])) (sym of_objects) (IsReceiver.AnObject (suc has.place) of_class);
-      have = others;
-    };
+    given = given_front;
     ready = record {
       rest = verified.replaced by_rule.object by_rule.type by_rule.rest;
       falls = falls_by insn (actions.InvokeSpecial index) call.acts refl;
@@ -231,14 +252,40 @@ module _ (machine : Machine) (state : State) (frame : MethodFrame) (below : List
   upward : First class (upwards (hierarchy machine.program.classes) class)
   upward = first_upwards machine.program.classes class class_is_low
 
-  pub constructor_advances : Advances machine state
-  constructor_advances =
+  declares : class_declaring machine.program frame.method ≡ Some method.class
+  declares = ap (option_map (λ (own : LinkedMethod). own.class)) caller.is_linked ∙ ap {B = Option ℕ} Some caller.class
+
+  declared : class_declaring machine.program number ≡ Some class
+  declared = ap (option_map (λ (own : LinkedMethod). own.class)) is_linked
+
+  selects : special machine.program number (class_declaring machine.program frame.method)
+      (option_and_then (class_number machine.program.classes) (holder_named machine.program frame.method index))
+      ≡ found (ranked_methods machine.program.classes) number
+  selects =
+      constructor_selected machine.program frame.method index number class method.class own names.calling names.member upward.more declares names.declared.there own_name names.calls names.constant class_is
+      declared upward.is (eq-eqb class class refl)
+
+  -- the constructor takes the arguments that stand on the stack
+  pub constructor_takes : (other : ℕ) (arguments : List Value) → OnObject state frame (length (parameters_at machine.program number)) arguments
+      → special machine.program number (class_declaring machine.program frame.method)
+      (option_and_then (class_number machine.program.classes) (holder_named machine.program frame.method index))
+      ≡ chosen.Method other
+      → Takes machine.program kinds method other arguments
+  constructor_takes other arguments on is =
+      subst₂ (Takes machine.program kinds method) (found_is (ranked_methods machine.program.classes) number other (sym selects ∙ is))
+      (sym first
+      ∙ in_order method kinds state frame wanted (map type_of (reverse wanted) ++ by_rule.object ∷ []) by_rule.rest all (length (parameters_at machine.program number)) arguments
+      (ap (λ (own : List Basic). length own) (parameters_there machine.program number (linked_method machine.program.kinds own) is_linked)) on)
+      (record { own = own; there = names.declared.there; given = given_front })
+
+  pub constructor_advances : IsTyped machine.program → (CallsNative machine state frame below → Advances machine state)
+      → plan machine state ≡ invokes_special (now_at machine state frame below) index → Advances machine state
+  constructor_advances fits natives does =
       selected_advances machine state frame below insn (actions.InvokeSpecial index) call fits linked.spelled linked.coded linked.whole linked.thrown natives
       (found (ranked_methods machine.program.classes) number) (values.Ref (suc has.place) ∷ front.arguments) all.left
-      (λ other is. subst (λ (number : ℕ). MayRun machine state frame below insn (actions.InvokeSpecial index) call fits linked.spelled linked.coded linked.whole linked.thrown natives number
-      (values.Ref (suc has.place) ∷ front.arguments) all.left) (found_is (ranked_methods machine.program.classes) number other is) may)
+      (λ other is. subst (λ (number : ℕ). MayRun machine state frame below insn (actions.InvokeSpecial index) call number (values.Ref (suc has.place) ∷ front.arguments) all.left)
+      (found_is (ranked_methods machine.program.classes) number other is) may)
       (does
       ∙ constructor_runs (now_at machine state frame below) index number has.place class method.class all.values front.arguments all.left own names.calling names.member upward.more has.object
       names.names off first (subst (λ (serial : ℕ). object_at state serial ≡ Some has.object) has.is has.there)
-      (ap (option_map (λ (own : LinkedMethod). own.class)) caller.is_linked ∙ ap {B = Option ℕ} Some caller.class)
-      names.declared.there own_name names.calls names.constant class_is (ap (option_map (λ (own : LinkedMethod). own.class)) is_linked) upward.is (eq-eqb class class refl))
+      declares names.declared.there own_name names.calls names.constant class_is declared upward.is (eq-eqb class class refl))

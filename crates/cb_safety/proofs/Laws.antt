@@ -15,3 +15,4 @@ pub use Rattle.cb_safety.proofs.Sound.{linked_sound}
 pub use Rattle.cb_safety.proofs.Starting.{start_is_typed}
 pub use Rattle.cb_safety.proofs.Stepping.{ended_stays, run_goes, run_typed, states_advance}
 pub use Rattle.cb_safety.proofs.Given.{strings_are_given}
+pub use Rattle.cb_safety.proofs.NativeArguments.{arguments_are_given}

@@ -148,3 +148,4 @@ mod KindNames
 mod LibraryFields
 mod LibraryNatives
 mod Given
+mod NativeArguments

@@ -44,5 +44,5 @@ linked_special_calls_advance machine state frame below insn index linked fits ty
     does = running machine state frame below insn (actions.InvokeSpecial index) ended zero frames there so
 
     by : (init : Bool) → is_init (name_at call.at.method index) ≡ init → Advances machine state
-    by true init = constructor_advances machine state frame below insn index fits them call names natives does init
-    by false init = special_advances machine state frame below insn index fits them call names natives does init
+    by true init = constructor_advances machine state frame below insn index them call names init fits natives does
+    by false init = special_advances machine state frame below insn index them call names init fits natives does

@@ -1,5 +1,5 @@
 -- A typed state advances where a method is called on an object that isn't being made.
-use Rattle.std.proofs.Common.{◌≡◌, ◌∙◌, ap, refl, sym, subst, arith, ℕ, suc, Bool, true, List, [], ◌∷◌, ◌++◌, map, reverse, Option, Some, slice_get}
+use Rattle.std.proofs.Common.{◌≡◌, ◌∙◌, ap, refl, sym, subst, arith, ℕ, suc, Bool, true, List, [], ◌∷◌, ◌++◌, length, map, reverse, Option, Some, slice_get}
 use Rattle.std.proofs.lemmas.List.{reverse-reverse}
 use Rattle.cb_classfile.specs.declared.method.Method.{Method}
 use Rattle.cb_hierarchy.specs.Classes.{listed}
@@ -7,6 +7,7 @@ use Rattle.cb_hierarchy.specs.declared.selected.Selected.{Selected}
 use Rattle.cb_hierarchy.specs.declared.selected.Selected.TheVariants as chosen
 use Rattle.cb_insn.specs.declared.insn.Insn.{Insn}
 use Rattle.cb_kinds.specs.declared.basic.Basic.{Basic}
+use Rattle.cb_link.specs.Having.{parameters_at}
 use Rattle.cb_link.specs.Numbers.{Numbered, methods_of}
 use Rattle.cb_link.specs.Program.{Linked, linked_method}
 use Rattle.cb_machine.specs.Calling.{asked_sorts}
@@ -35,20 +36,19 @@ use Rattle.cb_safety.specs.Frames.{result_types}
 use Rattle.cb_safety.specs.Held.{HaveTypes}
 use Rattle.cb_safety.specs.Kinds.{IsOfKind, Kinds, holds_kind, kind_in, kinds_of}
 use Rattle.cb_safety.specs.Natives.{CallsNative}
-use Rattle.cb_safety.proofs.Called.{Call, Exchanged, given_is, sorts_are}
+use Rattle.cb_safety.proofs.Called.{Call, Exchanged, given_is, parameters_there, sorts_are}
 use Rattle.cb_safety.proofs.Entering.{map_reverse}
 use Rattle.cb_safety.proofs.Going.{advances_by, now_at}
 use Rattle.cb_safety.proofs.Links.{Links}
-use Rattle.cb_safety.proofs.Receiving.{HasObject, InFront, has_object, object_in_front}
-use Rattle.cb_safety.proofs.Runs.{IsReceiver, MayRun, by_method, linked_there, selected_advances}
+use Rattle.cb_safety.proofs.Receiving.{HasObject, InFront, OnObject, has_object, in_order, object_in_front, own_kind, same_serial}
+use Rattle.cb_safety.proofs.Runs.{Given, IsReceiver, MayRun, Takes, by_method, linked_there, selected_advances}
 use Rattle.cb_safety.proofs.Special.{NullOr, object_as}
 use Rattle.cb_safety.proofs.Suited.{Suits}
 use Rattle.cb_safety.proofs.Taken.{Taken, popped_on_typed}
 use Rattle.cb_safety.proofs.Throwing.{throws_typed}
 
-module _ (machine : Machine) (state : State) (frame : MethodFrame) (below : List Frame) (insn : Insn) (action : Action) (fits : IsTyped machine.program) (linked : Links machine.program)
-    (call : Call machine state frame below insn action) (natives : CallsNative machine state frame below → Advances machine state)
-    (falling : falls insn ≡ true) (resolved kind : ℕ) (own : Numbered Method) (there : slice_get (methods_of machine.program.classes) resolved ≡ Some own)
+module _ (machine : Machine) (state : State) (frame : MethodFrame) (below : List Frame) (insn : Insn) (action : Action) (linked : Links machine.program)
+    (call : Call machine state frame below insn action) (resolved kind : ℕ) (own : Numbered Method) (there : slice_get (methods_of machine.program.classes) resolved ≡ Some own)
     (by_rule : Exchanged call.at.method call.at.types call.after (map type_of (listed (linked_method machine.program.kinds own).result))
     (on_object (map type_of (reverse (linked_method machine.program.kinds own).parameters)) kind)) where
   abbrev kinds : Kinds
@@ -79,6 +79,50 @@ module _ (machine : Machine) (state : State) (frame : MethodFrame) (below : List
       subst (λ (types : List VerificationType). HaveTypes method kinds types front.arguments)
       (sym (map_reverse type_of (reverse wanted)) ∙ ap (map type_of) (reverse-reverse wanted)) front.have
 
+  -- what a method that is selected on an object is given
+  given_front : (place number object : ℕ) → kind_in kinds (suc place) ≡ Some object → (suit : Suits machine.program linked resolved own there object number)
+      → Given machine.program kinds method suit.run (values.Ref (suc place) ∷ front.arguments)
+  given_front place number object is suit = record {
+    receiver = values.Ref (suc place) ∷ [];
+    others = front.arguments;
+    are = refl;
+    on = subst (λ (static : Bool). IsReceiver machine.program kinds suit.run.class static (values.Ref (suc place) ∷ [])) (sym suit.of_objects)
+        (IsReceiver.AnObject (suc place) (record { own = object; there = is; goes = suit.holds }));
+    have = subst (λ (wanted : List Basic). HaveTypes method kinds (map type_of wanted) front.arguments) (sym suit.parameters) others;
+  }
+
+  -- so the arguments that stand on the stack are what it takes
+  pub object_takes : (number : ℕ) (arguments : List Value) (on : OnObject state frame (length (parameters_at machine.program resolved)) arguments)
+      → (holds_kind machine.program on.object.kind kind ≡ true → Suits machine.program linked resolved own there on.object.kind number)
+      → Takes machine.program kinds method number arguments
+  object_takes number arguments on suits = go (object_as method kinds (Object kind) kind front.value refl front.has) where
+    same : reverse took.values ≡ arguments
+    same =
+        in_order method kinds state frame wanted (on_object (map type_of (reverse wanted)) kind) by_rule.rest took (length (parameters_at machine.program resolved)) arguments
+        (ap (λ (own : List Basic). length own)
+        (parameters_there machine.program resolved (linked_method machine.program.kinds own) (linked_there machine.program linked.whole resolved own there))) on
+
+    are : values.Ref (suc on.place) ∷ on.others ≡ front.value ∷ front.arguments
+    are = sym on.are ∙ sym same ∙ front.is
+
+    go : NullOr method.program kinds kind front.value → Takes machine.program kinds method number arguments
+    go (NullOr.Null null) =
+        let wrong : suc on.place ≡ 0 = same_serial (suc on.place) 0 front.value on.others front.arguments are null in
+        absurd (omega (arith, wrong))
+    go (NullOr.To serial is of) =
+        let at : suc on.place ≡ serial = same_serial (suc on.place) serial front.value on.others front.arguments are is in
+        let held : kind_in kinds (suc on.place) ≡ Some of.own = subst (λ (serial : ℕ). kind_in kinds serial ≡ Some of.own) (sym at) of.there in
+        let its : of.own ≡ on.object.kind = own_kind state.objects (suc on.place) of.own on.object held on.there in
+        let suit : Suits machine.program linked resolved own there on.object.kind number =
+        suits (subst (λ (own : ℕ). holds_kind machine.program own kind ≡ true) its (subst (λ (program : Linked). holds_kind program of.own kind ≡ true) call.own of.goes)) in
+        let whole : values.Ref (suc on.place) ∷ front.arguments ≡ arguments =
+        ap (λ (value : Value). value ∷ front.arguments) (ap values.Ref at ∙ sym is) ∙ sym front.is ∙ same in
+        record {
+          own = suit.run;
+          there = suit.is;
+          given = subst (Given machine.program kinds method suit.run) whole (given_front on.place number on.object.kind (held ∙ ap {B = Option ℕ} Some its) suit);
+        }
+
   -- what the machine does with null and with an object
   pub record Calls (choose : ℕ → Selected) : Type 0 where
     pub found : Option Plan
@@ -90,21 +134,15 @@ module _ (machine : Machine) (state : State) (frame : MethodFrame) (below : List
         → reverse held ≡ values.Ref (suc place) ∷ arguments → object_at state (suc place) ≡ Some object
         → found ≡ by_method (now_at machine state frame below) (values.Ref (suc place) ∷ arguments) left (choose object.kind)
 
-  module _ (choose : ℕ → Selected) (calls : Calls choose)
+  module _ (fits : IsTyped machine.program) (natives : CallsNative machine state frame below → Advances machine state) (falling : falls insn ≡ true)
+      (choose : ℕ → Selected) (calls : Calls choose)
       (suits : (object number : ℕ) → holds_kind machine.program object kind ≡ true → choose object ≡ chosen.Method number → Suits machine.program linked resolved own there object number) where
     may_run : (place number object : ℕ) → kind_in kinds (suc place) ≡ Some object → Suits machine.program linked resolved own there object number
-        → MayRun machine state frame below insn action call fits linked.spelled linked.coded linked.whole linked.thrown natives number (values.Ref (suc place) ∷ front.arguments) took.left
+        → MayRun machine state frame below insn action call number (values.Ref (suc place) ∷ front.arguments) took.left
     may_run place number object is suit = record {
       own = suit.run;
       there = suit.is;
-      given = record {
-        receiver = values.Ref (suc place) ∷ [];
-        others = front.arguments;
-        are = refl;
-        on = subst (λ (static : Bool). IsReceiver machine.program kinds suit.run.class static (values.Ref (suc place) ∷ [])) (sym suit.of_objects)
-            (IsReceiver.AnObject (suc place) (record { own = object; there = is; goes = suit.holds }));
-        have = subst (λ (wanted : List Basic). HaveTypes method kinds (map type_of wanted) front.arguments) (sym suit.parameters) others;
-      };
+      given = given_front place number object is suit;
       ready = record {
         rest = by_rule.rest;
         falls = falling;

@@ -1,11 +1,13 @@
--- The object on which a constructor is called.
-use Rattle.std.proofs.Common.{◌≡◌, ◌∙◌, ap, refl, sym, subst, ℕ, zero, suc, ◌<◌, ◌==◌, Bool, true, false, ◌||◌, ◌&&◌, List, [], ◌∷◌, ◌++◌, length, nat_lt, reverse, Option, Some, None, slice_get, inl, inr, if◌then◌else◌}
+-- The object on which a method is called.
+use Rattle.std.proofs.Common.{◌≡◌, ◌∙◌, ap, arith, refl, sym, subst, ℕ, zero, suc, ◌<◌, ◌==◌, Bool, true, false, ◌||◌, ◌&&◌, List, [], ◌∷◌, ◌++◌, length, map, nat_lt, reverse, Option, Some, None, slice_get, inl, inr, if◌then◌else◌}
 use Rattle.std.proofs.lemmas.Bool.{and_parts, eqb-true, false≢true, ltb-true, or_cases}
-use Rattle.std.proofs.lemmas.List.{reverse-append}
+use Rattle.std.proofs.lemmas.List.{length-append, length-map, length-reverse, reverse-append, reverse-reverse}
 use Rattle.std.proofs.lemmas.Option.{same_Some}
+use Rattle.cb_kinds.specs.declared.basic.Basic.{Basic}
 use Rattle.cb_link.specs.Program.{Linked}
 use Rattle.cb_link.specs.Subtypes.{type_of_kind}
-use Rattle.cb_plain.specs.State.{Object as StateObject}
+use Rattle.cb_machine.specs.Values.{sort_of_basic}
+use Rattle.cb_plain.specs.State.{MethodFrame, Object as StateObject, State}
 use Rattle.cb_plain.specs.Updates.{kept, object_in}
 use Rattle.cb_plain.specs.declared.value.Value.{Value}
 use Rattle.cb_plain.specs.declared.value.Value.TheVariants as values
@@ -22,7 +24,7 @@ use Rattle.cb_safety.specs.Held.{HasType, HaveTypes, IsStack}
 use Rattle.cb_safety.specs.Kinds.{IsOfKind, Kinds, Refers, holds_kind, is_held_as, kind_in, kinds_of, known}
 use Rattle.cb_safety.proofs.Assigned.{never, of_kind_assigned, when}
 use Rattle.cb_safety.proofs.Entering.{AreTold, have_reversed}
-use Rattle.cb_safety.proofs.Taken.{Taken, taken_typed}
+use Rattle.cb_safety.proofs.Taken.{Taken, taken_front, taken_typed}
 use Rattle.cb_safety.proofs.Variables.{new_finished}
 
 -- ---- objects by their kinds
@@ -46,6 +48,13 @@ has_object objects zero own is = never is
 has_object objects (suc place) own is =
     let (object, there, of) = object_there objects place own is in
     record { object = object; place = place; is = refl; there = there; of = of }
+
+-- the kind of an object that is there
+pub own_kind : (objects : List (Option StateObject)) (serial own : ℕ) (object : StateObject) → kind_in (kinds_of objects) serial ≡ Some own
+    → object_in objects serial ≡ Some object → own ≡ object.kind
+own_kind objects serial own object is there =
+    let has : HasObject objects serial own = has_object objects serial own is in
+    sym has.of ∙ ap (λ (object : StateObject). object.kind) (same_Some has.object object (sym has.there ∙ there))
 
 kind_there_low : (program : Linked) (objects : List (Option StateObject)) (serial own : ℕ) → IsHeap program objects → kind_in (kinds_of objects) serial ≡ Some own
     → own < length program.kinds
@@ -134,6 +143,45 @@ object_in_front method kinds object types held have =
     in_front method kinds object (reverse types) (reverse held)
     (subst (λ (own : List VerificationType). HaveTypes method kinds own (reverse held)) (reverse-append types (object ∷ []))
     (have_reversed method kinds (types ++ object ∷ []) held have))
+
+-- ---- a call on an object that is there
+
+-- the arguments are the object and so many others, and stand on the stack of the frame
+pub record OnObject (state : State) (frame : MethodFrame) (count : ℕ) (arguments : List Value) : Type 0 where
+  pub rest : List Value
+  pub stack : frame.stack ≡ reverse arguments ++ rest
+  pub place : ℕ
+  pub object : StateObject
+  pub others : List Value
+  pub are : arguments ≡ values.Ref (suc place) ∷ others
+  pub so_many : length others ≡ count
+  pub there : object_in state.objects (suc place) ≡ Some object
+
+-- so they are what is taken, in order
+pub in_order : (method : Within) (kinds : Kinds) (state : State) (frame : MethodFrame) (wanted : List Basic) (types rest : List VerificationType)
+    (took : Taken method kinds (map sort_of_basic (reverse wanted) ++ sorts.Reference ∷ []) frame.stack types rest) (count : ℕ) (arguments : List Value)
+    → count ≡ length wanted → OnObject state frame count arguments → reverse took.values ≡ arguments
+in_order method kinds state frame wanted types rest took count arguments same on =
+    ap (λ (held : List Value). reverse held)
+    (taken_front method kinds (map sort_of_basic (reverse wanted) ++ sorts.Reference ∷ []) frame.stack types rest took (reverse arguments) on.rest on.stack as_many)
+    ∙ reverse-reverse arguments
+  where
+    as_many : length (reverse arguments) ≡ length (map sort_of_basic (reverse wanted) ++ sorts.Reference ∷ [])
+    as_many =
+        let more : length arguments ≡ suc (length on.others) = ap (λ (held : List Value). length held) on.are in
+        omega (
+          arith,
+          more,
+          on.so_many,
+          same,
+          length-reverse arguments,
+          length-append (map sort_of_basic (reverse wanted)) (sorts.Reference ∷ []),
+          length-map (reverse wanted) sort_of_basic,
+          length-reverse wanted,
+        )
+
+pub same_serial : (one other : ℕ) (value : Value) (others arguments : List Value) → values.Ref one ∷ others ≡ value ∷ arguments → value ≡ values.Ref other → one ≡ other
+same_serial one other value others arguments are is = cc
 
 -- ---- the object of a method that is entered
 

@@ -141,16 +141,25 @@ receiver_typed program kinds from class static receiver same (IsReceiver.AnObjec
     HaveTypes.And (Object class) (values.Ref serial) [] []
     (HasType.AReference class serial (Refers.To serial (subst (λ (program : Linked). IsOfKind program kinds class serial) (sym same) of))) HaveTypes.NoMore
 
+-- so they are of the types that the method takes
+pub given_typed : (program : Linked) (kinds : Kinds) (from : Within) (own : Numbered Method) (arguments : List Value) → from.program ≡ program → Given program kinds from own arguments
+    → HaveTypes from kinds (receiver_types (is_static_method own) own.class ++ map type_of (linked_method program.kinds own).parameters) arguments
+given_typed program kinds from own arguments same given =
+    subst (HaveTypes from kinds (receiver_types (is_static_method own) own.class ++ map type_of (linked_method program.kinds own).parameters)) (sym given.are)
+    (both_have from kinds (receiver_types (is_static_method own) own.class) (map type_of (linked_method program.kinds own).parameters) given.receiver given.others
+    (receiver_typed program kinds from own.class (is_static_method own) given.receiver same given.on) given.have)
+
+-- the method of a number takes these arguments
+pub record Takes (program : Linked) (kinds : Kinds) (from : Within) (number : ℕ) (arguments : List Value) : Type 0 where
+  pub own : Numbered Method
+  pub there : slice_get (methods_of program.classes) number ≡ Some own
+  pub given : Given program kinds from own arguments
+
 -- ---- at a call
 
-module _ (machine : Machine) (state : State) (frame : MethodFrame) (below : List Frame) (insn : Insn) (action : Action) (call : Call machine state frame below insn action)
-    (fits : IsTyped machine.program) (spelled : IsSpelled machine.program) (coded : HasCode machine.program) (whole : IsWhole machine.program) (thrown : AreThrown machine.program)
-    (natives : CallsNative machine state frame below → Advances machine state) where
+module _ (machine : Machine) (state : State) (frame : MethodFrame) (below : List Frame) (insn : Insn) (action : Action) (call : Call machine state frame below insn action) where
   abbrev kinds : Kinds
   kinds = kinds_of state.objects
-
-  abbrev here : Now
-  here = now_at machine state frame below
 
   -- the frame goes on with a result
   pub record Ready (left : List Value) (result : Option Basic) : Type 0 where
@@ -167,94 +176,97 @@ module _ (machine : Machine) (state : State) (frame : MethodFrame) (below : List
     pub given : Given machine.program kinds call.at.method own arguments
     pub ready : Ready left (linked_method machine.program.kinds own).result
 
-  module _ (number : ℕ) (arguments left : List Value) (may : MayRun number arguments left) where
-    abbrev own : Numbered Method
-    own = may.own
+  module _ (fits : IsTyped machine.program) (spelled : IsSpelled machine.program) (coded : HasCode machine.program) (whole : IsWhole machine.program)
+      (thrown : AreThrown machine.program) (natives : CallsNative machine state frame below → Advances machine state) where
+    abbrev here : Now
+    here = now_at machine state frame below
 
-    abbrev linked : LinkedMethod
-    linked = linked_method machine.program.kinds own
+    module _ (number : ℕ) (arguments left : List Value) (may : MayRun number arguments left) where
+      abbrev own : Numbered Method
+      own = may.own
 
-    entered : (body : Body) → own.member.body ≡ Some body
-        → Planned machine.program (Some (entered_upon machine state (OfMethod (with_stack frame left) ∷ below) number arguments body))
-    entered body has =
-        enters machine state frame below insn action call left arguments may.ready.rest number callee thrown found
-        (method_begins machine.program number callee fits spelled coded found)
-        (subst (λ (types : List VerificationType). HaveTypes callee kinds types arguments) (sym types)
-        (subst (HaveTypes callee kinds (this_types callee ++ map type_of linked.parameters)) (sym may.given.are)
-        (both_have callee kinds (this_types callee) (map type_of linked.parameters) may.given.receiver may.given.others starts.have
-        (basics_elsewhere call.at.method callee kinds linked.parameters may.given.others call.own may.given.have))))
-        (subst AreTold (sym types)
-        (all_both (λ (type : VerificationType). is_told type ≡ true) (this_types callee) (map type_of linked.parameters) starts.told (basics_told linked.parameters)))
-        may.ready.falls (may.ready.answered ∙ ap (λ (types : List VerificationType). types ++ may.ready.rest) (sym gives)) may.ready.locals may.ready.stack
-      where
-        callee : Within
-        callee = callee_of machine.program number own body
+      abbrev linked : LinkedMethod
+      linked = linked_method machine.program.kinds own
 
-        found : within machine.program number ≡ Some callee
-        found = within_there machine.program whole number own may.there body has
+      entered : (body : Body) → own.member.body ≡ Some body
+          → Planned machine.program (Some (entered_upon machine state (OfMethod (with_stack frame left) ∷ below) number arguments body))
+      entered body has =
+          enters machine state frame below insn action call left arguments may.ready.rest number callee thrown found
+          (method_begins machine.program number callee fits spelled coded found)
+          (subst (λ (types : List VerificationType). HaveTypes callee kinds types arguments) (sym types)
+          (subst (HaveTypes callee kinds (this_types callee ++ map type_of linked.parameters)) (sym may.given.are)
+          (both_have callee kinds (this_types callee) (map type_of linked.parameters) may.given.receiver may.given.others starts.have
+          (basics_elsewhere call.at.method callee kinds linked.parameters may.given.others call.own may.given.have))))
+          (subst AreTold (sym types)
+          (all_both (λ (type : VerificationType). is_told type ≡ true) (this_types callee) (map type_of linked.parameters) starts.told (basics_told linked.parameters)))
+          may.ready.falls (may.ready.answered ∙ ap (λ (types : List VerificationType). types ++ may.ready.rest) (sym gives)) may.ready.locals may.ready.stack
+        where
+          callee : Within
+          callee = callee_of machine.program number own body
 
-        starts : Starts callee kinds may.given.receiver
-        starts = starts_on machine.program kinds callee (is_static_method own) may.given.receiver refl refl may.given.on
+          found : within machine.program number ≡ Some callee
+          found = within_there machine.program whole number own may.there body has
 
-        types : start_types callee ≡ this_types callee ++ map type_of linked.parameters
-        types = ap (λ (own : Option LinkedMethod). this_types callee ++ map type_of (parameters_of own)) (linked_there machine.program whole number own may.there)
+          starts : Starts callee kinds may.given.receiver
+          starts = starts_on machine.program kinds callee (is_static_method own) may.given.receiver refl refl may.given.on
 
-        gives : result_types (result_at machine.program number) ≡ result_types linked.result
-        gives = ap (λ (own : Option LinkedMethod). result_types (option_and_then (λ (own : LinkedMethod). own.result) own)) (linked_there machine.program whole number own may.there)
+          types : start_types callee ≡ this_types callee ++ map type_of linked.parameters
+          types = ap (λ (own : Option LinkedMethod). this_types callee ++ map type_of (parameters_of own)) (linked_there machine.program whole number own may.there)
 
-    -- it may have no code
-    bodiless : (native : Option Native) → native_of machine.program number ≡ native → plan machine state ≡ without_body here arguments left native → Advances machine state
-    bodiless None is does =
+          gives : result_types (result_at machine.program number) ≡ result_types linked.result
+          gives = ap (λ (own : Option LinkedMethod). result_types (option_and_then (λ (own : LinkedMethod). own.result) own)) (linked_there machine.program whole number own may.there)
+
+      -- it may have no code
+      bodiless : (native : Option Native) → native_of machine.program number ≡ native → plan machine state ≡ without_body here arguments left native → Advances machine state
+      bodiless None is does =
+          advances_by machine state (Some (throws machine state abstract_method)) does
+          (record {
+            plan = throws machine state abstract_method;
+            is = refl;
+            typed = throws_typed machine state abstract_method call.typed (thrown abstract_method (10, omega arith, refl));
+          })
+      bodiless (Some native) is does = natives (record {
+        number = number;
+        native = native;
+        linked = linked;
+        numbered = own;
+        arguments = arguments;
+        rest = left;
+        method = call.at.method;
+        is_native = is;
+        is_linked = linked_there machine.program whole number own may.there;
+        is_numbered = may.there;
+        does = does;
+        own = call.own;
+        takes = given_typed machine.program kinds call.at.method own arguments call.own may.given;
+        waits = waits_by machine state frame below insn action call left linked.result may.ready.rest may.ready.falls may.ready.answered may.ready.locals may.ready.stack;
+      })
+
+      runs_by : (body : Option Body) → own.member.body ≡ body → plan machine state ≡ by_body here number arguments left body → Advances machine state
+      runs_by None has does = bodiless (native_of machine.program number) refl does
+      runs_by (Some body) has does =
+          advances_by machine state (Some (entered_upon machine state (OfMethod (with_stack frame left) ∷ below) number arguments body)) does (entered body has)
+
+      pub method_advances : plan machine state ≡ by_method here arguments left (chosen.Method number) → Advances machine state
+      method_advances does =
+          runs_by own.member.body refl
+          (does ∙ ap (option_and_then (λ (numbered : Numbered Method). by_body here number arguments left numbered.member.body)) may.there)
+
+    -- what is selected runs, or an exception is thrown
+    pub selected_advances : (selected : Selected) (arguments left : List Value) → ((number : ℕ) → selected ≡ chosen.Method number → MayRun number arguments left)
+        → plan machine state ≡ by_method here arguments left selected → Advances machine state
+    selected_advances (chosen.Method number) arguments left may does = method_advances number arguments left (may number refl) does
+    selected_advances chosen.Abstract arguments left may does =
         advances_by machine state (Some (throws machine state abstract_method)) does
         (record {
           plan = throws machine state abstract_method;
           is = refl;
           typed = throws_typed machine state abstract_method call.typed (thrown abstract_method (10, omega arith, refl));
         })
-    bodiless (Some native) is does = natives (record {
-      number = number;
-      native = native;
-      linked = linked;
-      numbered = own;
-      arguments = arguments;
-      rest = left;
-      method = call.at.method;
-      is_native = is;
-      is_linked = linked_there machine.program whole number own may.there;
-      is_numbered = may.there;
-      does = does;
-      own = call.own;
-      takes = subst (HaveTypes call.at.method kinds (receiver_types (is_static_method own) own.class ++ map type_of linked.parameters)) (sym may.given.are)
-          (both_have call.at.method kinds (receiver_types (is_static_method own) own.class) (map type_of linked.parameters) may.given.receiver may.given.others
-          (receiver_typed machine.program kinds call.at.method own.class (is_static_method own) may.given.receiver call.own may.given.on) may.given.have);
-      waits = waits_by machine state frame below insn action call left linked.result may.ready.rest may.ready.falls may.ready.answered may.ready.locals may.ready.stack;
-    })
-
-    runs_by : (body : Option Body) → own.member.body ≡ body → plan machine state ≡ by_body here number arguments left body → Advances machine state
-    runs_by None has does = bodiless (native_of machine.program number) refl does
-    runs_by (Some body) has does =
-        advances_by machine state (Some (entered_upon machine state (OfMethod (with_stack frame left) ∷ below) number arguments body)) does (entered body has)
-
-    pub method_advances : plan machine state ≡ by_method here arguments left (chosen.Method number) → Advances machine state
-    method_advances does =
-        runs_by own.member.body refl
-        (does ∙ ap (option_and_then (λ (numbered : Numbered Method). by_body here number arguments left numbered.member.body)) may.there)
-
-  -- what is selected runs, or an exception is thrown
-  pub selected_advances : (selected : Selected) (arguments left : List Value) → ((number : ℕ) → selected ≡ chosen.Method number → MayRun number arguments left)
-      → plan machine state ≡ by_method here arguments left selected → Advances machine state
-  selected_advances (chosen.Method number) arguments left may does = method_advances number arguments left (may number refl) does
-  selected_advances chosen.Abstract arguments left may does =
-      advances_by machine state (Some (throws machine state abstract_method)) does
-      (record {
-        plan = throws machine state abstract_method;
-        is = refl;
-        typed = throws_typed machine state abstract_method call.typed (thrown abstract_method (10, omega arith, refl));
-      })
-  selected_advances chosen.Several arguments left may does =
-      advances_by machine state (Some (throws machine state incompatible_class_change)) does
-      (record {
-        plan = throws machine state incompatible_class_change;
-        is = refl;
-        typed = throws_typed machine state incompatible_class_change call.typed (thrown incompatible_class_change (9, omega arith, refl));
-      })
+    selected_advances chosen.Several arguments left may does =
+        advances_by machine state (Some (throws machine state incompatible_class_change)) does
+        (record {
+          plan = throws machine state incompatible_class_change;
+          is = refl;
+          typed = throws_typed machine state incompatible_class_change call.typed (thrown incompatible_class_change (9, omega arith, refl));
+        })

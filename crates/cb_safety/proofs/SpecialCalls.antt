@@ -22,9 +22,11 @@ use Rattle.cb_insn.specs.declared.opcode.TheConstants as opcodes
 use Rattle.cb_kinds.proofs.Laws.{text_at as text_numbered}
 use Rattle.cb_kinds.specs.Kinds.{is_array, type_of_name}
 use Rattle.cb_kinds.specs.Texts.{number_of, same_text}
+use Rattle.cb_link.specs.Having.{parameters_at}
 use Rattle.cb_link.specs.Numbers.{Numbered, class_number, hierarchy, methods_of, name_of, or_none, ranked, ranked_method, ranked_methods}
 use Rattle.cb_link.specs.Program.{Linked, linked_method}
 use Rattle.cb_link.specs.Resolving.{found_method, object}
+use Rattle.cb_link.specs.Special.{holder_named, special}
 use Rattle.cb_link.specs.Subtypes.{assignable, is_assignable, is_subtype, type_of_kind}
 use Rattle.cb_link.specs.declared.linked.LinkedMethod.{LinkedMethod}
 use Rattle.cb_link.specs.declared.named.Named.TheVariants as meanings
@@ -52,7 +54,7 @@ use Rattle.cb_verify.specs.Types.{kind_goes_to, type_of}
 use Rattle.cb_verify.specs.Within.{Within, holder, is_init, name_at}
 use Rattle.cb_safety.specs.Advancing.{Advances}
 use Rattle.cb_safety.specs.Calling.{is_proper_superclass, is_upwards, run_from, signature_of}
-use Rattle.cb_safety.specs.Kinds.{holds_kind}
+use Rattle.cb_safety.specs.Kinds.{holds_kind, kinds_of}
 use Rattle.cb_safety.specs.Natives.{CallsNative}
 use Rattle.cb_safety.proofs.Assigned.{when}
 use Rattle.cb_safety.proofs.CallNames.{NamesMethod}
@@ -60,9 +62,10 @@ use Rattle.cb_safety.proofs.Called.{Call, Exchanged, HasParts, class_low, falls_
 use Rattle.cb_safety.proofs.Chosen.{among_chosen, found_is, from_chosen, stands_under}
 use Rattle.cb_safety.proofs.Going.{now_at}
 use Rattle.cb_safety.proofs.Links.{Links}
-use Rattle.cb_safety.proofs.ObjectCalls.{object_advances}
+use Rattle.cb_safety.proofs.ObjectCalls.{object_advances, object_takes}
 use Rattle.cb_safety.proofs.Ordered.{named_low, number_within}
-use Rattle.cb_safety.proofs.Runs.{by_method, is_static_method, linked_there}
+use Rattle.cb_safety.proofs.Receiving.{OnObject}
+use Rattle.cb_safety.proofs.Runs.{Takes, by_method, is_static_method, linked_there}
 use Rattle.cb_safety.proofs.Signed.{FoundIn, class_there, found_in, found_texts, kind_numbered}
 use Rattle.cb_safety.proofs.Special.{special_by}
 use Rattle.cb_safety.proofs.Subclasses.{subclass_next, subclass_parent}
@@ -77,33 +80,40 @@ module _ (now : Now) (number : ℕ) (names : named_here now ≡ meanings.Method 
       → reverse held ≡ values.Ref 0 ∷ arguments → invokes_special now index ≡ Some (throws now.machine now.state null_pointer)
   special_null held arguments left took first = rw (names, took, first) refl
 
-  module _ (class own_class : ℕ) (numbered own : Numbered Method) (member : MemberNames)
-      (declares : class_declaring now.machine.program now.frame.method ≡ Some own_class)
-      (numbered_is : method_numbered now.machine.program number ≡ Some numbered)
-      (init : same_text (or_none (text_at numbered.pool numbered.member.name)) (codes "<init>") ≡ false)
-      (own_is : method_numbered now.machine.program now.frame.method ≡ Some own)
-      (member_is : member_named own.pool index ≡ Some member)
-      (class_is : class_number now.machine.program.classes member.class ≡ Some class)
-      (place : ℕ) (object : StateObject) (held arguments left : List Value)
-      (took : taken (asked_sorts now.machine.program number ++ sorts.Reference ∷ []) now.frame.stack ≡ Some (held, left))
-      (first : reverse held ≡ values.Ref (suc place) ∷ arguments)
-      (there : object_at now.state (suc place) ≡ Some object) where
-    from_superclass : (above signature : ℕ) (more : List ℕ) → is_proper_superclass now.machine.program own_class class ≡ true
-        → superclass (hierarchy now.machine.program.classes) own_class ≡ above ∷ more → signature_of now.machine.program number ≡ Some signature
-        → invokes_special now index ≡ by_method now (values.Ref (suc place) ∷ arguments) left (run_from now.machine.program above signature)
-    from_superclass above signature more proper up signed = rw (names, took, first, there, declares, numbered_is, init, own_is, member_is, class_is, proper, up, signed) refl
+  special_runs : (place : ℕ) (object : StateObject) (held arguments left : List Value)
+      → taken (asked_sorts now.machine.program number ++ sorts.Reference ∷ []) now.frame.stack ≡ Some (held, left)
+      → reverse held ≡ values.Ref (suc place) ∷ arguments → object_at now.state (suc place) ≡ Some object
+      → invokes_special now index ≡ by_method now (values.Ref (suc place) ∷ arguments) left
+      (special now.machine.program number (class_declaring now.machine.program now.frame.method)
+      (option_and_then (class_number now.machine.program.classes) (holder_named now.machine.program now.frame.method index)))
+  special_runs place object held arguments left took first there = rw (names, took, first, there) refl
 
-    as_resolved : (declaring : ℕ) → is_proper_superclass now.machine.program own_class class ≡ false → class_declaring now.machine.program number ≡ Some declaring
-        → is_upwards now.machine.program class declaring ≡ true
-        → invokes_special now index ≡ by_method now (values.Ref (suc place) ∷ arguments) left (found (ranked_methods now.machine.program.classes) number)
-    as_resolved declaring proper declared up = rw (names, took, first, there, declares, numbered_is, init, own_is, member_is, class_is, proper, declared, up) refl
+-- ---- what is selected
 
-    of_interfaces : (declaring signature : ℕ) → is_proper_superclass now.machine.program own_class class ≡ false → class_declaring now.machine.program number ≡ Some declaring
-        → is_upwards now.machine.program class declaring ≡ false → signature_of now.machine.program number ≡ Some signature
-        → invokes_special now index ≡ by_method now (values.Ref (suc place) ∷ arguments) left
-        (found_among (most_specific (hierarchy now.machine.program.classes) (ranked_methods now.machine.program.classes) class signature))
-    of_interfaces declaring signature proper declared up signed =
-        rw (names, took, first, there, declares, numbered_is, init, own_is, member_is, class_is, proper, declared, up, signed) refl
+module _ (program : Linked) (caller number index class own_class : ℕ) (numbered own : Numbered Method) (member : MemberNames)
+    (declares : class_declaring program caller ≡ Some own_class)
+    (numbered_is : method_numbered program number ≡ Some numbered)
+    (init : same_text (or_none (text_at numbered.pool numbered.member.name)) (codes "<init>") ≡ false)
+    (own_is : method_numbered program caller ≡ Some own)
+    (member_is : member_named own.pool index ≡ Some member)
+    (class_is : class_number program.classes member.class ≡ Some class) where
+  abbrev selected_by : Selected
+  selected_by = special program number (class_declaring program caller) (option_and_then (class_number program.classes) (holder_named program caller index))
+
+  from_superclass : (above signature : ℕ) (more : List ℕ) → is_proper_superclass program own_class class ≡ true
+      → superclass (hierarchy program.classes) own_class ≡ above ∷ more → signature_of program number ≡ Some signature
+      → selected_by ≡ run_from program above signature
+  from_superclass above signature more proper up signed = rw (declares, numbered_is, init, own_is, member_is, class_is, proper, up, signed) refl
+
+  as_resolved : (declaring : ℕ) → is_proper_superclass program own_class class ≡ false → class_declaring program number ≡ Some declaring
+      → is_upwards program class declaring ≡ true → selected_by ≡ found (ranked_methods program.classes) number
+  as_resolved declaring proper declared up = rw (declares, numbered_is, init, own_is, member_is, class_is, proper, declared, up) refl
+
+  of_interfaces : (declaring signature : ℕ) → is_proper_superclass program own_class class ≡ false → class_declaring program number ≡ Some declaring
+      → is_upwards program class declaring ≡ false → signature_of program number ≡ Some signature
+      → selected_by ≡ found_among (most_specific (hierarchy program.classes) (ranked_methods program.classes) class signature)
+  of_interfaces declaring signature proper declared up signed =
+      rw (declares, numbered_is, init, own_is, member_is, class_is, proper, declared, up, signed) refl
 
 -- ---- a class with a proper superclass has a superclass
 
@@ -216,9 +226,8 @@ module _ (program : Linked) (linked : Links program) where
 
 -- ---- a call
 
-module _ (machine : Machine) (state : State) (frame : MethodFrame) (below : List Frame) (insn : Insn) (index : ℕ) (fits : IsTyped machine.program) (linked : Links machine.program)
+module _ (machine : Machine) (state : State) (frame : MethodFrame) (below : List Frame) (insn : Insn) (index : ℕ) (linked : Links machine.program)
     (call : Call machine state frame below insn (actions.InvokeSpecial index)) (names : NamesMethod machine.program frame.method frame.pc opcodes.INVOKESPECIAL index call.at.method)
-    (natives : CallsNative machine state frame below → Advances machine state) (does : plan machine state ≡ invokes_special (now_at machine state frame below) index)
     (no_init : is_init (name_at call.at.method index) ≡ false) where
   abbrev own : Numbered Method
   own = names.declared.own
@@ -286,53 +295,59 @@ module _ (machine : Machine) (state : State) (frame : MethodFrame) (below : List
       not_true true other is = absurd (false≢true is)
       not_true false other is = refl
 
-  advances_with : (selected : Selected) → ((place : ℕ) (object : StateObject) (held arguments left : List Value)
-      → taken (asked_sorts machine.program number ++ sorts.Reference ∷ []) frame.stack ≡ Some (held, left)
-      → reverse held ≡ values.Ref (suc place) ∷ arguments → object_at state (suc place) ≡ Some object
-      → invokes_special (now_at machine state frame below) index ≡ by_method (now_at machine state frame below) (values.Ref (suc place) ∷ arguments) left selected)
-      → ((object other : ℕ) → holds_kind machine.program object method.class ≡ true → selected ≡ chosen.Method other → Suits machine.program linked number own names.declared.there object other)
-      → Advances machine state
-  advances_with selected runs suits =
-      object_advances machine state frame below insn (actions.InvokeSpecial index) fits linked call natives (falls_by insn (actions.InvokeSpecial index) call.acts refl) number method.class own
-      names.declared.there by_rule (λ (object : ℕ). selected)
+  holds_named : (object : ℕ) → holds_kind machine.program object method.class ≡ true → holds_kind machine.program object rule.kind ≡ true
+  holds_named object holds = linked.holds object method.class rule.kind holds goes
+
+  abbrev special_here : Selected
+  special_here =
+      special machine.program number (class_declaring machine.program frame.method)
+      (option_and_then (class_number machine.program.classes) (holder_named machine.program frame.method index))
+
+  -- what is selected suits each object that may be held as the class of the method that has the instruction
+  module _ (object other : ℕ) (holds : holds_kind machine.program object method.class ≡ true) (runs : special_here ≡ chosen.Method other) where
+    abbrev ItSuits : Type 0
+    ItSuits = Suits machine.program linked number own names.declared.there object other
+
+    proper_suits : (above : List ℕ) → superclass (hierarchy machine.program.classes) method.class ≡ above → is_proper_superclass machine.program method.class rule.kind ≡ true → ItSuits
+    proper_suits [] none is =
+        absurd (false≢true (sym (none_proper (hierarchy machine.program.classes) (length (hierarchy machine.program.classes)) method.class rule.kind none) ∙ is))
+    proper_suits (above ∷ more) up is =
+        superclass_suits machine.program linked number own names.declared.there object method.class above other more own_class_low holds up
+        (sym (from_superclass machine.program frame.method number index rule.kind method.class own names.calling names.member declares names.declared.there own_name names.calls names.constant
+        named above (ranked_method machine.program.classes own).declared.signature more is up signed) ∙ runs)
+
+    other_suits : is_proper_superclass machine.program method.class rule.kind ≡ false → (up : Bool) → is_upwards machine.program rule.kind own.class ≡ up → ItSuits
+    other_suits none true up =
+        upwards_suits machine.program linked number own names.declared.there object rule.kind other named_class_low (holds_named object holds) of_objects up
+        (sym (as_resolved machine.program frame.method number index rule.kind method.class own names.calling names.member declares names.declared.there own_name names.calls names.constant
+        named own.class none declared up) ∙ runs)
+    other_suits none false up =
+        interfaces_suit machine.program linked number own names.declared.there object rule.kind other named_class_low (holds_named object holds)
+        (sym (of_interfaces machine.program frame.method number index rule.kind method.class own names.calling names.member declares names.declared.there own_name names.calls names.constant
+        named own.class (ranked_method machine.program.classes own).declared.signature none declared up signed) ∙ runs)
+
+    special_suits : ItSuits
+    special_suits = go (is_proper_superclass machine.program method.class rule.kind) refl where
+      go : (test : Bool) → is_proper_superclass machine.program method.class rule.kind ≡ test → ItSuits
+      go true is = proper_suits (superclass (hierarchy machine.program.classes) method.class) refl is
+      go false is = other_suits is (is_upwards machine.program rule.kind own.class) refl
+
+  -- so it takes the arguments
+  pub special_takes : (other : ℕ) (arguments : List Value) → OnObject state frame (length (parameters_at machine.program number)) arguments → special_here ≡ chosen.Method other
+      → Takes machine.program (kinds_of state.objects) method other arguments
+  special_takes other arguments on runs =
+      object_takes machine state frame below insn (actions.InvokeSpecial index) linked call number method.class own names.declared.there by_rule other arguments on
+      (λ holds. special_suits on.object.kind other holds runs)
+
+  pub special_advances : IsTyped machine.program → (CallsNative machine state frame below → Advances machine state)
+      → plan machine state ≡ invokes_special (now_at machine state frame below) index → Advances machine state
+  special_advances fits natives does =
+      object_advances machine state frame below insn (actions.InvokeSpecial index) linked call number method.class own names.declared.there by_rule fits natives
+      (falls_by insn (actions.InvokeSpecial index) call.acts refl) (λ (object : ℕ). special_here)
       (record {
         found = invokes_special (now_at machine state frame below) index;
         does = does;
         on_null = special_null (now_at machine state frame below) number names.names index;
-        on_one = runs;
+        on_one = special_runs (now_at machine state frame below) number names.names index;
       })
-      suits
-
-  holds_named : (object : ℕ) → holds_kind machine.program object method.class ≡ true → holds_kind machine.program object rule.kind ≡ true
-  holds_named object holds = linked.holds object method.class rule.kind holds goes
-
-  proper_advances : (above : List ℕ) → superclass (hierarchy machine.program.classes) method.class ≡ above → is_proper_superclass machine.program method.class rule.kind ≡ true → Advances machine state
-  proper_advances [] none is =
-      absurd (false≢true (sym (none_proper (hierarchy machine.program.classes) (length (hierarchy machine.program.classes)) method.class rule.kind none) ∙ is))
-  proper_advances (above ∷ more) up is =
-      advances_with (run_from machine.program above (ranked_method machine.program.classes own).declared.signature)
-      (λ place object held arguments left took first there.
-      from_superclass (now_at machine state frame below) number names.names index rule.kind method.class own names.calling names.member declares names.declared.there own_name names.calls names.constant
-      named place object held arguments left took first there above (ranked_method machine.program.classes own).declared.signature more is up signed)
-      (λ object other holds runs. superclass_suits machine.program linked number own names.declared.there object method.class above other more own_class_low holds up runs)
-
-  other_advances : is_proper_superclass machine.program method.class rule.kind ≡ false → (up : Bool) → is_upwards machine.program rule.kind own.class ≡ up → Advances machine state
-  other_advances none true up =
-      advances_with (found (ranked_methods machine.program.classes) number)
-      (λ place object held arguments left took first there.
-      as_resolved (now_at machine state frame below) number names.names index rule.kind method.class own names.calling names.member declares names.declared.there own_name names.calls names.constant
-      named place object held arguments left took first there own.class none declared up)
-      (λ object other holds runs.
-      upwards_suits machine.program linked number own names.declared.there object rule.kind other named_class_low (holds_named object holds) of_objects up runs)
-  other_advances none false up =
-      advances_with (found_among (most_specific (hierarchy machine.program.classes) (ranked_methods machine.program.classes) rule.kind (ranked_method machine.program.classes own).declared.signature))
-      (λ place object held arguments left took first there.
-      of_interfaces (now_at machine state frame below) number names.names index rule.kind method.class own names.calling names.member declares names.declared.there own_name names.calls names.constant
-      named place object held arguments left took first there own.class (ranked_method machine.program.classes own).declared.signature none declared up signed)
-      (λ object other holds runs. interfaces_suit machine.program linked number own names.declared.there object rule.kind other named_class_low (holds_named object holds) runs)
-
-  pub special_advances : Advances machine state
-  special_advances = go (is_proper_superclass machine.program method.class rule.kind) refl where
-    go : (test : Bool) → is_proper_superclass machine.program method.class rule.kind ≡ test → Advances machine state
-    go true is = proper_advances (superclass (hierarchy machine.program.classes) method.class) refl is
-    go false is = other_advances is (is_upwards machine.program rule.kind own.class) refl
+      special_suits

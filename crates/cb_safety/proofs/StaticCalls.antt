@@ -1,5 +1,6 @@
 -- A typed state advances at a call of a static method, in a linked program.
 use Rattle.std.proofs.Common.{◌≡◌, ◌∙◌, ap, refl, sym, subst, arith, ℕ, ◌<◌, Bool, true, List, [], ◌∷◌, ◌++◌, get_or, length, map, reverse, Some, None, option_map, slice_get}
+use Rattle.std.proofs.lemmas.List.{length-map, length-reverse, reverse-reverse}
 use Rattle.std.proofs.lemmas.Option.{slice_get-get_or}
 use Rattle.cb_classfile.specs.declared.method.Method.{Method}
 use Rattle.cb_hierarchy.specs.Classes.{listed}
@@ -8,6 +9,7 @@ use Rattle.cb_hierarchy.specs.declared.selected.Selected.TheVariants as chosen
 use Rattle.cb_insn.specs.declared.insn.Insn.{Insn}
 use Rattle.cb_insn.specs.declared.opcode.TheConstants as opcodes
 use Rattle.cb_kinds.specs.declared.basic.Basic.{Basic}
+use Rattle.cb_link.specs.Having.{parameters_at}
 use Rattle.cb_link.specs.Named.{code_at, insn_in}
 use Rattle.cb_link.specs.Numbers.{Numbered}
 use Rattle.cb_link.specs.Program.{linked_method}
@@ -44,12 +46,12 @@ use Rattle.cb_safety.specs.Strings.{HasConstants}
 use Rattle.cb_safety.proofs.Assigned.{when}
 use Rattle.cb_safety.proofs.Begun.{initialisation_begins}
 use Rattle.cb_safety.proofs.CallNames.{NamesMethod, names_method}
-use Rattle.cb_safety.proofs.Called.{Call, Exchanged, arguments_typed, call_of, class_low, exchanged_by, falls_by, given_is, leaves_by, member_there, sorts_are}
+use Rattle.cb_safety.proofs.Called.{Call, Exchanged, arguments_typed, call_of, class_low, exchanged_by, falls_by, given_is, leaves_by, member_there, parameters_there, sorts_are}
 use Rattle.cb_safety.proofs.Going.{advances_by, now_at, running}
 use Rattle.cb_safety.proofs.FirstValues.{has_constants}
 use Rattle.cb_safety.proofs.Links.{Links, links}
-use Rattle.cb_safety.proofs.Runs.{IsReceiver, MayRun, by_method, is_static_method, linked_there, selected_advances}
-use Rattle.cb_safety.proofs.Taken.{Taken, popped_typed}
+use Rattle.cb_safety.proofs.Runs.{Given, IsReceiver, MayRun, Takes, by_method, is_static_method, linked_there, selected_advances}
+use Rattle.cb_safety.proofs.Taken.{Taken, popped_typed, taken_front}
 use Rattle.cb_safety.proofs.Throwing.{throws_typed}
 
 -- ---- what the machine does, by the state of the class
@@ -74,10 +76,8 @@ static_done now number class values left names declares there took = rw (names, 
 
 -- ---- a call
 
-module _ (machine : Machine) (state : State) (frame : MethodFrame) (below : List Frame) (insn : Insn) (index : ℕ) (fits : IsTyped machine.program) (linked : Links machine.program)
-    (constants : HasConstants machine.program) (call : Call machine state frame below insn (actions.InvokeStatic index))
-    (names : NamesMethod machine.program frame.method frame.pc opcodes.INVOKESTATIC index call.at.method) (natives : CallsNative machine state frame below → Advances machine state)
-    (does : plan machine state ≡ invokes_static (now_at machine state frame below)) where
+module _ (machine : Machine) (state : State) (frame : MethodFrame) (below : List Frame) (insn : Insn) (index : ℕ) (linked : Links machine.program)
+    (call : Call machine state frame below insn (actions.InvokeStatic index)) (names : NamesMethod machine.program frame.method frame.pc opcodes.INVOKESTATIC index call.at.method) where
   abbrev kinds : Kinds
   kinds = kinds_of state.objects
 
@@ -124,17 +124,35 @@ module _ (machine : Machine) (state : State) (frame : MethodFrame) (below : List
   off : taken (asked_sorts machine.program number) frame.stack ≡ Some (took.values, took.left)
   off = ap (λ (asked : List Sort). taken asked frame.stack) (sorts_are machine.program number method is_linked) ∙ took.taken
 
-  may : MayRun machine state frame below insn (actions.InvokeStatic index) call fits linked.spelled linked.coded linked.whole linked.thrown natives number (reverse took.values) took.left
+  given_taken : Given machine.program kinds call.at.method own (reverse took.values)
+  given_taken = record {
+    receiver = [];
+    others = reverse took.values;
+    are = refl;
+    on = subst (λ (static : Bool). IsReceiver machine.program kinds own.class static []) (sym static) IsReceiver.NoObject;
+    have = arguments_typed call.at.method call.at.method kinds wanted took.values refl took.held;
+  }
+
+  -- the method takes the arguments that stand on the stack
+  pub static_takes : (arguments rest : List Value) → frame.stack ≡ reverse arguments ++ rest → length arguments ≡ length (parameters_at machine.program number)
+      → Takes machine.program kinds call.at.method number arguments
+  static_takes arguments rest stack so_many =
+      subst (Takes machine.program kinds call.at.method number)
+      (ap (λ (held : List Value). reverse held)
+      (taken_front call.at.method kinds (map sort_of_basic (reverse wanted)) frame.stack (map type_of (reverse wanted)) by_rule.rest took (reverse arguments) rest stack as_many)
+      ∙ reverse-reverse arguments)
+      (record { own = own; there = names.declared.there; given = given_taken })
+    where
+      as_many : length (reverse arguments) ≡ length (map sort_of_basic (reverse wanted))
+      as_many =
+          length-reverse arguments ∙ so_many ∙ ap (λ (own : List Basic). length own) (parameters_there machine.program number method is_linked)
+          ∙ sym (length-reverse wanted) ∙ sym (length-map (reverse wanted) sort_of_basic)
+
+  may : MayRun machine state frame below insn (actions.InvokeStatic index) call number (reverse took.values) took.left
   may = record {
     own = own;
     there = names.declared.there;
-    given = record {
-      receiver = [];
-      others = reverse took.values;
-      are = refl;
-      on = subst (λ (static : Bool). IsReceiver machine.program kinds own.class static []) (sym static) IsReceiver.NoObject;
-      have = arguments_typed call.at.method call.at.method kinds wanted took.values refl took.held;
-    };
+    given = given_taken;
     ready = record {
       rest = by_rule.rest;
       falls = falls_by insn (actions.InvokeStatic index) call.acts refl;
@@ -144,33 +162,35 @@ module _ (machine : Machine) (state : State) (frame : MethodFrame) (below : List
     };
   }
 
-  runs : plan machine state ≡ by_method here (reverse took.values) took.left (chosen.Method number) → Advances machine state
-  runs is =
-      selected_advances machine state frame below insn (actions.InvokeStatic index) call fits linked.spelled linked.coded linked.whole linked.thrown natives (chosen.Method number) (reverse took.values) took.left
-      (λ other same. let is : number ≡ other = cc in
-      subst (λ (number : ℕ). MayRun machine state frame below insn (actions.InvokeStatic index) call fits linked.spelled linked.coded linked.whole linked.thrown natives number (reverse took.values) took.left) is may) is
+  module _ (fits : IsTyped machine.program) (constants : HasConstants machine.program) (natives : CallsNative machine state frame below → Advances machine state)
+      (does : plan machine state ≡ invokes_static (now_at machine state frame below)) where
+    runs : plan machine state ≡ by_method here (reverse took.values) took.left (chosen.Method number) → Advances machine state
+    runs is =
+        selected_advances machine state frame below insn (actions.InvokeStatic index) call fits linked.spelled linked.coded linked.whole linked.thrown natives (chosen.Method number) (reverse took.values) took.left
+        (λ other same. let is : number ≡ other = cc in
+        subst (λ (number : ℕ). MayRun machine state frame below insn (actions.InvokeStatic index) call number (reverse took.values) took.left) is may) is
 
-  pub static_advances : (now : ClassState) → slice_get state.roots.classes own.class ≡ Some now → Advances machine state
-  static_advances states.Untouched there =
-      advances_by machine state (Some (begun_upon machine state state.roots.frames own.class)) (does ∙ static_untouched here number own.class names.names declares there)
-      (record {
-        plan = begun_upon machine state state.roots.frames own.class;
-        is = refl;
-        typed = initialisation_begins machine state own.class constants linked.thrown call.typed call.runs (class_low machine.program number method linked.whole is_linked);
-      })
-  static_advances states.Failed there =
-      advances_by machine state (Some (throws machine state no_class_definition)) (does ∙ static_failed here number own.class names.names declares there)
-      (record {
-        plan = throws machine state no_class_definition;
-        is = refl;
-        typed = throws_typed machine state no_class_definition call.typed (linked.thrown no_class_definition (8, omega arith, refl));
-      })
-  static_advances states.Busy there = runs (does ∙ static_busy here number own.class took.values took.left names.names declares there off)
-  static_advances states.Done there = runs (does ∙ static_done here number own.class took.values took.left names.names declares there off)
+    pub static_advances : (now : ClassState) → slice_get state.roots.classes own.class ≡ Some now → Advances machine state
+    static_advances states.Untouched there =
+        advances_by machine state (Some (begun_upon machine state state.roots.frames own.class)) (does ∙ static_untouched here number own.class names.names declares there)
+        (record {
+          plan = begun_upon machine state state.roots.frames own.class;
+          is = refl;
+          typed = initialisation_begins machine state own.class constants linked.thrown call.typed call.runs (class_low machine.program number method linked.whole is_linked);
+        })
+    static_advances states.Failed there =
+        advances_by machine state (Some (throws machine state no_class_definition)) (does ∙ static_failed here number own.class names.names declares there)
+        (record {
+          plan = throws machine state no_class_definition;
+          is = refl;
+          typed = throws_typed machine state no_class_definition call.typed (linked.thrown no_class_definition (8, omega arith, refl));
+        })
+    static_advances states.Busy there = runs (does ∙ static_busy here number own.class took.values took.left names.names declares there off)
+    static_advances states.Done there = runs (does ∙ static_done here number own.class took.values took.left names.names declares there off)
 
-  pub static_call_advances : Advances machine state
-  static_call_advances =
-      static_advances (get_or state.roots.classes own.class states.Busy) (slice_get-get_or state.roots.classes own.class states.Busy low)
+    pub static_call_advances : Advances machine state
+    static_call_advances =
+        static_advances (get_or state.roots.classes own.class states.Busy) (slice_get-get_or state.roots.classes own.class states.Busy low)
 
 -- ---- the state
 
@@ -180,9 +200,9 @@ pub linked_static_calls_advance : (machine : Machine) (state : State) (frame : M
     → insn_in (code_at machine.program frame.method) frame.pc ≡ Some insn → action_of insn ≡ Some (actions.InvokeStatic index)
     → (CallsNative machine state frame below → Advances machine state) → Advances machine state
 linked_static_calls_advance machine state frame below insn index linked fits typed ended zero frames there so natives =
-    static_call_advances machine state frame below insn index fits them (has_constants machine.program linked) call
+    static_call_advances machine state frame below insn index them call
     (names_method machine.program them.whole them.formed them.none them.spelled frame.method frame.pc call.at.method insn (actions.InvokeStatic index) (opcodes.INVOKESTATIC, index) call.at.within there so refl)
-    natives (running machine state frame below insn (actions.InvokeStatic index) ended zero frames there so)
+    fits (has_constants machine.program linked) natives (running machine state frame below insn (actions.InvokeStatic index) ended zero frames there so)
   where
     them : Links machine.program
     them = links machine.program linked

@@ -1,5 +1,5 @@
 -- What is taken off a stack that is typed.
-use Rattle.std.proofs.Common.{◌≡◌, ◌∙◌, ap, sym, refl, subst, subst₂, arith, ℕ, ◌+◌, Bool, true, false, List, [], ◌∷◌, ◌++◌, map, Option, Some, None, option_map}
+use Rattle.std.proofs.Common.{◌≡◌, ◌∙◌, ap, sym, refl, subst, subst₂, arith, ℕ, ◌+◌, Bool, true, false, List, [], ◌∷◌, ◌++◌, length, map, Option, Some, None, option_map}
 use Rattle.std.specs.Cmp.Lexicographic.{pointwise}
 use Rattle.std.proofs.lemmas.Bool.{and_from, false≢true}
 use Rattle.std.proofs.lemmas.List.{map-append}
@@ -126,6 +126,21 @@ taken_then (sort ∷ asked) more [] values left others rest one two = never one
 taken_then (sort ∷ asked) more (value ∷ stack) values left others rest one two =
     taken_parts sort asked value stack values left one
     (λ own same is whole. rw (same, taken_then asked more stack own left others rest is two, whole) refl)
+
+-- as many values as sorts are those on the top
+same_taken : (asked : List Sort) (front more held left : List Value) → length front ≡ length asked → taken_values asked (front ++ more) ≡ Some (held, left) → held ≡ front
+same_taken [] [] more held left same is = sym (some_pair_parts [] held more left is).0
+same_taken [] (value ∷ front) more held left same is = absurd (omega (arith, same))
+same_taken (sort ∷ asked) [] more held left same is = absurd (omega (arith, same))
+same_taken (sort ∷ asked) (value ∷ front) more held left same is =
+    taken_parts sort asked value (front ++ more) held left is
+    (λ others sorted took whole.
+    whole ∙ ap (λ (values : List Value). value ∷ values) (same_taken asked front more others left (omega (arith, same)) took))
+
+pub taken_front : (method : Within) (kinds : Kinds) (asked : List Sort) (stack : List Value) (types rest : List VerificationType)
+    (took : Taken method kinds asked stack types rest) (front more : List Value) → stack ≡ front ++ more → length front ≡ length asked → took.values ≡ front
+taken_front method kinds asked stack types rest took front more is same =
+    same_taken asked front more took.values took.left same (ap (taken_values asked) (sym is) ∙ took.taken)
 
 pub taken_behind : (method : Within) (kinds : Kinds) (asked more : List Sort) (stack : List Value) (types between behind rest : List VerificationType)
     → Taken method kinds asked stack types between → ((left : List Value) → IsStack method kinds between left → Taken method kinds more left behind rest)

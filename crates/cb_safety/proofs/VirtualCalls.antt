@@ -1,5 +1,5 @@
 -- A typed state advances at an invokevirtual and at an invokeinterface, in a linked program.
-use Rattle.std.proofs.Common.{◌≡◌, ◌∙◌, refl, sym, subst, arith, ℕ, suc, ◌==◌, Bool, true, false, List, [], ◌∷◌, ◌++◌, map, reverse, Some, None, if◌then◌else◌}
+use Rattle.std.proofs.Common.{◌≡◌, ◌∙◌, refl, sym, subst, arith, ℕ, suc, ◌==◌, Bool, true, false, List, [], ◌∷◌, ◌++◌, length, map, reverse, Option, Some, None, option_and_then, if◌then◌else◌}
 use Rattle.std.proofs.lemmas.Option.{option_and_then_some}
 use Rattle.cb_classfile.specs.declared.method.Method.{Method}
 use Rattle.cb_hierarchy.specs.Classes.{listed}
@@ -9,12 +9,14 @@ use Rattle.cb_insn.specs.declared.insn.Insn.{Insn}
 use Rattle.cb_insn.specs.declared.opcode.TheConstants as opcodes
 use Rattle.cb_kinds.specs.Texts.{number_of}
 use Rattle.cb_link.specs.Calls.{select}
+use Rattle.cb_link.specs.Having.{parameters_at}
 use Rattle.cb_link.specs.Named.{code_at, insn_in}
 use Rattle.cb_link.specs.Numbers.{Numbered, ranked_methods}
 use Rattle.cb_link.specs.Program.{linked_method}
+use Rattle.cb_link.specs.Special.{holder_named}
 use Rattle.cb_link.specs.Subtypes.{instance}
 use Rattle.cb_link.specs.declared.named.Named.TheVariants as meanings
-use Rattle.cb_machine.specs.Calling.{asked_sorts, invokes_interface, invokes_virtual}
+use Rattle.cb_machine.specs.Calling.{asked_sorts, implementing, invokes_interface, invokes_virtual}
 use Rattle.cb_machine.specs.Machine.{Machine, method_numbered}
 use Rattle.cb_machine.specs.Sites.{incompatible_class_change, null_pointer}
 use Rattle.cb_machine.specs.Standing.{Now, named_here, taken}
@@ -35,7 +37,7 @@ use Rattle.cb_verify.specs.Typed.{IsTyped}
 use Rattle.cb_verify.specs.Types.{type_of}
 use Rattle.cb_verify.specs.Within.{Within, holder, name_at}
 use Rattle.cb_safety.specs.Advancing.{Advances}
-use Rattle.cb_safety.specs.Kinds.{holds_kind}
+use Rattle.cb_safety.specs.Kinds.{holds_kind, kinds_of}
 use Rattle.cb_safety.specs.Linked.{IsLinked}
 use Rattle.cb_safety.specs.Natives.{CallsNative}
 use Rattle.cb_safety.specs.States.{IsTypedState}
@@ -44,8 +46,9 @@ use Rattle.cb_safety.proofs.CallNames.{NamesMethod, names_method}
 use Rattle.cb_safety.proofs.Called.{Call, Exchanged, call_of, exchanged_by, falls_by, leaves_by, member_there}
 use Rattle.cb_safety.proofs.Going.{advances_by, now_at, running}
 use Rattle.cb_safety.proofs.Links.{Links, links}
-use Rattle.cb_safety.proofs.ObjectCalls.{object_advances}
-use Rattle.cb_safety.proofs.Runs.{by_method, linked_there}
+use Rattle.cb_safety.proofs.ObjectCalls.{object_advances, object_takes}
+use Rattle.cb_safety.proofs.Receiving.{OnObject}
+use Rattle.cb_safety.proofs.Runs.{Takes, by_method, linked_there}
 use Rattle.cb_safety.proofs.Suited.{Suits, virtual_suits}
 use Rattle.cb_safety.proofs.Throwing.{kind_low, throws_typed}
 
@@ -106,9 +109,8 @@ interface_by method index count member frame after so =
 
 -- ---- invokevirtual
 
-module _ (machine : Machine) (state : State) (frame : MethodFrame) (below : List Frame) (insn : Insn) (index : ℕ) (fits : IsTyped machine.program) (linked : Links machine.program)
-    (call : Call machine state frame below insn (actions.InvokeVirtual index)) (names : NamesMethod machine.program frame.method frame.pc opcodes.INVOKEVIRTUAL index call.at.method)
-    (natives : CallsNative machine state frame below → Advances machine state) (does : plan machine state ≡ invokes_virtual (now_at machine state frame below)) where
+module _ (machine : Machine) (state : State) (frame : MethodFrame) (below : List Frame) (insn : Insn) (index : ℕ) (linked : Links machine.program)
+    (call : Call machine state frame below insn (actions.InvokeVirtual index)) (names : NamesMethod machine.program frame.method frame.pc opcodes.INVOKEVIRTUAL index call.at.method) where
   abbrev own : Numbered Method
   own = names.declared.own
 
@@ -127,23 +129,34 @@ module _ (machine : Machine) (state : State) (frame : MethodFrame) (below : List
       (member_there machine.program frame.method frame.pc number call.at.method (linked_method machine.program.kinds own) call.at.within names.names
       (linked_there machine.program linked.whole number own names.declared.there)) rule.exchanges
 
-  pub virtual_advances : Advances machine state
-  virtual_advances =
-      object_advances machine state frame below insn (actions.InvokeVirtual index) fits linked call natives (falls_by insn (actions.InvokeVirtual index) call.acts refl) number rule.kind own
-      names.declared.there by_rule (λ (object : ℕ). select machine.program object number)
+  selected_suits : (object other : ℕ) → holds_kind machine.program object rule.kind ≡ true → select machine.program object number ≡ chosen.Method other
+      → Suits machine.program linked number own names.declared.there object other
+  selected_suits object other holds is = virtual_suits machine.program linked number own names.declared.there object other (kind_low machine.program object rule.kind holds) is
+
+  -- the method that is selected takes the arguments
+  pub virtual_takes : (other : ℕ) (arguments : List Value) (on : OnObject state frame (length (parameters_at machine.program number)) arguments)
+      → select machine.program on.object.kind number ≡ chosen.Method other → Takes machine.program (kinds_of state.objects) call.at.method other arguments
+  virtual_takes other arguments on is =
+      object_takes machine state frame below insn (actions.InvokeVirtual index) linked call number rule.kind own names.declared.there by_rule other arguments on
+      (λ holds. selected_suits on.object.kind other holds is)
+
+  pub virtual_advances : IsTyped machine.program → (CallsNative machine state frame below → Advances machine state)
+      → plan machine state ≡ invokes_virtual (now_at machine state frame below) → Advances machine state
+  virtual_advances fits natives does =
+      object_advances machine state frame below insn (actions.InvokeVirtual index) linked call number rule.kind own names.declared.there by_rule fits natives
+      (falls_by insn (actions.InvokeVirtual index) call.acts refl) (λ (object : ℕ). select machine.program object number)
       (record {
         found = invokes_virtual (now_at machine state frame below);
         does = does;
         on_null = virtual_null (now_at machine state frame below) number names.names;
         on_one = virtual_runs (now_at machine state frame below) number names.names;
       })
-      (λ object other holds is. virtual_suits machine.program linked number own names.declared.there object other (kind_low machine.program object rule.kind holds) is)
+      selected_suits
 
 -- ---- invokeinterface
 
-module _ (machine : Machine) (state : State) (frame : MethodFrame) (below : List Frame) (insn : Insn) (index count : ℕ) (fits : IsTyped machine.program) (linked : Links machine.program)
-    (call : Call machine state frame below insn (actions.InvokeInterface index count)) (names : NamesMethod machine.program frame.method frame.pc opcodes.INVOKEINTERFACE index call.at.method)
-    (natives : CallsNative machine state frame below → Advances machine state) (does : plan machine state ≡ invokes_interface (now_at machine state frame below) index) where
+module _ (machine : Machine) (state : State) (frame : MethodFrame) (below : List Frame) (insn : Insn) (index count : ℕ) (linked : Links machine.program)
+    (call : Call machine state frame below insn (actions.InvokeInterface index count)) (names : NamesMethod machine.program frame.method frame.pc opcodes.INVOKEINTERFACE index call.at.method) where
   abbrev called : Numbered Method
   called = names.declared.own
 
@@ -162,42 +175,52 @@ module _ (machine : Machine) (state : State) (frame : MethodFrame) (below : List
       (member_there machine.program frame.method frame.pc resolved call.at.method (linked_method machine.program.kinds called) call.at.within names.names
       (linked_there machine.program linked.whole resolved called names.declared.there)) interface_rule.exchanges
 
-  implementing_suits : (object other : ℕ) → holds_kind machine.program object interface_rule.kind ≡ true
-      → (if instance machine.program object interface_rule.kind then select machine.program object resolved else chosen.Several) ≡ chosen.Method other
-      → Suits machine.program linked resolved called names.declared.there object other
-  implementing_suits object other holds is = go (instance machine.program object interface_rule.kind) is where
+  implementing_suits : (interface : Option ℕ) (object other : ℕ) → holds_kind machine.program object interface_rule.kind ≡ true
+      → implementing machine.program resolved interface object ≡ chosen.Method other → Suits machine.program linked resolved called names.declared.there object other
+  implementing_suits None object other holds is = absurd (cc is)
+  implementing_suits (Some interface) object other holds is = go (instance machine.program object interface) is where
     go : (test : Bool) → (if test then select machine.program object resolved else chosen.Several) ≡ chosen.Method other
         → Suits machine.program linked resolved called names.declared.there object other
     go true is = virtual_suits machine.program linked resolved called names.declared.there object other (kind_low machine.program object interface_rule.kind holds) is
     go false is = absurd (cc is)
 
-  public_advances : method_is (ranked_methods machine.program.classes) (λ own. is_private own.visibility) resolved ≡ false → Advances machine state
-  public_advances public =
-      object_advances machine state frame below insn (actions.InvokeInterface index count) fits linked call natives (falls_by insn (actions.InvokeInterface index count) call.acts refl) resolved
-      interface_rule.kind called names.declared.there exchanges
-      (λ (object : ℕ). if instance machine.program object interface_rule.kind then select machine.program object resolved else chosen.Several)
-      (record {
-        found = invokes_interface (now_at machine state frame below) index;
-        does = does;
-        on_null = interface_null (now_at machine state frame below) resolved names.names index interface_rule.kind names.calling names.member public names.calls names.constant
-            (sym names.holder ∙ interface_rule.holds);
-        on_one = interface_runs (now_at machine state frame below) resolved names.names index interface_rule.kind names.calling names.member public names.calls names.constant
-            (sym names.holder ∙ interface_rule.holds);
-      })
-      implementing_suits
+  -- the method that is selected takes the arguments
+  pub interface_takes : (other : ℕ) (arguments : List Value) (on : OnObject state frame (length (parameters_at machine.program resolved)) arguments)
+      → implementing machine.program resolved (option_and_then (number_of machine.program.kinds) (holder_named machine.program frame.method index)) on.object.kind ≡ chosen.Method other
+      → Takes machine.program (kinds_of state.objects) call.at.method other arguments
+  interface_takes other arguments on is =
+      object_takes machine state frame below insn (actions.InvokeInterface index count) linked call resolved interface_rule.kind called names.declared.there exchanges other arguments on
+      (λ holds. implementing_suits (option_and_then (number_of machine.program.kinds) (holder_named machine.program frame.method index)) on.object.kind other holds is)
 
-  pub interface_advances : Advances machine state
-  interface_advances = go (method_is (ranked_methods machine.program.classes) (λ own. is_private own.visibility) resolved) refl where
-    go : (test : Bool) → method_is (ranked_methods machine.program.classes) (λ own. is_private own.visibility) resolved ≡ test → Advances machine state
-    go true private =
-        advances_by machine state (Some (throws machine state incompatible_class_change))
-        (does ∙ interface_private (now_at machine state frame below) resolved names.names index private)
+  module _ (fits : IsTyped machine.program) (natives : CallsNative machine state frame below → Advances machine state)
+      (does : plan machine state ≡ invokes_interface (now_at machine state frame below) index) where
+    public_advances : method_is (ranked_methods machine.program.classes) (λ own. is_private own.visibility) resolved ≡ false → Advances machine state
+    public_advances public =
+        object_advances machine state frame below insn (actions.InvokeInterface index count) linked call resolved interface_rule.kind called names.declared.there exchanges fits natives
+        (falls_by insn (actions.InvokeInterface index count) call.acts refl)
+        (λ (object : ℕ). if instance machine.program object interface_rule.kind then select machine.program object resolved else chosen.Several)
         (record {
-          plan = throws machine state incompatible_class_change;
-          is = refl;
-          typed = throws_typed machine state incompatible_class_change call.typed (linked.thrown incompatible_class_change (9, omega arith, refl));
+          found = invokes_interface (now_at machine state frame below) index;
+          does = does;
+          on_null = interface_null (now_at machine state frame below) resolved names.names index interface_rule.kind names.calling names.member public names.calls names.constant
+              (sym names.holder ∙ interface_rule.holds);
+          on_one = interface_runs (now_at machine state frame below) resolved names.names index interface_rule.kind names.calling names.member public names.calls names.constant
+              (sym names.holder ∙ interface_rule.holds);
         })
-    go false public = public_advances public
+        (implementing_suits (Some interface_rule.kind))
+
+    pub interface_advances : Advances machine state
+    interface_advances = go (method_is (ranked_methods machine.program.classes) (λ own. is_private own.visibility) resolved) refl where
+      go : (test : Bool) → method_is (ranked_methods machine.program.classes) (λ own. is_private own.visibility) resolved ≡ test → Advances machine state
+      go true private =
+          advances_by machine state (Some (throws machine state incompatible_class_change))
+          (does ∙ interface_private (now_at machine state frame below) resolved names.names index private)
+          (record {
+            plan = throws machine state incompatible_class_change;
+            is = refl;
+            typed = throws_typed machine state incompatible_class_change call.typed (linked.thrown incompatible_class_change (9, omega arith, refl));
+          })
+      go false public = public_advances public
 
 -- ---- the state
 
@@ -209,9 +232,9 @@ module _ (machine : Machine) (state : State) (frame : MethodFrame) (below : List
 
   pub virtual_calls_advance : (index : ℕ) → action_of insn ≡ Some (actions.InvokeVirtual index) → (CallsNative machine state frame below → Advances machine state) → Advances machine state
   virtual_calls_advance index so natives =
-      virtual_advances machine state frame below insn index fits them call
+      virtual_advances machine state frame below insn index them call
       (names_method machine.program them.whole them.formed them.none them.spelled frame.method frame.pc call.at.method insn (actions.InvokeVirtual index) (opcodes.INVOKEVIRTUAL, index) call.at.within there so refl)
-      natives (running machine state frame below insn (actions.InvokeVirtual index) ended zero frames there so)
+      fits natives (running machine state frame below insn (actions.InvokeVirtual index) ended zero frames there so)
     where
       call : Call machine state frame below insn (actions.InvokeVirtual index)
       call = call_of machine state frame below insn (actions.InvokeVirtual index) fits them.spelled them.holds typed zero frames there so
@@ -219,9 +242,9 @@ module _ (machine : Machine) (state : State) (frame : MethodFrame) (below : List
   pub interface_calls_advance : (index count : ℕ) → action_of insn ≡ Some (actions.InvokeInterface index count) → (CallsNative machine state frame below → Advances machine state)
       → Advances machine state
   interface_calls_advance index count so natives =
-      interface_advances machine state frame below insn index count fits them call
+      interface_advances machine state frame below insn index count them call
       (names_method machine.program them.whole them.formed them.none them.spelled frame.method frame.pc call.at.method insn (actions.InvokeInterface index count) (opcodes.INVOKEINTERFACE, index) call.at.within there so
-      refl) natives (running machine state frame below insn (actions.InvokeInterface index count) ended zero frames there so)
+      refl) fits natives (running machine state frame below insn (actions.InvokeInterface index count) ended zero frames there so)
     where
       call : Call machine state frame below insn (actions.InvokeInterface index count)
       call = call_of machine state frame below insn (actions.InvokeInterface index count) fits them.spelled them.holds typed zero frames there so

@@ -5,8 +5,8 @@
 //! instruction and of a method's beginning (`Flows`, `Beginning`); that a typed state has a next one, which is typed too (`Advancing`); and
 //! what is asked of a program for that: what the exceptions and strings of the machine are (`Throwing`, `Causes`, `Strings`), what
 //! instructions name and make (`Naming`, `Ready`, `Making`, `Calling`), what stands where a native is called, what it takes and gives, and
-//! what it asks of the library (`Natives`, `Signatures`, `Performing`), which method a call runs and that it is given a string (`Given`), and
-//! what the initialisation of classes runs (`Initialisers`).
+//! what it asks of the library (`Natives`, `Signatures`, `Performing`), which method a call runs and what it is given (`Given`), and what the
+//! initialisation of classes runs (`Initialisers`).
 //! `Loaded` and `Linked` say what loading and linking ensure of a program, and `Sound` all that then holds of one that is typed. What a
 //! program may ask of a typed state that runs the machine step by step is in `Room` and `Words`.
 //!
@@ -28,9 +28,9 @@ mod words;
 
 pub use kept::{kept_states_are_typed, typed_states_are_closed, words_name_objects};
 pub use natives::{
-    answer_natives_advance, array_natives_advance, box_natives_advance, enum_natives_advance,
-    natives_advance, number_natives_advance, outside_natives_advance, own_field_natives_advance,
-    strings_are_given, text_natives_advance,
+    answer_natives_advance, arguments_are_given, array_natives_advance, box_natives_advance,
+    enum_natives_advance, natives_advance, number_natives_advance, outside_natives_advance,
+    own_field_natives_advance, strings_are_given, text_natives_advance,
 };
 pub use next_states::{
     arrays_made_advance, beginning_advances, constants_advance, constructor_calls_advance,

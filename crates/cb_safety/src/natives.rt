@@ -1,5 +1,5 @@
 // That they have one at a call of a native.
-ghost use Rattle.std.specs.Prelude.{◌≡◌, ◌∷◌, ℕ, List, [], Some, true};
+ghost use Rattle.std.specs.Prelude.{◌≡◌, ◌∷◌, ◌++◌, ℕ, List, [], Some, reverse, true};
 ghost use Rattle.cb_insn.specs.declared.insn.Insn.{Insn};
 ghost use Rattle.cb_library.specs.declared.native.Native.{Native};
 ghost use Rattle.cb_library.specs.declared.native.NativeForm.TheVariants.{Array, Outside, OwnFields, Table, Text};
@@ -12,13 +12,15 @@ ghost use Rattle.cb_machine.specs.Machine.{Machine};
 ghost use Rattle.cb_machine.specs.Natives.{native_of};
 ghost use Rattle.cb_machine.specs.Plans.{made};
 ghost use Rattle.cb_plain.specs.State.{Frame as StateFrame, MethodFrame, OfMethod, State};
+ghost use Rattle.cb_plain.specs.declared.value.Value.{Value};
 ghost use Rattle.cb_shapes.specs.Shapes.{action_of};
 ghost use Rattle.cb_shapes.specs.declared.action.Action.{Action};
 ghost use Rattle.cb_verify.specs.Typed.{IsTyped};
 ghost use Rattle.cb_verify.specs.Within.{kind_of_string};
 ghost use Rattle.cb_verify.specs.declared.verification_type.VerificationType.TheVariants.{Object};
 ghost use Rattle.cb_safety.specs.Advancing.{Advances, HoldsOn, IsSpelled};
-ghost use Rattle.cb_safety.specs.Given.{Runs, StringOn};
+ghost use Rattle.cb_safety.specs.Given.{AreTaken, Runs, RunsOn, StringOn};
+ghost use Rattle.cb_safety.specs.Kinds.{kinds_of};
 ghost use Rattle.cb_safety.specs.Linked.{IsLinked};
 ghost use Rattle.cb_safety.specs.Natives.{CallsNative};
 ghost use Rattle.cb_safety.specs.Performing.{HasNatives};
@@ -147,4 +149,21 @@ pub fn strings_are_given()
         → native_of machine.program number ≡ Some native → takes_of machine.program native
         ≡ Object first ∷ Object kind_of_string ∷ []
         → StringOn machine.program state frame }
+{}
+
+/// Where a typed state of a linked program calls a native, its arguments, the object on which it is called first, are of the types that it
+/// takes (JVMS §6.5 invokestatic to invokeinterface).
+pub fn arguments_are_given()
+    ensures { (machine : Machine) (state : State) (frame : MethodFrame) (below : List StateFrame)
+        (insn : Insn) (action : Action) (resolved number : ℕ) (native : Native) (arguments rest : List Value)
+        → IsLinked machine.program
+        → IsTyped machine.program → IsTypedState machine.program state
+        → state.roots.pending ≡ 0 → state.roots.frames ≡ OfMethod frame ∷ below
+        → insn_in (code_at machine.program frame.method) frame.pc ≡ Some insn → action_of insn
+        ≡ Some action
+        → named machine.program frame.method frame.pc ≡ meanings.Method resolved
+        → frame.stack ≡ reverse arguments ++ rest
+        → RunsOn machine.program state.objects frame.method resolved number arguments action
+        → native_of machine.program number ≡ Some native
+        → AreTaken machine.program (kinds_of state.objects) native arguments }
 {}
