@@ -1,0 +1,7 @@
+package away;
+
+public class Fourth extends near.Third {
+    public int seen() {
+        return 10 * super.seen() + 4;
+    }
+}
