@@ -34,8 +34,9 @@ use Rattle.cb_runner.specs.declared.stop.Stop.TheVariants.{FolderFault, InputFau
 use Rattle.cb_runner.specs.Ending.{Ending, output_fault, told}
 use Rattle.cb_runner.specs.Inner.{IsRefusedStart, IsStopOf, IsToldAs, IsUncaughtAs, MayTell, RunsTo, ending_of}
 use Rattle.cb_runner.specs.Messages.{NotYet, line, refusal_text}
-use Rattle.cb_runner.specs.Running.{EndsBegun, EndsRun, Fills, FillsFirst, LeavesOut, Returns, Spends, Throws, exception_line, full_line, machine_of, spent_line, state_at, texts_of}
+use Rattle.cb_runner.specs.Running.{EndsBegun, EndsRun, Fills, FillsFirst, HadRoom, LeavesOut, Returns, Spends, Throws, exception_line, full_line, machine_of, spent_line, state_at, texts_of}
 use Rattle.cb_runner.specs.Words.{Run}
+use Rattle.cb_runner.proofs.Roomy.{had_room}
 use Rattle.cb_io.specs.Faults.{CountsFaults}
 use Rattle.cb_io.specs.Utf8.{utf8}
 use Rattle.cb_safety.specs.Heap.{IsHeap}
@@ -112,7 +113,10 @@ module _ (asks : Run) (program : Linked) (begins : ¬ FillsFirst asks program) (
   abbrev pub Shown : Stop → Type 0
   Shown stop = (printed : List ℕ) × Appends taken takes printed × RunsTo asks program stop printed
 
-  module _ (nothing : (state_at asks program 0).printed ≡ []) where
+  module _ (nothing : (state_at asks program 0).printed ≡ []) (starts : first.state ≡ state_at asks program 0) where
+    had : (end : End) → (run : HasRun end) → HadRoom asks program run.count
+    had end run = had_room (machine_of asks program) run.count first run.before (state_at asks program 0) run.turns starts
+
     said_so : (end : End) → (run : HasRun end) → run.said ≡ (state_at asks program run.count).printed
     said_so end run = sym (run.grows ∙ ap (λ printed. printed ++ run.said) nothing)
 
@@ -124,7 +128,7 @@ module _ (asks : Run) (program : Linked) (begins : ¬ FillsFirst asks program) (
         ap (λ cause. told cause out (string_bytes text)) same ∙ ap (λ err. told cause out err) is
 
     no_memory : (end : End) → (run : HasRun end) → Appends taken takes run.said → Shown OutOfMemory
-    no_memory end run out = (run.said, out, inr (run.count, run.within, same_told end run causes.OutOfMemory _))
+    no_memory end run out = (run.said, out, inr (run.count, run.within, had end run, same_told end run causes.OutOfMemory _))
 
     -- where nothing has changed, a moment is the whole state
     before_whole : (end : End) → (run : HasRun end) → moment_of (seen index (map Some items) roots) (outside_of (state_at asks program run.count)) tt ≡ run.before → run.before.state ≡ state_at asks program run.count
@@ -132,13 +136,14 @@ module _ (asks : Run) (program : Linked) (begins : ¬ FillsFirst asks program) (
 
     returns_so : (run : HasRun ends.Returned) → (stop : Stop) → stop ≡ Returned → Shown stop
     returns_so run stop is =
-        subst Shown (sym is) (run.said, run.out, ends_so _ (Returns run.count run.within run.ends.0 (same_told ends.Returned run causes.Returned [])))
+        subst Shown (sym is) (run.said, run.out, ends_so _ (Returns run.count run.within (had ends.Returned run) run.ends.0 (same_told ends.Returned run causes.Returned [])))
 
     spends_so : (run : HasRun ends.BudgetSpent) → (stop : Stop) → IsToldAs causes.BudgetSpent (spent_line asks.steps) stop → Shown stop
     spends_so run (Told cause text) (same, is) = (
       run.said,
       run.out,
-      ends_so _ (Spends (subst (λ count. outcome (state_at asks program count) ≡ outcomes.Running) run.ends.1 run.ends.0.0)
+      ends_so _ (Spends (subst (HadRoom asks program) run.ends.1 (had ends.BudgetSpent run))
+          (subst (λ count. outcome (state_at asks program count) ≡ outcomes.Running) run.ends.1 run.ends.0.0)
           (told_is causes.BudgetSpent cause text run.said (spent_line asks.steps) same is ∙ same_told ends.BudgetSpent run causes.BudgetSpent (spent_line asks.steps)
           ∙ ap (λ count. told causes.BudgetSpent (state_at asks program count).printed (spent_line asks.steps)) run.ends.1)),
     )
@@ -154,7 +159,7 @@ module _ (asks : Run) (program : Linked) (begins : ¬ FillsFirst asks program) (
     leaves_so run (Told cause text) (same, is) = (
       run.said,
       run.out,
-      ends_so _ (LeavesOut run.count run.ends.0
+      ends_so _ (LeavesOut run.count run.ends.0 (had ends.NotYet run)
           (subst (Leaves (machine_of asks program)) (before_whole ends.NotYet run run.ends.1) run.ends.2)
           (told_is causes.NotYet cause text run.said (line (refusal_text (NotYet (utf8 asks.main)))) same is ∙ same_told ends.NotYet run causes.NotYet (line (refusal_text (NotYet (utf8 asks.main)))))),
     )
@@ -177,6 +182,7 @@ module _ (asks : Run) (program : Linked) (begins : ¬ FillsFirst asks program) (
             more,
             front,
             run.ends.0,
+            had ends.OutputFault run,
             prints,
             proper,
             ap (λ printed. output_fault (printed ++ front) 0) (said_so ends.OutputFault run),
@@ -195,7 +201,7 @@ module _ (asks : Run) (program : Linked) (begins : ¬ FillsFirst asks program) (
     fills_so live asked limit run (Told cause text) (same, is) = (
       run.said,
       run.out,
-      ends_so _ (Fills run.count run.ends.0 reached
+      ends_so _ (Fills run.count run.ends.0 (had (ends.HeapFull live asked limit) run) reached
           (told_is causes.HeapFull cause text run.said (full_line (rooms.Full live asked limit)) same is ∙ same_told (ends.HeapFull live asked limit) run causes.HeapFull (full_line (rooms.Full live asked limit))
           ∙ ap (λ room. told causes.HeapFull (state_at asks program run.count).printed (full_line room)) numbers)),
     ) where
@@ -249,7 +255,7 @@ module _ (asks : Run) (program : Linked) (begins : ¬ FillsFirst asks program) (
         sym (ap (option_and_then (exception_units program state)) (ap (object_at state) serial ∙ there)) ∙ tells state objects in (
           run.said,
           run.out,
-          ends_so _ (Throws run.count state.roots.pending object units run.within run.ends.0.0 there told_units
+          ends_so _ (Throws run.count state.roots.pending object units run.within (had (ends.Uncaught class at) run) run.ends.0.0 there told_units
               (told_is (causes.Uncaught class) cause text run.said (exception_line units) same is ∙ same_told (ends.Uncaught class at) run (causes.Uncaught class) (exception_line units)
               ∙ ap (λ class. told (causes.Uncaught class) (state_at asks program run.count).printed (exception_line units)) (sym kind))),
         )

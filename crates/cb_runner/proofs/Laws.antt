@@ -22,11 +22,11 @@ cause_whole one other is whole = subst (λ cause. IsTrue (ends_whole cause)) is 
 
 -- a command that nothing cuts short returns or is refused, or the program that it runs ends in another way
 ends_begun_whole : (run : Run) (program : Linked) (ending : Ending) → EndsBegun run program ending → IsWhole ending
-ends_begun_whole run program ending (Returns count within returns is) = whole_by ending _ is refl
-ends_begun_whole run program ending (Throws count serial object units within throws there tells is) = whole_by ending _ is refl
-ends_begun_whole run program ending (Spends runs is) = whole_by ending _ is refl
-ends_begun_whole run program ending (Fills count below fills is) = whole_by ending _ is refl
-ends_begun_whole run program ending (LeavesOut count below leaves is) = whole_by ending _ is refl
+ends_begun_whole run program ending (Returns count within had returns is) = whole_by ending _ is refl
+ends_begun_whole run program ending (Throws count serial object units within had throws there tells is) = whole_by ending _ is refl
+ends_begun_whole run program ending (Spends had runs is) = whole_by ending _ is refl
+ends_begun_whole run program ending (Fills count below had fills is) = whole_by ending _ is refl
+ends_begun_whole run program ending (LeavesOut count below had leaves is) = whole_by ending _ is refl
 
 pub ends_run_whole : (run : Run) (program : Linked) (ending : Ending) → EndsRun run program ending → IsWhole ending
 ends_run_whole run program ending (inl (fills, is)) = whole_by ending _ is refl

@@ -13,6 +13,7 @@ pub mod Listing
 pub mod Assembling
 pub mod Laws
 pub mod CopiedLists
+pub mod Roomy
 pub mod Executed
 pub mod Begun
 pub mod Told

@@ -49,20 +49,25 @@ full_line (Full live asked limit) =
 full_line ReportFault = []
 full_line NoMemory = []
 
--- so one ends that has begun: `main` returns; an exception finds no handler; the steps are spent; what the next step places takes more
+-- each of so many steps places no more words than are counted
+abbrev pub HadRoom : Run → Linked → ℕ → Type 0
+HadRoom run program count =
+    (step : ℕ) → step < count → ¬ IsTrue (one_has_reached most_words (request (machine_of run program) (state_at run program step)))
+
+-- so one ends that has begun, behind steps that had room: `main` returns; an exception finds no handler; the steps are spent; what the next step places takes more
 -- words than are counted; or the next step performs a native that isn't done yet
 pub data EndsBegun (run : Run) (program : Linked) (ending : Ending) : Type 0 where
-  Returns : (count : ℕ) → count ≤ run.steps → outcome (state_at run program count) ≡ outcomes.Returned
+  Returns : (count : ℕ) → count ≤ run.steps → HadRoom run program count → outcome (state_at run program count) ≡ outcomes.Returned
       → ending ≡ told causes.Returned (state_at run program count).printed [] → EndsBegun run program ending
-  Throws : (count serial : ℕ) (object : Object) (units : List ℕ) → count ≤ run.steps → outcome (state_at run program count) ≡ outcomes.Uncaught serial
+  Throws : (count serial : ℕ) (object : Object) (units : List ℕ) → count ≤ run.steps → HadRoom run program count → outcome (state_at run program count) ≡ outcomes.Uncaught serial
       → object_at (state_at run program count) serial ≡ Some object → exception_units program (state_at run program count) object ≡ Some units
       → ending ≡ told (causes.Uncaught object.kind) (state_at run program count).printed (exception_line units) → EndsBegun run program ending
-  Spends : outcome (state_at run program run.steps) ≡ outcomes.Running
+  Spends : HadRoom run program run.steps → outcome (state_at run program run.steps) ≡ outcomes.Running
       → ending ≡ told causes.BudgetSpent (state_at run program run.steps).printed (spent_line run.steps) → EndsBegun run program ending
-  Fills : (count : ℕ) → count < run.steps → IsTrue (one_has_reached most_words (request (machine_of run program) (state_at run program count)))
+  Fills : (count : ℕ) → count < run.steps → HadRoom run program count → IsTrue (one_has_reached most_words (request (machine_of run program) (state_at run program count)))
       → ending ≡ told causes.HeapFull (state_at run program count).printed (full_line (no_room_in (view_of (state_at run program count))))
       → EndsBegun run program ending
-  LeavesOut : (count : ℕ) → count < run.steps → Leaves (machine_of run program) (state_at run program count)
+  LeavesOut : (count : ℕ) → count < run.steps → HadRoom run program count → Leaves (machine_of run program) (state_at run program count)
       → ending ≡ told causes.NotYet (state_at run program count).printed (line (refusal_text (NotYet (utf8 run.main)))) → EndsBegun run program ending
 
 -- what is there at the start takes more words than are counted
@@ -78,9 +83,9 @@ EndsRun run program ending =
 -- and so it is cut short: no memory is to be had, or a write of what a step prints fails
 abbrev pub CutsMemory : Run → Linked → Ending → Type 0
 CutsMemory run program ending =
-    (count : ℕ) × (count ≤ run.steps) × (ending ≡ told causes.OutOfMemory (state_at run program count).printed (line (codes "out of memory")))
+    (count : ℕ) × (count ≤ run.steps) × HadRoom run program count × (ending ≡ told causes.OutOfMemory (state_at run program count).printed (line (codes "out of memory")))
 
 abbrev pub CutsOutput : Run → Linked → Ending → Type 0
 CutsOutput run program ending =
-    (count : ℕ) × (more : List ℕ) × (front : List ℕ) × (count < run.steps) × Prints (machine_of run program) (state_at run program count) more
+    (count : ℕ) × (more : List ℕ) × (front : List ℕ) × (count < run.steps) × HadRoom run program count × Prints (machine_of run program) (state_at run program count) more
     × IsProperPrefix front more × (ending ≡ output_fault ((state_at run program count).printed ++ front) 0)

@@ -16,3 +16,5 @@ pub use Rattle.cb_safety.proofs.Starting.{start_is_typed}
 pub use Rattle.cb_safety.proofs.Stepping.{ended_stays, run_goes, run_typed, states_advance}
 pub use Rattle.cb_safety.proofs.Given.{strings_are_given}
 pub use Rattle.cb_safety.proofs.NativeArguments.{arguments_are_given}
+pub use Rattle.cb_safety.proofs.Natively.{HasArray, HasWords, IsNumber, array_elements, builder_array, field_there, is_its_reference, is_number as is_number_of, string_array, words_there}
+pub use Rattle.cb_safety.proofs.Entering.{map_reverse}

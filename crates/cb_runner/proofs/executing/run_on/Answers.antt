@@ -40,7 +40,7 @@ stop_of-requires-clause-may g c =
     let later = seen pred (map Some c.run-end.new.store.objects) c.run-end.new.roots.roots in
     let run = ended_so asks program objects roots c.requires.begun c.args.roots.now.limit c.run-end.result later (g.O.Sink.taken c.args.out.now) (g.O.Sink.taken c.run-end.new.out) c.requires.limit c.run-end.ensures.ended in
     tells_so asks program (begins_so asks program objects roots c.requires.begun) first pred c.run-end.new.store.objects c.run-end.new.roots.roots (g.O.Sink.taken c.args.out.now) (g.O.Sink.taken c.run-end.new.out)
-    (sym (ap (λ (state : State). state.printed) c.requires.begun.starts)) c.run-end.result (λ class at is. ap (serial_of pred) (c.run-end.ensures.place class at is)) run
+    (sym (ap (λ (state : State). state.printed) c.requires.begun.starts)) c.requires.begun.starts c.run-end.result (λ class at is. ap (serial_of pred) (c.run-end.ensures.place class at is)) run
     (c.runs_advance.ensures.typed (machine_of asks program) c.requires.linked c.requires.fits (texts_of asks) [] texts few tt run.count)
 
 pub returns-clause-runs : goal.returns-clause-runs
@@ -53,7 +53,7 @@ returns-clause-runs g c =
     let later = seen pred (map Some c.run-end.new.store.objects) c.run-end.new.roots.roots in
     let run = ended_so asks program objects roots c.requires.begun c.args.roots.now.limit c.run-end.result later (g.O.Sink.taken c.args.out.now) (g.O.Sink.taken c.run-end.new.out) c.requires.limit c.run-end.ensures.ended in
     shown_so asks program (begins_so asks program objects roots c.requires.begun) first pred c.run-end.new.store.objects c.run-end.new.roots.roots (g.O.Sink.taken c.args.out.now) (g.O.Sink.taken c.run-end.new.out)
-    (sym (ap (λ (state : State). state.printed) c.requires.begun.starts)) c.run-end.result c.stop_of.result (λ class at is. ap (serial_of pred) (c.run-end.ensures.place class at is)) run
+    (sym (ap (λ (state : State). state.printed) c.requires.begun.starts)) c.requires.begun.starts c.run-end.result c.stop_of.result (λ class at is. ap (serial_of pred) (c.run-end.ensures.place class at is)) run
     c.stop_of.ensures
 
 pub returns-clause-fault : goal.returns-clause-fault

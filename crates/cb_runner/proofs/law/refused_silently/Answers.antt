@@ -33,11 +33,11 @@ undone_apart : NotYet ≡ Refused → ⊥
 undone_apart is = cc
 
 begun_unrefused : (run : Run) (program : Linked) (ending : Ending) → EndsBegun run program ending → ending.cause ≡ Refused → ⊥
-begun_unrefused run program ending (Returns count within returns is) refused = unrefused ending _ is refl refused
-begun_unrefused run program ending (Throws count serial object units within throws there tells is) refused = uncaught_apart object.kind (other_cause ending _ is refused)
-begun_unrefused run program ending (Spends runs is) refused = spent_apart (other_cause ending _ is refused)
-begun_unrefused run program ending (Fills count below fills is) refused = full_apart (other_cause ending _ is refused)
-begun_unrefused run program ending (LeavesOut count below leaves is) refused = undone_apart (other_cause ending _ is refused)
+begun_unrefused run program ending (Returns count within had returns is) refused = unrefused ending _ is refl refused
+begun_unrefused run program ending (Throws count serial object units within had throws there tells is) refused = uncaught_apart object.kind (other_cause ending _ is refused)
+begun_unrefused run program ending (Spends had runs is) refused = spent_apart (other_cause ending _ is refused)
+begun_unrefused run program ending (Fills count below had fills is) refused = full_apart (other_cause ending _ is refused)
+begun_unrefused run program ending (LeavesOut count below had leaves is) refused = undone_apart (other_cause ending _ is refused)
 
 run_unrefused : (run : Run) (program : Linked) (ending : Ending) → EndsRun run program ending → ending.cause ≡ Refused → ⊥
 run_unrefused run program ending (inl (fills, is)) refused = full_apart (other_cause ending _ is refused)

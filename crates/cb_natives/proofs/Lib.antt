@@ -1,0 +1,6 @@
+mod NativesNamed
+mod NumberLaws
+mod Places
+mod UnitLaws
+mod Units
+mod Wraps

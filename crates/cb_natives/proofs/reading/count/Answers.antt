@@ -1,0 +1,6 @@
+use Rattle.cb_heap.specs.Reading.{serial_of}
+use Rattle.cb_natives.proofs.Units.{kept_so}
+use Rattle.cb_natives.proofs.reading.count.Goals as goal
+
+pub length-requires : goal.length-requires
+length-requires g c = kept_so (g.S.Store.kept c.args.store.now) (g.S.Store.index c.args.store.now) c.args.array c.if-array-eq0.false c.requires.held
