@@ -68,7 +68,7 @@ fault_cause OfOutput = OutputFault
 pub cut_cause : (fault : Fault) (command : Command) (files : Option Files) (left : Option (List ℕ)) (ending : Ending) → IsCutShort fault command files left ending → ending.cause ≡ fault_cause fault
 unfolding fault_cause
 cut_cause OfMemory (RunIn folder run) files left ending (inl is) = ap (λ e. e.cause) is
-cut_cause OfMemory (RunIn folder run) files left ending (inr (program, runnable, (count, within, is))) = ap (λ e. e.cause) is
+cut_cause OfMemory (RunIn folder run) files left ending (inr (program, runnable, (count, within, had, is))) = ap (λ e. e.cause) is
 cut_cause OfMemory (ListOf path) files left ending is = ap (λ e. e.cause) is
 cut_cause OfMemory Assemble files left ending (read, may, is) = ap (λ e. e.cause) is
 cut_cause OfFolder (RunIn folder run) files left ending is = ap (λ e. e.cause) is
@@ -77,7 +77,7 @@ cut_cause OfFolder Assemble files left ending is = absurd is
 cut_cause OfInput (RunIn folder run) files left ending is = absurd is
 cut_cause OfInput (ListOf path) files left ending is = absurd is
 cut_cause OfInput Assemble files left ending (read, may, is) = ap (λ e. e.cause) is
-cut_cause OfOutput (RunIn folder run) files left ending (program, runnable, (count, more, front, below, prints, prefix, is)) = ap (λ e. e.cause) is
+cut_cause OfOutput (RunIn folder run) files left ending (program, runnable, (count, more, front, below, had, prints, prefix, is)) = ap (λ e. e.cause) is
 cut_cause OfOutput (ListOf path) files left ending (whole, answers, front, prefix, is) = ap (λ e. e.cause) is
 cut_cause OfOutput Assemble files left ending (whole, answers, front, prefix, is) = ap (λ e. e.cause) is
 

@@ -1,11 +1,13 @@
 -- Over a store that never lets an object go, each turn that was made had room, and what is kept is all that there is.
 use Rattle.std.proofs.Common.{◌≡◌, ◌∙◌, ap, arith, refl, sym, subst, inl, inr, ◌⊎◌, ℕ, ◌<◌, ◌≤◌, Bool, true, false, IsTrue, List, [], ◌∷◌, Option, Some, None, suc, zero}
+use Rattle.std.specs.declared.result.Result.{Result}
 use Rattle.std.specs.declared.result.Result.TheVariants.{Err, Ok}
 use Rattle.std.proofs.lemmas.Bool.{cases_lt}
 use Rattle.cb_act.specs.Steps.{view_of}
 use Rattle.cb_act.specs.Turning.{Asked, Moment, NotAsked, RoomMade, TurnMade, Turns}
 use Rattle.cb_heap.specs.Closed.{Collects}
 use Rattle.cb_heap.specs.Kept.{keep, residents}
+use Rattle.cb_heap.specs.declared.no_room.NoRoom.{NoRoom}
 use Rattle.cb_machine.specs.Machine.{Machine}
 use Rattle.cb_machine.specs.Plans.{made}
 use Rattle.cb_machine.specs.Runs.{after, next}
@@ -38,7 +40,7 @@ room_was before wants middle (Asked first more now ruled collects same) = (fits,
   makes : MakesRoom tt (view_of before.state) (first ∷ more) (Ok tt) (record { facts = tt; residents = residents now.state.objects })
   makes = ruled
 
-  never : ◌≡◌ {A = _} (Ok tt) (Err (no_room_in (view_of before.state))) → ⊥
+  never : ◌≡◌ {A = Result (Unit {0}) NoRoom} (Ok tt) (Err (no_room_in (view_of before.state))) → ⊥
   never is = cc is
 
   fits : Fits (first ∷ more)
