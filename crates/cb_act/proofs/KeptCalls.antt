@@ -40,7 +40,7 @@ use Rattle.cb_act.proofs.KeptObjects.{on_kept, parts, taken_held, value_held}
 all_of : (test : ℕ → Bool) (one other : List ℕ) → IsTrue (list_all test one) → IsTrue (list_all test other) → IsTrue (list_all test (one ++ other))
 all_of test one other first second = list_all-append test one other ∙ rw (first, second) refl
 
-reversed_held : (test : ℕ → Bool) (held : List Value) → IsTrue (list_all test (references_in held)) → IsTrue (list_all test (references_in (reverse held)))
+pub reversed_held : (test : ℕ → Bool) (held : List Value) → IsTrue (list_all test (references_in held)) → IsTrue (list_all test (references_in (reverse held)))
 reversed_held test [] all = refl
 reversed_held test (value ∷ held) all =
     let both = parts test (reference_in value) (references_in held) all in

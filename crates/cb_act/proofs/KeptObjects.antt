@@ -44,7 +44,7 @@ both_parts false b is = absurd (false≢true is)
 pub parts : {X : Type 0} (test : X → Bool) (one other : List X) → IsTrue (list_all test (one ++ other)) → IsTrue (list_all test one) × IsTrue (list_all test other)
 parts test one other all = both_parts (list_all test one) (list_all test other) (sym (list_all-append test one other) ∙ all)
 
-front_held : (test : ℕ → Bool) (held rest : List Value) → IsTrue (list_all test (references_in (held ++ rest))) → IsTrue (list_all test (references_in held))
+pub front_held : (test : ℕ → Bool) (held rest : List Value) → IsTrue (list_all test (references_in (held ++ rest))) → IsTrue (list_all test (references_in held))
 front_held test held rest all =
     (parts test (references_in held) (references_in rest) (ap (list_all test) (sym (flat_map-append reference_in held rest)) ∙ all)).0
 

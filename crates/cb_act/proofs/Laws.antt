@@ -6,9 +6,10 @@ pub use Rattle.cb_act.proofs.FramesActed.{frame_done, frame_there, growth_read, 
 pub use Rattle.cb_act.proofs.FramesKept.{shown_at, shown_kept, waiting, waiting_kept}
 pub use Rattle.cb_act.proofs.GoingSteps.{switches_so}
 pub use Rattle.cb_act.proofs.KeepLaws.{keep_unseen, length_changed, length_kept}
-pub use Rattle.cb_act.proofs.KeptCalls.{by_body, by_native, without_body}
+pub use Rattle.cb_act.proofs.KeptCalls.{by_body, by_native, reversed_held, without_body}
 pub use Rattle.cb_act.proofs.KeptGoing.{by_zero_kept}
 pub use Rattle.cb_act.proofs.KeptInit.{begun_kept}
+pub use Rattle.cb_act.proofs.KeptObjects.{front_held, value_held}
 pub use Rattle.cb_act.proofs.KeptSteps.{plan_kept}
 pub use Rattle.cb_act.proofs.EachOf.{all_at, all_joined}
 pub use Rattle.cb_act.proofs.Moved.{by_four, by_one, by_three, by_two}

@@ -1,78 +1,25 @@
 -- Natives that give a number, an object that was there, or nothing, of a state with changed objects.
 use Rattle.std.proofs.Common.{◌≡◌, ◌∙◌, ap, refl, ℕ, ℤ, pos, negsuc, ◌==◌, Bool, true, false, List, [], ◌∷◌, length, Option, Some, None, zero, suc, if◌then◌else◌, slice_get}
 use Rattle.std.specs.Prelude.{option_and_then}
-use Rattle.std.specs.Int.{Width, int_wrap, w32, w64}
+use Rattle.std.specs.Int.{Width, w32, w64}
 use Rattle.std.specs.Ordering.{int_eq}
-use Rattle.cb_kinds.specs.Texts.{same_text}
 use Rattle.cb_library.specs.declared.native.Native.{Native}
 use Rattle.cb_library.specs.declared.native.Native.TheVariants as natives
-use Rattle.cb_machine.specs.Answering.{answer_native, number_in}
+use Rattle.cb_machine.specs.Answering.{answer_native, equal_numbers, equal_text, equal_texts, gives_bool, gives_found, gives_parsed, in_range, number_in, of_kind, on_ordinal, ordinal_slot, parses, unit_at}
 use Rattle.cb_machine.specs.Computing.{throws_by_zero}
 use Rattle.cb_machine.specs.Library as library
-use Rattle.cb_machine.specs.Performing.{Call, Performed, Stops, gives, gives_int, number_at, on_number, on_object, on_text, stops, text_of, value_slot}
+use Rattle.cb_machine.specs.Performing.{Performed, Stops, gives, gives_int, number_at, on_number, on_text}
 use Rattle.cb_machine.specs.Sites.{number_format, string_index}
 use Rattle.cb_machine.specs.Testing.{int_of}
 use Rattle.cb_plain.specs.declared.value.Value.{Value}
 use Rattle.cb_plain.specs.declared.value.Value.TheVariants as values
-use Rattle.cb_plain.specs.State.{Object, State}
+use Rattle.cb_plain.specs.State.{Object}
 use Rattle.cb_plain.specs.Updates.{object_at}
 use Rattle.cb_act.specs.Changing.{Passes, changed_state}
 use Rattle.cb_act.proofs.NativesBasics.{Changed, Held, Same, branch_same, built_then, by_zero_same, changed_call, first, gives_same, inside_of, number_same, object_same, own_call, second, stops_same, text_of_same, text_then, then_same}
 
--- a truth
-abbrev pub gives_bool : Call → Bool → Option Performed
-gives_bool call is = gives call (int_of is ∷ [])
-
--- the unit at a place of a text
-abbrev pub gives_found : Call → Option ℕ → Option Performed
-gives_found call None = stops call string_index
-gives_found call (Some unit) = gives_int call (pos unit)
-
-abbrev pub unit_at : Call → ℤ → List ℕ → Option Performed
-unit_at call (pos place) units = gives_found call (slice_get units place)
-unit_at call place units = stops call string_index
-
--- equal objects of a class
 abbrev its_kind : ℕ → Object → Option Object
 its_kind kind object = if object.kind == kind then Some object else None
-
-abbrev pub of_kind : State → ℕ → ℕ → Option Object
-of_kind state kind serial = option_and_then (its_kind kind) (object_at state serial)
-
-abbrev same_as : List ℕ → Option (List ℕ) → Bool
-same_as units None = false
-same_as units (Some others) = same_text units others
-
-abbrev pub equal_texts : State → List ℕ → Option Object → Bool
-equal_texts state units None = false
-equal_texts state units (Some other) = same_as units (text_of state other)
-
-abbrev same_number : ℤ → Option ℤ → Bool
-same_number number None = false
-same_number number (Some own) = int_eq number own
-
-abbrev pub equal_numbers : ℤ → Option Object → Bool
-equal_numbers number None = false
-equal_numbers number (Some other) = same_number number (number_at other value_slot)
-
--- numbers in texts
-abbrev pub in_range : Width → ℤ → Option ℤ
-in_range width number = if int_eq (int_wrap width number) number then Some number else None
-
-abbrev pub gives_parsed : Call → (ℤ → Option Performed) → Option ℤ → Option Performed
-gives_parsed call give None = stops call number_format
-gives_parsed call give (Some number) = give number
-
-abbrev pub parses : Call → Width → (ℤ → Option Performed) → ℕ → Option Performed
-parses call width give zero = stops call number_format
-parses call width give (suc place) = on_text call (suc place) (λ units. gives_parsed call give (option_and_then (in_range width) (number_in units)))
-
--- ordinals
-abbrev pub ordinal_slot : ℕ
-ordinal_slot = 1
-
-abbrev pub on_ordinal : Call → ℕ → (ℤ → Option Performed) → Option Performed
-on_ordinal call serial go = on_object call serial (λ object. option_and_then go (number_at object ordinal_slot))
 
 module _ (it : Changed) where
   unit_same : (place : ℤ) (units : List ℕ) → Same it (unit_at (changed_call it) place units) (unit_at (own_call it) place units)
@@ -83,7 +30,7 @@ module _ (it : Changed) where
     go (Some unit) = gives_same it (values.Int (pos unit) ∷ [])
 
   -- objects of a class
-  of_kind_same : (kind serial : ℕ) → Passes it.test serial → of_kind (changed_state it.change it.state) kind serial ≡ of_kind it.state kind serial
+  of_kind_same : (kind serial : ℕ) → Passes it.test serial → of_kind (changed_state it.change it.state).objects kind serial ≡ of_kind it.state.objects kind serial
   of_kind_same kind serial passes = ap (option_and_then (its_kind kind)) (it.unseen.same serial passes)
 
   texts_alike : (units : List ℕ) (kind serial : ℕ) → Passes it.test serial → (found : Option Object) → object_at it.state serial ≡ found
@@ -93,24 +40,24 @@ module _ (it : Changed) where
     go : (is : Bool)
         → equal_texts (changed_state it.change it.state) units (if is then Some object else None) ≡ equal_texts it.state units (if is then Some object else None)
     go false = refl
-    go true = ap (same_as units) (text_of_same it object (inside_of it serial passes object there))
+    go true = ap (equal_text units) (text_of_same it object (inside_of it serial passes object there))
 
   equal_same : (units : List ℕ) (kind serial : ℕ) → Passes it.test serial
-      → equal_texts (changed_state it.change it.state) units (of_kind (changed_state it.change it.state) kind serial) ≡ equal_texts it.state units (of_kind it.state kind serial)
+      → equal_texts (changed_state it.change it.state) units (of_kind (changed_state it.change it.state).objects kind serial) ≡ equal_texts it.state units (of_kind it.state.objects kind serial)
   equal_same units kind serial passes =
       ap (equal_texts (changed_state it.change it.state) units) (of_kind_same kind serial passes) ∙ texts_alike units kind serial passes (object_at it.state serial) refl
 
   -- boxes
   boxes_equal : (kind serial other : ℕ) → Passes it.test serial → Passes it.test other
       → Same it
-      (on_number (changed_call it) serial (λ number. gives_bool (changed_call it) (equal_numbers number (of_kind (changed_state it.change it.state) kind other))))
-      (on_number (own_call it) serial (λ number. gives_bool (own_call it) (equal_numbers number (of_kind it.state kind other))))
+      (on_number (changed_call it) serial (λ number. gives_bool (changed_call it) (equal_numbers number (of_kind (changed_state it.change it.state).objects kind other))))
+      (on_number (own_call it) serial (λ number. gives_bool (own_call it) (equal_numbers number (of_kind it.state.objects kind other))))
   boxes_equal kind serial other passes also =
       number_same it serial passes
-      (λ number. gives_bool (changed_call it) (equal_numbers number (of_kind (changed_state it.change it.state) kind other)))
-      (λ number. gives_bool (own_call it) (equal_numbers number (of_kind it.state kind other)))
+      (λ number. gives_bool (changed_call it) (equal_numbers number (of_kind (changed_state it.change it.state).objects kind other)))
+      (λ number. gives_bool (own_call it) (equal_numbers number (of_kind it.state.objects kind other)))
       (λ number. ap (λ (found : Option Object). gives_bool (changed_call it) (equal_numbers number found)) (of_kind_same kind other also)
-      ∙ gives_same it (int_of (equal_numbers number (of_kind it.state kind other)) ∷ []))
+      ∙ gives_same it (int_of (equal_numbers number (of_kind it.state.objects kind other)) ∷ []))
 
   boxes_compared : (order : ℤ → ℤ → ℤ) (serial other : ℕ) → Passes it.test serial → Passes it.test other
       → Same it

@@ -1,27 +1,18 @@
 -- References pass in what natives give that give a number, an object that was there, or nothing.
-use Rattle.std.proofs.Common.{ℕ, ℤ, pos, negsuc, ◌-◌, ◌==◌, Bool, false, ◌&&◌, List, [], ◌∷◌, drop, length, take, Option, Some, None, zero, suc, if◌then◌else◌, nat_le, slice_get}
+use Rattle.std.proofs.Common.{ℕ, ℤ, pos, negsuc, ◌-◌, ◌==◌, Bool, false, List, [], ◌∷◌, length, Option, Some, None, zero, suc, if◌then◌else◌, slice_get}
 use Rattle.std.specs.Prelude.{option_and_then}
 use Rattle.std.specs.Int.{Width, w32, w64}
 use Rattle.std.specs.Ordering.{int_eq}
-use Rattle.cb_kinds.specs.Texts.{same_text}
 use Rattle.cb_library.specs.declared.native.Native.{Native}
 use Rattle.cb_library.specs.declared.native.Native.TheVariants as natives
-use Rattle.cb_machine.specs.Answering.{answer_native, number_in}
+use Rattle.cb_machine.specs.Answering.{answer_native, begins, ends_with, equal_numbers, equal_texts, gives_bool, gives_found, gives_parsed, in_range, number_in, of_kind, on_ordinal, ordinal_slot, parses, unit_at}
 use Rattle.cb_machine.specs.Computing.{throws_by_zero}
 use Rattle.cb_machine.specs.Library as library
 use Rattle.cb_machine.specs.Performing.{Performed, Stops, gives, gives_int, number_at, on_number, on_text}
 use Rattle.cb_machine.specs.Sites.{number_format, string_index}
 use Rattle.cb_plain.specs.declared.value.Value.{Value}
 use Rattle.cb_plain.specs.declared.value.Value.TheVariants as values
-use Rattle.cb_act.proofs.NativesAnswers.{equal_numbers, equal_texts, gives_bool, gives_found, gives_parsed, in_range, of_kind, on_ordinal, ordinal_slot, parses, unit_at}
 use Rattle.cb_act.proofs.NativesWithinBasics.{Given, Passing, bool_passes, branch_passes, built_passes, by_zero_passes, call_in, int_passes, long_passes, number_passes, on_passes, plain_passes, stops_passes, text_passes, then_passes}
-
--- where a text begins, and ends
-abbrev begins : List ℕ → List ℕ → Bool
-begins units front = same_text (take (length front) units) front
-
-abbrev ends_with : List ℕ → List ℕ → Bool
-ends_with units end = nat_le (length end) (length units) && same_text (drop (length units - length end) units) end
 
 module _ (it : Passing) where
   unit_passes : (place : ℤ) (units : List ℕ) → Given it (unit_at (call_in it) place units)
@@ -33,10 +24,10 @@ module _ (it : Passing) where
 
   -- boxes
   boxes_equal : (kind serial other : ℕ)
-      → Given it (on_number (call_in it) serial (λ number. gives_bool (call_in it) (equal_numbers number (of_kind it.state kind other))))
+      → Given it (on_number (call_in it) serial (λ number. gives_bool (call_in it) (equal_numbers number (of_kind it.state.objects kind other))))
   boxes_equal kind serial other =
-      number_passes it serial (λ number. gives_bool (call_in it) (equal_numbers number (of_kind it.state kind other)))
-      (λ number. bool_passes it (equal_numbers number (of_kind it.state kind other)))
+      number_passes it serial (λ number. gives_bool (call_in it) (equal_numbers number (of_kind it.state.objects kind other)))
+      (λ number. bool_passes it (equal_numbers number (of_kind it.state.objects kind other)))
 
   boxes_compared : (order : ℤ → ℤ → ℤ) (serial other : ℕ)
       → Given it (on_number (call_in it) other (λ second. on_number (call_in it) serial (λ first. gives_int (call_in it) (order first second))))
@@ -104,7 +95,7 @@ module _ (it : Passing) where
   answer_within natives.StringIsEmpty (values.Ref string ∷ []) = text_passes it string _ (λ units. bool_passes it (length units == 0))
   answer_within natives.StringCharAt (values.Ref string ∷ values.Int place ∷ []) = text_passes it string _ (λ units. unit_passes place units)
   answer_within natives.StringEquals (values.Ref string ∷ values.Ref other ∷ []) =
-      text_passes it string _ (λ units. bool_passes it (equal_texts it.state units (of_kind it.state library.string other)))
+      text_passes it string _ (λ units. bool_passes it (equal_texts it.state units (of_kind it.state.objects library.string other)))
   answer_within natives.StringHashCode (values.Ref string ∷ []) = int_of_text string _
   answer_within natives.StringCompareTo (values.Ref string ∷ values.Ref other ∷ []) = int_of_two string other _
   answer_within natives.StringIndexOfUnit (values.Ref string ∷ values.Int unit ∷ []) = int_of_text string _

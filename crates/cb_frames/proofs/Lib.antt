@@ -9,6 +9,7 @@ mod Parted
 mod Parts
 mod Same
 mod Searched
+mod SlotLists
 mod Slotted
 mod Stacked
 mod Tables

@@ -105,6 +105,11 @@ pub kept_value : (limit : ℕ) (xs ys : List Value) (top now : Standing) (list :
 kept_value limit xs ys top now list change held is kept =
     ap (λ frames. let all : Held = record { limit = limit; frames = frames } in all) kept.view ∙ ap (λ all. with_change all change) is
 
+-- where slots are others that are kept
+pub kept_put : (slots others : List Slot) (xs : List Value) (top now : Standing) (list : List Standing) (change : Frame → Frame) → slots ≡ others
+    → Kept xs (map value_of others) top now list change → Kept xs (map value_of slots) top now list change
+kept_put slots others xs top now list change same kept = subst (λ slots. Kept xs (map value_of slots) top now list change) (sym same) kept
+
 -- whether there is room for another frame
 pub room_decided : (limit : ℕ) (xs : List Value) (top : Standing) (below : List Standing) (free slots size : ℕ) (held : Held)
     → ◌≡◌ {A = Held} (record { limit = limit; frames = frames_in xs top (drop free below) }) held

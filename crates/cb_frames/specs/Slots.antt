@@ -1,5 +1,5 @@
 -- Values as they lie in slots.
-use Rattle.std.specs.Prelude.{ℕ, ◌^◌, ◌%◌}
+use Rattle.std.specs.Prelude.{ℕ, ◌^◌, ◌%◌, List, [], ◌∷◌}
 use Rattle.std.specs.Int.{cast_signed, w32, w64}
 use Rattle.cb_plain.specs.declared.value.Value.{Value}
 use Rattle.cb_plain.specs.declared.value.Value.TheVariants as values
@@ -19,3 +19,9 @@ value_of slot = value_in slot.kind slot.word
 -- the slot that holds the int 0
 abbrev pub blank_slot : Slot
 blank_slot = record { kind = kinds.Int; word = 0 }
+
+-- slots by their kinds and their words
+abbrev pub slots_with : List Kind → List ℕ → List Slot
+slots_with [] words = []
+slots_with (kind ∷ kinds) [] = []
+slots_with (kind ∷ kinds) (word ∷ words) = record { kind = kind; word = word } ∷ slots_with kinds words

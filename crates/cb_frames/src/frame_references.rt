@@ -52,7 +52,7 @@ impl FrameStack {
         if i >= used_to(&self.top, &self.below, self.free, i) {
             return 0;
         }
-        let slot = &self.slots[i];
+        let slot = self.slots.get(i);
         reference_in(slot.kind, slot.word)
     }
 
@@ -63,9 +63,10 @@ impl FrameStack {
         ensures rest { map nulled_frame self.new.frames ≡ map nulled_frame self.old.frames }
         ensures limit { self.new.limit ≡ self.old.limit }
     {
-        self.slots[i] = Slot {
+        let slot = Slot {
             kind: Kind::Ref,
             word: to,
         };
+        self.slots.set(i, slot);
     }
 }

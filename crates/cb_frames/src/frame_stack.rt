@@ -7,7 +7,7 @@ ghost use Rattle.cb_frames.specs.Held.{with_change};
 ghost use Rattle.cb_frames.specs.Tops.{at_place, topmost};
 
 use crate::Frame;
-use crate::slot::{Kind, Slot};
+use crate::slot_list::SlotList;
 use crate::standing::{Standing, What};
 use cb_plain::OutOfMemory;
 use std::alloc::Global;
@@ -21,7 +21,7 @@ const SLOTS_EACH: usize = 64;
 #[derive(Drop)]
 pub(crate) struct FrameStack {
     pub(crate) limit: u32,
-    pub(crate) slots: Vec<Slot>,
+    pub(crate) slots: SlotList,
     pub(crate) top: Standing,
     // Those below the topmost one are behind the places that are free, the lowest last, and behind it one that is no frame.
     pub(crate) below: Vec<Standing>,
@@ -36,9 +36,9 @@ impl Model for FrameStack {
 
     ghost Value = { Held };
 
-    ghost view = { λ stack. record { limit = stack.limit; frames = frames_in (map value_of stack.slots.items) stack.top (drop stack.free stack.below.items) } };
+    ghost view = { λ stack. record { limit = stack.limit; frames = frames_in (map value_of stack.slots) stack.top (drop stack.free stack.below.items) } };
 
-    ghost invariant = { λ stack. AreLaid stack.limit (length stack.slots.items) stack.top stack.below.items stack.free };
+    ghost invariant = { λ stack. AreLaid stack.limit (length stack.slots) stack.top stack.below.items stack.free };
 }
 
 impl FrameStack {
@@ -47,11 +47,7 @@ impl FrameStack {
         ensures { IfOk result (λ stack. stack ≡ record { limit = limit; frames = [] }) }
     {
         let count = limit as usize;
-        let blank = Slot {
-            kind: Kind::Int,
-            word: 0,
-        };
-        let slots = vec![in alloc; blank; SLOTS_EACH * count]?;
+        let slots = SlotList::make(alloc, SLOTS_EACH * count)?;
         let below = vec![in alloc; Standing::bottom(); count]?;
         Ok(FrameStack {
             limit,
@@ -67,7 +63,7 @@ impl FrameStack {
     pub(crate) fn none(alloc: Global) -> FrameStack {
         FrameStack {
             limit: 0,
-            slots: Vec::new(alloc),
+            slots: SlotList::none(alloc),
             top: Standing::bottom(),
             below: Vec::new(alloc),
             free: 0,

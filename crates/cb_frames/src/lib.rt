@@ -23,6 +23,7 @@ mod references;
 mod roots;
 mod sizes;
 mod slot;
+mod slot_list;
 mod slots;
 mod standing;
 

@@ -6,7 +6,7 @@ ghost use Rattle.cb_frames.specs.Held.{with_change};
 ghost use Rattle.cb_frames.specs.Tops.{is_long, locals_in, on_top, room_in, stack_in, with_locals, with_stack};
 
 use crate::frame_stack::FrameStack;
-use crate::slot::{Slot, int_in, is_long, long_in, slot_of, value_in};
+use crate::slot::{int_in, is_long, long_in, slot_of, value_in};
 use cb_plain::Value;
 
 impl FrameStack {
@@ -16,7 +16,7 @@ impl FrameStack {
         requires { i < length (on_top [] locals_in self.now.frames) }
         ensures { slice_get (on_top [] locals_in self.now.frames) i ≡ Some result }
     {
-        let slot = &self.slots[self.top.base + i as usize];
+        let slot = self.slots.get(self.top.base + i as usize);
         value_in(slot.kind, slot.word)
     }
 
@@ -26,7 +26,7 @@ impl FrameStack {
         requires { i < length (on_top [] locals_in self.now.frames) }
         ensures { (number : ℤ) → slice_get (on_top [] locals_in self.now.frames) i ≡ Some (values.Int number) → result ≡ number }
     {
-        int_in(self.slots[self.top.base + i as usize].word)
+        int_in(self.slots.get(self.top.base + i as usize).word)
     }
 
     /// Gives a local variable another value.
@@ -35,7 +35,7 @@ impl FrameStack {
         requires { i < length (on_top [] locals_in self.old.frames) }
         ensures { self.new ≡ with_change self.old (with_locals (λ locals. slice_set locals i value)) }
     {
-        self.slots[self.top.base + i as usize] = slot_of(value);
+        self.slots.set(self.top.base + i as usize, slot_of(value));
     }
 
     /// Puts a value on the stack.
@@ -44,7 +44,7 @@ impl FrameStack {
         requires { 0 < on_top 0 room_in self.old.frames }
         ensures { self.new ≡ with_change self.old (with_stack (λ stack. value ∷ stack)) }
     {
-        self.slots[self.top.next] = slot_of(value);
+        self.slots.set(self.top.next, slot_of(value));
         self.top.next += 1;
     }
 
@@ -55,10 +55,8 @@ impl FrameStack {
         requires room { 0 < on_top 0 room_in self.old.frames }
         ensures { (value : Value) → slice_get (on_top [] locals_in self.old.frames) i ≡ Some value → self.new ≡ with_change self.old (with_stack (λ stack. value ∷ stack)) }
     {
-        let slot = &self.slots[self.top.base + i as usize];
-        let kind = slot.kind;
-        let word = slot.word;
-        self.slots[self.top.next] = Slot { kind, word };
+        let slot = self.slots.get(self.top.base + i as usize);
+        self.slots.set(self.top.next, slot);
         self.top.next += 1;
     }
 
@@ -72,7 +70,7 @@ impl FrameStack {
     {
         let next = self.top.next - 1;
         self.top.next = next;
-        let slot = &self.slots[next];
+        let slot = self.slots.get(next);
         value_in(slot.kind, slot.word)
     }
 
@@ -86,12 +84,10 @@ impl FrameStack {
         ensures room { on_top 0 room_in self.new.frames ≡ on_top 0 room_in self.old.frames + 1 }
     {
         let next = self.top.next - 1;
-        let slot = &self.slots[next];
-        let kind = slot.kind;
-        let word = slot.word;
+        let slot = self.slots.get(next);
         self.top.next = next;
-        self.slots[self.top.base + i as usize] = Slot { kind, word };
-        is_long(kind)
+        self.slots.set(self.top.base + i as usize, slot);
+        is_long(slot.kind)
     }
 
     /// The value at a depth of the stack; the topmost one is at 0.
@@ -100,7 +96,7 @@ impl FrameStack {
         requires { below < length (on_top [] stack_in self.now.frames) }
         ensures { slice_get (on_top [] stack_in self.now.frames) below ≡ Some result }
     {
-        let slot = &self.slots[self.top.next - 1 - below as usize];
+        let slot = self.slots.get(self.top.next - 1 - below as usize);
         value_in(slot.kind, slot.word)
     }
 
@@ -110,7 +106,7 @@ impl FrameStack {
         requires { below < length (on_top [] stack_in self.now.frames) }
         ensures { (number : ℤ) → slice_get (on_top [] stack_in self.now.frames) below ≡ Some (values.Int number) → result ≡ number }
     {
-        int_in(self.slots[self.top.next - 1 - below as usize].word)
+        int_in(self.slots.get(self.top.next - 1 - below as usize).word)
     }
 
     /// The number at a depth of the stack, where a long is there.
@@ -119,7 +115,7 @@ impl FrameStack {
         requires { below < length (on_top [] stack_in self.now.frames) }
         ensures { (number : ℤ) → slice_get (on_top [] stack_in self.now.frames) below ≡ Some (values.Long number) → result ≡ number }
     {
-        long_in(self.slots[self.top.next - 1 - below as usize].word)
+        long_in(self.slots.get(self.top.next - 1 - below as usize).word)
     }
 
     /// The place at a depth of the stack, where a reference is there.
@@ -128,7 +124,7 @@ impl FrameStack {
         requires { below < length (on_top [] stack_in self.now.frames) }
         ensures { (to : ℕ) → slice_get (on_top [] stack_in self.now.frames) below ≡ Some (values.Ref to) → result ≡ to }
     {
-        self.slots[self.top.next - 1 - below as usize].word
+        self.slots.get(self.top.next - 1 - below as usize).word
     }
 
     /// Takes all values from the stack.

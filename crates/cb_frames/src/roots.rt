@@ -34,7 +34,7 @@ impl Model for Roots {
 }
 
 impl Roots {
-    /// Roots of these sizes: no frame stands, every static field holds the int 0, and no class has begun to be initialised. Takes 16 bytes
+    /// Roots of these sizes: no frame stands, every static field holds the int 0, and no class has begun to be initialised. Takes 9 bytes
     /// for each of 64 slots a frame, 48 for each frame, 16 for each static field, 8 for each place of a table and one for each class.
     /// `OutOfMemory` where that room was not to be had.
     pub fn make(alloc: Global, sizes: RootSizes) -> Result<Roots, OutOfMemory>

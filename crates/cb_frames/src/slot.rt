@@ -15,8 +15,7 @@ pub(crate) enum Kind {
     Ref,
 }
 
-/// A value by its kind and a word: an int has its 32 bits there, a long its 64 bits, and a reference its place. A slot is read and written
-/// field by field: a processor waits where it has to read two writes at once.
+/// A value by its kind and a word: an int has its 32 bits there, a long its 64 bits, and a reference its place.
 #[derive(Clone, Copy, Debug, Drop, Eq, PartialEq)]
 pub(crate) struct Slot {
     pub(crate) kind: Kind,

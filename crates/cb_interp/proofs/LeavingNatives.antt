@@ -1,6 +1,6 @@
 -- Of the library's natives those that print are methods of java/io/PrintStream alone, at their places of the table; and what is left of a
 -- native that isn't done.
-use Rattle.std.proofs.Common.{◌≡◌, ◌∙◌, ap, refl, sym, ℕ, zero, suc, ◌&&◌, not, Bool, true, false, List, [], ◌∷◌, Option, Some, None}
+use Rattle.std.proofs.Common.{◌≡◌, ◌∙◌, ap, ap₂, refl, sym, ℕ, zero, suc, ◌&&◌, ◌||◌, not, Bool, true, false, List, [], ◌∷◌, Option, Some, None}
 use Rattle.std.specs.List.{list_all}
 use Rattle.std.specs.Prelude.{option_and_then, option_map, slice_get}
 use Rattle.std.proofs.lemmas.Bool.{and_parts, false≢true}
@@ -13,10 +13,13 @@ use Rattle.cb_link.specs.Program.{Linked}
 use Rattle.cb_link.specs.declared.decoded.Decoded.{Decoded}
 use Rattle.cb_link.specs.declared.linked.LinkedMethod.{LinkedMethod}
 use Rattle.cb_machine.specs.Machine.{Machine}
+use Rattle.cb_machine.specs.Natives.{native_in}
 use Rattle.cb_plain.specs.State.{State}
 use Rattle.cb_act.specs.Acting.{Asks, acted}
 use Rattle.cb_act.specs.Here.{Here, standing_here}
-use Rattle.cb_interp.specs.Leaving.{Leaves, is_done}
+use Rattle.cb_natives.specs.Answers.{gives_answer}
+use Rattle.cb_natives.specs.Makers.{makes}
+use Rattle.cb_interp.specs.Leaving.{Leaves, is_done, is_performed}
 use Rattle.cb_interp.specs.Printing.{IsNoneOf, prints_text, prints_value}
 use Rattle.cb_act.specs.Steps.{view_of}
 use Rattle.cb_act.specs.declared.need.Need.TheVariants as needs
@@ -60,10 +63,6 @@ row_beside test (suc but) (first ∷ rows) (suc place) row all other is =
     row_beside test but rows place row (and_parts (row_fails test first) (fails_beside test but rows) all).1 (λ same. other (ap suc same)) is
 
 -- ---- of a method
-
-abbrev native_in : Kind → Option Native
-native_in (Performed native) = Some native
-native_in other = None
 
 abbrev method_native : Option Method → Option Native
 method_native method = option_and_then (λ method. native_in method.kind) method
@@ -111,24 +110,24 @@ no_text_elsewhere program method class is other = elsewhere prints_text program 
 
 -- ---- what is left
 
-done_by : (native : Native) → prints_value native ≡ false → prints_text native ≡ false → is_done native ≡ false
-done_by natives.PrintBoolean value text = absurd (false≢true (sym value))
-done_by natives.PrintChar value text = absurd (false≢true (sym value))
-done_by natives.PrintInt value text = absurd (false≢true (sym value))
-done_by natives.PrintLong value text = absurd (false≢true (sym value))
-done_by natives.PrintString value text = absurd (false≢true (sym text))
-done_by natives.PrintlnBoolean value text = absurd (false≢true (sym value))
-done_by natives.PrintlnChar value text = absurd (false≢true (sym value))
-done_by natives.PrintlnInt value text = absurd (false≢true (sym value))
-done_by natives.PrintlnLong value text = absurd (false≢true (sym value))
-done_by natives.PrintlnString value text = absurd (false≢true (sym text))
-done_by natives.Println value text = absurd (false≢true (sym value))
-done_by other value text = refl
+done_by : (native : Native) → prints_value native ≡ false → prints_text native ≡ false → is_performed native ≡ false → is_done native ≡ false
+done_by natives.PrintBoolean value text answer = absurd (false≢true (sym value))
+done_by natives.PrintChar value text answer = absurd (false≢true (sym value))
+done_by natives.PrintInt value text answer = absurd (false≢true (sym value))
+done_by natives.PrintLong value text answer = absurd (false≢true (sym value))
+done_by natives.PrintString value text answer = absurd (false≢true (sym text))
+done_by natives.PrintlnBoolean value text answer = absurd (false≢true (sym value))
+done_by natives.PrintlnChar value text answer = absurd (false≢true (sym value))
+done_by natives.PrintlnInt value text answer = absurd (false≢true (sym value))
+done_by natives.PrintlnLong value text answer = absurd (false≢true (sym value))
+done_by natives.PrintlnString value text answer = absurd (false≢true (sym text))
+done_by natives.Println value text answer = absurd (false≢true (sym value))
+done_by other value text answer = answer
 
 pub leaves_native : (machine : Machine) (state : State) (decoded : Decoded) (at : Here machine state decoded) (method : ℕ)
     → acted machine.program machine.frames decoded (view_of state) ≡ Some (Asks (needs.Performs method)) → IsNoneOf prints_value machine.program method
-    → IsNoneOf prints_text machine.program method → Leaves machine state
-leaves_native machine state decoded at method asks values texts =
+    → IsNoneOf prints_text machine.program method → IsNoneOf is_performed machine.program method → Leaves machine state
+leaves_native machine state decoded at method asks values texts answers =
     let performing : Performing (standing_here machine state decoded at) method = native_asked machine state decoded at method asks in
     record {
       decoded = decoded;
@@ -137,5 +136,9 @@ leaves_native machine state decoded at method asks values texts =
       native = performing.native;
       is = performing.is;
       asked = asks;
-      left = done_by performing.native (values performing.native performing.is) (texts performing.native performing.is);
+      left = done_by performing.native (values performing.native performing.is) (texts performing.native performing.is) (answers performing.native performing.is);
     }
+
+-- a native that neither answers nor places or changes objects isn't performed
+pub none_performed : (program : Linked) (method : ℕ) → IsNoneOf gives_answer program method → IsNoneOf makes program method → IsNoneOf is_performed program method
+none_performed program method answers making native is = ap₂ (λ (one other : Bool). one || other) (answers native is) (making native is)

@@ -6,10 +6,14 @@ mod LeavingNatives
 mod LinkedConstants
 mod LinkedFew
 mod LinkedFit
+mod LinkedMaking
 mod LinkedMarks
 mod MadeActions
 mod MadeNames
 mod MakingSteps
+mod NativesAnswered
+mod NativesGiven
+mod NativesMade
 mod QuickPlaces
 mod QuickPlain
 mod QuickSteps

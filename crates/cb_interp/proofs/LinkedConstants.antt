@@ -1,6 +1,6 @@
 -- In a linked program constants may be placed: strings, their characters and class objects have the words that the machine's step gives them,
 -- texts are short, and what is named is there.
-use Rattle.std.proofs.Common.{◌≡◌, ◌∙◌, ap, refl, sym, subst, arith, ℕ, zero, suc, ◌+◌, ◌<◌, ◌≤◌, ◌^◌, Bool, true, false, List, [], ◌∷◌, length, map, Option, Some, None, option_and_then, option_map, slice_get}
+use Rattle.std.proofs.Common.{◌≡◌, ◌∙◌, ap, refl, sym, subst, arith, ℕ, ◌+◌, ◌<◌, ◌^◌, Bool, true, false, List, [], ◌∷◌, length, map, Option, Some, None, option_and_then, option_map, slice_get}
 use Rattle.std.specs.Prelude.{IfSome, if◌then◌else◌}
 use Rattle.std.specs.Option.{option_or}
 use Rattle.std.proofs.lemmas.List.{length-append}
@@ -51,12 +51,12 @@ one_marked value (first ∷ []) mark some each = ap (λ (own : Bool). own ∷ []
 one_marked value (first ∷ second ∷ more) mark some each = let none = (each 1 second refl).0 in absurd (omega (arith, none))
 
 module _ (program : Linked) (whole : IsWhole program) (all : List Shape) (are : ShapesOf program all) where
-  kind_low : (kind class : ℕ) → class_of_kind program kind ≡ Some class → kind < length program.kinds
+  pub kind_low : (kind class : ℕ) → class_of_kind program kind ≡ Some class → kind < length program.kinds
   kind_low kind class is =
       option_and_then_some (class_number program.classes) (slice_get program.kinds kind) class is
       (λ name named numbered. slice_get_within program.kinds kind name named)
 
-  one_field : (value : Bool) (kind : ℕ) (basic : Basic) (has : HasField program kind 0 basic)
+  pub one_field : (value : Bool) (kind : ℕ) (basic : Basic) (has : HasField program kind 0 basic)
       → ((slot : ℕ) (own : Basic) → field_basic program has.class slot ≡ Some own → (slot ≡ 0) × (is_reference own ≡ value))
       → shape program kind ≡ shapes.Fields (value ∷ [])
   one_field value kind basic has fits =
@@ -70,7 +70,7 @@ module _ (program : Linked) (whole : IsWhole program) (all : List Shape) (are : 
       let so = fits slot own (ap (option_and_then (basic_of_field program)) there ∙ is) in
       (so.0, ap is_some_reference is ∙ so.1)))
 
-  elements_shape : (kind : ℕ) (basic : Basic) → element_of program kind ≡ Some basic → shape program kind ≡ shapes.Elements (is_reference basic)
+  pub elements_shape : (kind : ℕ) (basic : Basic) → element_of program kind ≡ Some basic → shape program kind ≡ shapes.Elements (is_reference basic)
   elements_shape kind basic elements = ap (shape_with program (or_none (slice_get program.kinds kind))) elements
 
   -- ---- a text

@@ -5,7 +5,7 @@ use Rattle.std.specs.Prelude.{IsSomeAnd}
 use Rattle.std.specs.List.{AllByRecursion}
 use Rattle.std.proofs.lemmas.List.{length-map}
 use Rattle.std.proofs.lemmas.List.Sums.{sum_by-cons}
-use Rattle.std.proofs.lemmas.Option.{same_Some, slice_get-map}
+use Rattle.std.proofs.lemmas.Option.{slice_get-map}
 use Rattle.cb_classfile.specs.Class.{IsWellFormed}
 use Rattle.cb_classfile.specs.Members.{HasFewWords, IsMethod, SpellsMethod}
 use Rattle.cb_classfile.specs.Pool.{text_at}

@@ -29,9 +29,9 @@ use Rattle.cb_plain.specs.declared.shape.Shape.{Shape}
 use Rattle.cb_plain.specs.declared.shape.Shape.TheVariants as shapes
 use Rattle.cb_safety.specs.Naming.{HasField}
 use Rattle.cb_safety.specs.Performing.{HaveField}
-use Rattle.cb_safety.specs.Throwing.{AreThrown, IsThrown, thrown_sites}
+use Rattle.cb_safety.specs.Throwing.{IsThrown, thrown_sites}
 use Rattle.cb_verify.specs.Within.{kind_of_throwable}
-use Rattle.cb_interp.specs.Fit.{ArraysFit, ExceptionsFit, IsPlacedAs, ObjectsFit, ShapesOf}
+use Rattle.cb_interp.specs.Fit.{ArraysFit, ThrowablesFit, IsPlacedAs, ObjectsFit, ShapesOf}
 use Rattle.cb_act.proofs.Laws.{all_at, all_joined}
 use Rattle.cb_interp.proofs.LinkedMarks.{never}
 
@@ -103,7 +103,7 @@ module _ (program : Linked) (whole : IsWhole program) (all : List Shape) (are : 
   shape_is kind name is = are kind (slice_get_within program.kinds kind name is)
 
   -- of an array
-  kind_there : (kind : ℕ) (found : Option (List ℕ)) → slice_get program.kinds kind ≡ found → (basic : Basic) → component_of program.kinds (or_none found) ≡ Some basic → slice_get all kind ≡ Some (shape program kind)
+  pub kind_there : (kind : ℕ) (found : Option (List ℕ)) → slice_get program.kinds kind ≡ found → (basic : Basic) → component_of program.kinds (or_none found) ≡ Some basic → slice_get all kind ≡ Some (shape program kind)
   kind_there kind None is basic elements = never elements
   kind_there kind (Some name) is basic elements = shape_is kind name is
 
@@ -187,21 +187,21 @@ module _ (program : Linked) (whole : IsWhole program) (all : List Shape) (are : 
       length-append program.fixed (map (λ (site : Site). site.kind) program.sites) in
       omega (arith, low, fixed, both)
 
-  thrown_low : (site : ℕ) → Contains thrown_sites site → site < 32
-  thrown_low site (place, low, is) =
-      all_at (λ site. site < 32) thrown_sites place site all_low (slice_get-get_or thrown_sites place site low ∙ ap {B = Option ℕ} Some is)
-    where
-      all_low : AllByRecursion (λ site. site < 32) thrown_sites
-      all_low = (omega arith, (omega arith, (omega arith, (omega arith, (omega arith, (omega arith, (omega arith, (omega arith, (omega arith, (omega arith, (omega arith, tt)))))))))))
-
-  pub exceptions_fit : AreThrown program → (basic : Basic) → HaveField program kind_of_throwable 2 basic → ExceptionsFit program all
-  exceptions_fit thrown basic have site among =
+  pub throwables_fit : (basic : Basic) → HaveField program kind_of_throwable 2 basic → ThrowablesFit program all
+  throwables_fit basic have site low is =
       let kind : ℕ = kind_of_site program site in
-      let is : IsThrown program kind = thrown site among in
       let has : HasField program kind 2 basic = have kind is.throwable in
       let marks = exception_marks kind is basic has in
       record {
-        there = sites_there site (thrown_low site among);
+        there = sites_there site low;
         placed =
             subst (λ (marks : List Bool). IsPlacedAs all site kind (length (map blank marks)) (map blank marks)) marks (fields_placed site kind has.class has.classed);
       }
+
+-- the sites of the machine's exceptions are among the first
+pub thrown_low : (site : ℕ) → Contains thrown_sites site → site < 32
+thrown_low site (place, low, is) =
+    all_at (λ site. site < 32) thrown_sites place site all_low (slice_get-get_or thrown_sites place site low ∙ ap {B = Option ℕ} Some is)
+  where
+    all_low : AllByRecursion (λ site. site < 32) thrown_sites
+    all_low = (omega arith, (omega arith, (omega arith, (omega arith, (omega arith, (omega arith, (omega arith, (omega arith, (omega arith, (omega arith, (omega arith, tt)))))))))))

@@ -23,7 +23,7 @@ use Rattle.cb_link.specs.Numbers.{Numbered, has_flag, methods_of}
 use Rattle.cb_link.specs.Places.{IsPlaced}
 use Rattle.cb_link.specs.Program.{Linked, linked, linked_method}
 use Rattle.cb_link.specs.declared.linked.LinkedMethod.{LinkedMethod}
-use Rattle.cb_machine.specs.Natives.{native_of}
+use Rattle.cb_machine.specs.Natives.{native_at, native_in, native_of}
 use Rattle.cb_safety.specs.Linked.{IsLinked}
 use Rattle.cb_safety.specs.Loaded.{IsSupported}
 use Rattle.cb_text.specs.declared.constant.Constant.{Constant}
@@ -70,14 +70,6 @@ row_of Is (row ∷ table) (first ∷ items) (suc place) item are is =
     let own = row_of Is table items place item are.1 is in record { row = own.row; there = own.there; is = own.is }
 
 -- ---- of the library's methods
-
-abbrev native_in : Kind → Option Native
-native_in (rows.Performed native) = Some native
-native_in other = None
-
-abbrev native_at : ℕ → ℕ → Option Native
-native_at class place =
-    option_and_then (λ (row : CoreClass). option_and_then (λ (method : rows.Method). native_in method.kind) (slice_get row.methods place)) (slice_get core_classes class)
 
 all_fit : list_all (λ (row : CoreClass). list_all fits_flags row.methods) core_classes ≡ true
 all_fit = refl

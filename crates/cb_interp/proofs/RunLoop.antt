@@ -1,5 +1,5 @@
 -- Runs that have made so many turns, and how they end.
-use Rattle.std.proofs.Common.{◌≡◌, ◌∙◌, ◌++◌, ◌<◌, ◌≤◌, ap, append_assoc, append-nil, arith, refl, sym, subst, ℕ, ◌==◌, if◌then◌else◌, Bool, IsTrue, List, [], ◌∷◌, Option, Some, None, zero, suc}
+use Rattle.std.proofs.Common.{◌≡◌, ◌∙◌, ◌++◌, ◌<◌, ◌≤◌, ap, append_assoc, append-nil, arith, refl, sym, subst, ℕ, ◌==◌, if◌then◌else◌, IsTrue, List, [], ◌∷◌, Option, Some, None, zero, suc}
 use Rattle.std.proofs.lemmas.Option.{same_Some}
 use Rattle.std.specs.Io.KnownBytes.{Appends}
 use Rattle.std.specs.Prelude.{option_map}
@@ -16,10 +16,9 @@ use Rattle.cb_machine.specs.Steps.{plan}
 use Rattle.cb_machine.specs.declared.outcome.Outcome.TheVariants as outcomes
 use Rattle.cb_plain.specs.State.{Frame, Object, Roots, State}
 use Rattle.cb_plain.specs.Updates.{object_at, object_in}
-use Rattle.cb_act.specs.Keeping.{kept_plan, kept_state}
 use Rattle.cb_interp.specs.Running.{Ended, EndsBy, IsEndOf, Prints, SaysBy, StopsBy, TurnStops, Turned, WentOut, has_ended, outside_of}
 use Rattle.cb_act.specs.Steps.{view_of}
-use Rattle.cb_act.specs.Turning.{Moment, Outside, StandsAt, TurnMade, Turns, moment_of, state_of}
+use Rattle.cb_act.specs.Turning.{Moment, Outside, StandsAt, TurnMade, Turns, moment_of}
 use Rattle.cb_interp.specs.declared.end.End.{End}
 use Rattle.cb_interp.specs.declared.end.End.TheVariants as ends
 use Rattle.cb_interp.specs.declared.stop.Stop.{Stop}

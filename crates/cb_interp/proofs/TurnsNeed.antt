@@ -1,5 +1,5 @@
 -- What a turn hands on that stops for want of room, and where none is made; and a typed state that stands at an instruction has a step.
-use Rattle.std.proofs.Common.{◌≡◌, ap, refl, sym, subst, arith, ℕ, true}
+use Rattle.std.proofs.Common.{◌≡◌, ap, refl, sym, subst, ℕ, true}
 use Rattle.std.specs.Prelude.{IfErr, IsErrOf, OnOk, is_some}
 use Rattle.std.specs.declared.result.Result.{Result}
 use Rattle.std.specs.declared.result.Result.TheVariants.{Err, Ok}

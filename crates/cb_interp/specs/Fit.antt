@@ -15,7 +15,7 @@ use Rattle.cb_machine.specs.Plans.{object_of}
 use Rattle.cb_machine.specs.Throwing.{exception_contents}
 use Rattle.cb_plain.specs.State.{Content}
 use Rattle.cb_plain.specs.declared.shape.Shape.{Shape}
-use Rattle.cb_safety.specs.Throwing.{thrown_sites}
+use Rattle.cb_safety.specs.Throwing.{IsThrown, thrown_sites}
 use Rattle.cb_act.specs.Placing.{exception_size}
 
 -- the shapes of its kinds
@@ -27,10 +27,13 @@ pub record IsPlacedAs (shapes : List Shape) (site kind size : ℕ) (contents : L
   pub sized : has_size shapes kind size ≡ true
   pub shaped : new_object shapes site kind size ≡ object_of site kind contents
 
--- so it is of the exceptions of the machine, which have a site each, of the objects of a class, and of arrays
+-- so it is of the exceptions that the machine and its natives throw, which have a site each, of the objects of a class, and of arrays
 pub record IsThrownAs (program : Linked) (shapes : List Shape) (site : ℕ) : Type 0 where
   pub there : site < length (site_kinds program)
   pub placed : IsPlacedAs shapes site (kind_of_site program site) exception_size (exception_contents 0 0)
+
+abbrev pub ThrowablesFit : Linked → List Shape → Type 0
+ThrowablesFit program shapes = (site : ℕ) → site < 32 → IsThrown program (kind_of_site program site) → IsThrownAs program shapes site
 
 abbrev pub ExceptionsFit : Linked → List Shape → Type 0
 ExceptionsFit program shapes = (site : ℕ) → Contains thrown_sites site → IsThrownAs program shapes site

@@ -1,10 +1,12 @@
 -- Where a run leaves off before it has ended: its next step performs a native that isn't done yet.
-use Rattle.std.specs.Prelude.{◌≡◌, ℕ, Bool, true, false, Some}
+use Rattle.std.specs.Prelude.{◌≡◌, ◌||◌, ℕ, Bool, true, false, Some}
 use Rattle.cb_library.specs.declared.native.Native.{Native}
 use Rattle.cb_library.specs.declared.native.Native.TheVariants as natives
 use Rattle.cb_link.specs.declared.decoded.Decoded.{Decoded}
 use Rattle.cb_machine.specs.Machine.{Machine}
 use Rattle.cb_machine.specs.Natives.{native_of}
+use Rattle.cb_natives.specs.Answers.{gives_answer}
+use Rattle.cb_natives.specs.Makers.{makes}
 use Rattle.cb_plain.specs.State.{State}
 use Rattle.cb_act.specs.Acting.{Asks, acted}
 use Rattle.cb_act.specs.Here.{Here}
@@ -13,7 +15,12 @@ use Rattle.cb_act.specs.declared.need.Need.TheVariants as needs
 use Rattle.cb_interp.specs.declared.stop.Stop.{Stop}
 use Rattle.cb_interp.specs.declared.stop.Stop.TheVariants as stops
 
--- the natives that are done: those that print a boolean, a char, an int, a long, a string or a newline (Java SE 8 API, java.io.PrintStream)
+-- natives that are performed over any store: those that give a number or nothing, and those that place objects or change them
+abbrev pub is_performed : Native → Bool
+is_performed native = gives_answer native || makes native
+
+-- the natives that are done: these, and those that print a boolean, a char, an int, a long, a string or a newline (Java SE 8 API,
+-- java.io.PrintStream)
 abbrev pub is_done : Native → Bool
 is_done natives.PrintBoolean = true
 is_done natives.PrintChar = true
@@ -26,7 +33,7 @@ is_done natives.PrintlnInt = true
 is_done natives.PrintlnLong = true
 is_done natives.PrintlnString = true
 is_done natives.Println = true
-is_done other = false
+is_done other = is_performed other
 
 -- the instruction at which the run stands asks for another one
 pub record Leaves (machine : Machine) (state : State) : Type 0 where

@@ -1,3 +1,4 @@
+pub mod Answering
 pub mod Arguments
 pub mod Dividing
 pub mod Fit
@@ -7,6 +8,7 @@ pub mod Loading
 pub mod Making
 pub mod Needing
 pub mod Nested
+pub mod Performing
 pub mod Printing
 pub mod Quick
 pub mod Running

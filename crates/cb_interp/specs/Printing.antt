@@ -1,14 +1,13 @@
 -- What natives that print do and leave (Java SE 8 API, java.io.PrintStream).
-use Rattle.std.specs.Prelude.{◌≡◌, ◌<◌, ◌^◌, ◌&&◌, ℤ, pos, ℕ, Bool, true, false, IsTrue, List, [], ◌∷◌, ◌++◌, codes, drop, length, map, Option, Some, None, option_and_then, slice_get, zero, suc}
+use Rattle.std.specs.Prelude.{◌≡◌, ◌<◌, ◌^◌, ◌&&◌, ℤ, pos, ℕ, Bool, true, false, IsTrue, List, [], ◌∷◌, ◌++◌, codes, drop, length, map, Option, Some, option_and_then, slice_get, zero, suc}
 use Rattle.cb_frames.specs.Tops.{placed, top_stack}
 use Rattle.cb_heap.specs.Kept.{content_at, contents_at, is_held, is_reference}
 use Rattle.cb_io.specs.Utf8.{utf8}
-use Rattle.cb_library.specs.Rows.{Kind, Performed}
 use Rattle.cb_library.specs.Text.{print_stream_class}
 use Rattle.cb_library.specs.declared.native.Native.{Native}
 use Rattle.cb_library.specs.declared.native.Native.TheVariants as natives
 use Rattle.cb_link.specs.Program.{Linked}
-use Rattle.cb_machine.specs.Natives.{native_of}
+use Rattle.cb_machine.specs.Natives.{native_in, native_of}
 use Rattle.cb_machine.specs.Texts.{digits, truth, unit_of}
 use Rattle.cb_plain.specs.declared.value.Value.{Value}
 use Rattle.cb_plain.specs.declared.value.Value.TheVariants.{Int, Long, Ref}
@@ -22,10 +21,6 @@ use Rattle.cb_interp.specs.declared.printing.Print.TheVariants as prints
 -- the native at a place of the row of java/io/PrintStream in the library's table, whose class has this number
 abbrev pub print_stream : ℕ
 print_stream = 12
-
-abbrev native_in : Kind → Option Native
-native_in (Performed native) = Some native
-native_in other = None
 
 abbrev pub stream_native : ℕ → Option Native
 stream_native place = option_and_then (λ method. native_in method.kind) (slice_get print_stream_class.methods place)

@@ -10,6 +10,7 @@
 //! until the program ends, its steps are spent, room is refused, a write fails, or a native comes that isn't done yet (`Running`, `Leaving`).
 #![tactic(auto)]
 
+mod answer_turns;
 mod arguments;
 mod beginning;
 mod class_loads;
@@ -28,9 +29,11 @@ mod making_law;
 mod native_turns;
 mod need_sites;
 mod need_turns;
+mod needed_turns;
 mod nested_turns;
 mod numbers_only;
 mod parent_turns;
+mod perform_turns;
 mod printing;
 mod quick_turns;
 mod running;

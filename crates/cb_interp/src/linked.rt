@@ -4,11 +4,13 @@ ghost use Rattle.cb_link.specs.Having.{site_kinds};
 ghost use Rattle.cb_link.specs.Named.{IsThere, named};
 ghost use Rattle.cb_link.specs.Program.{Linked};
 ghost use Rattle.cb_machine.specs.Sites.{constant_characters};
+ghost use Rattle.cb_natives.specs.Making.{MayMake};
 ghost use Rattle.cb_plain.specs.declared.shape.Shape.{Shape};
 ghost use Rattle.cb_safety.specs.Linked.{IsLinked};
+ghost use Rattle.cb_safety.specs.Throwing.{AreThrown};
 ghost use Rattle.cb_verify.specs.Typed.{IsTyped};
 ghost use Rattle.cb_act.specs.Acting.{HasFewParameters, MarksNatives};
-ghost use Rattle.cb_interp.specs.Fit.{ArraysFit, ExceptionsFit, ObjectsFit, ShapesOf};
+ghost use Rattle.cb_interp.specs.Fit.{ArraysFit, ExceptionsFit, ObjectsFit, ShapesOf, ThrowablesFit};
 ghost use Rattle.cb_interp.specs.Loading.{MayPlace, MayPlaceClass};
 ghost use Rattle.cb_interp.specs.TextStatics.{MayPlaceOwn};
 
@@ -26,6 +28,9 @@ pub fn linked_programs_fit()
         → ShapesOf program shapes → ArraysFit program shapes }
     ensures thrown { (program : Linked) (shapes : List Shape) → IsLinked program → IsTyped program
         → ShapesOf program shapes → ExceptionsFit program shapes }
+    ensures placed { (program : Linked) (shapes : List Shape) → IsLinked program → IsTyped program
+        → ShapesOf program shapes → ThrowablesFit program shapes }
+    ensures machine { (program : Linked) → IsLinked program → AreThrown program }
 {
     linked_programs();
     exceptions_are_thrown();
@@ -50,5 +55,14 @@ pub(crate) fn linked_constants()
 {
     linked_programs();
     linked_is_sound();
+    linked_has_natives();
+}
+
+/// What natives place has the words that they write, by the shapes of a linked program's kinds.
+pub(crate) fn linked_makes()
+    ensures { (program : Linked) (shapes : List Shape) → IsLinked program → IsTyped program
+        → ShapesOf program shapes → MayMake program shapes }
+{
+    linked_programs();
     linked_has_natives();
 }

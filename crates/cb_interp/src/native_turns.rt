@@ -1,4 +1,4 @@
-// Turns of a run in which a native is performed.
+// Turns of a run in which a native prints.
 ghost use Rattle.std.specs.Prelude.{◌≡◌, ◌<◌, ◌≤◌, length, IfErr, IsErrOf, OnErr, OnOk, Some};
 ghost use Rattle.cb_frames.specs.Limited.{with_roots};
 ghost use Rattle.cb_frames.specs.Tops.{top_stack};
@@ -6,7 +6,7 @@ ghost use Rattle.cb_heap.specs.Reading.{seen};
 ghost use Rattle.cb_io.specs.Faults.{CountsFaults};
 ghost use Rattle.cb_act.specs.Acting.{Asks, acted};
 ghost use Rattle.cb_act.specs.Here.{Here};
-ghost use Rattle.cb_interp.specs.Leaving.{NativeStops};
+ghost use Rattle.cb_interp.specs.Leaving.{NativeStops, is_performed};
 ghost use Rattle.cb_interp.specs.Printing.{IsNoneOf, behind_taken, prints_value, taken_by};
 ghost use Rattle.cb_interp.specs.Running.{MayRun, SaysBy, Turned};
 ghost use Rattle.cb_act.specs.Turning.{Outside, machine_of, state_of};
@@ -22,8 +22,8 @@ use cb_heap::Store;
 use cb_io::Sink;
 use cb_link::{Decoded, Program};
 
-/// A turn in which the native for which the instruction at the topmost frame's place asks is performed. Done are those that print a boolean,
-/// a char, an int, a long, a string or a newline; any other is `NotYet` (Java SE 8 API, java.io.PrintStream). What is printed is written
+/// A turn in which the native for which the instruction at the topmost frame's place asks is performed, where it gives no number. Done are
+/// those that print a boolean, a char, an int, a long, a string or a newline; any other is `NotYet` (Java SE 8 API, java.io.PrintStream). What is printed is written
 /// before anything is changed, so an `OutputFault` leaves the roots as they were. Takes constant time, and for a string time in its units.
 pub(crate) fn native_turn<S: Store, O: Sink>(
     program: &Program,
@@ -41,6 +41,7 @@ pub(crate) fn native_turn<S: Store, O: Sink>(
         (S.index store.now) (S.kept store.now) roots.old.roots) outside) decoded.now }
     requires asked { acted program.now roots.old.limit decoded.now (seen (S.index store.now)
         (S.kept store.now) roots.old.roots) ≡ Some (Asks (needs.Performs method)) }
+    requires unanswered { IsNoneOf is_performed program.now method }
     ensures made { OnOk result (Turned S.rules (machine_of program.now roots.old.limit) outside
         (seen (S.index store.now) (S.kept store.now) roots.old.roots) (seen (S.index store.now)
         (S.kept store.now) roots.new.roots) (S.facts store.now) (S.facts store.now)
@@ -87,6 +88,7 @@ fn string_turn<S: Store, O: Sink>(
     requires asked { acted program.now roots.old.limit decoded.now (seen (S.index store.now)
         (S.kept store.now) roots.old.roots) ≡ Some (Asks (needs.Performs method)) }
     requires other { IsNoneOf prints_value program.now method }
+    requires unanswered { IsNoneOf is_performed program.now method }
     ensures made { OnOk result (Turned S.rules (machine_of program.now roots.old.limit) outside
         (seen (S.index store.now) (S.kept store.now) roots.old.roots) (seen (S.index store.now)
         (S.kept store.now) roots.new.roots) (S.facts store.now) (S.facts store.now)

@@ -13,17 +13,17 @@ use Rattle.cb_library.specs.declared.native.Native.TheVariants as natives
 use Rattle.cb_plain.specs.declared.value.Value.{Value}
 use Rattle.cb_plain.specs.declared.value.Value.TheVariants.{Int, Long, Ref}
 use Rattle.cb_plain.specs.State.{Object, State}
-use Rattle.cb_plain.specs.Updates.{object_at}
+use Rattle.cb_plain.specs.Updates.{object_in}
 use Rattle.cb_machine.specs.Computing.{throws_by_zero}
 use Rattle.cb_machine.specs.Library as library
 use Rattle.cb_machine.specs.Performing.{Call, Performed, Stops, built_text, gives, gives_int, identity_hash, number_at, on_number, on_object, on_text, stops, text_of, value_slot}
 use Rattle.cb_machine.specs.Sites.{number_format, string_index}
 use Rattle.cb_machine.specs.Testing.{int_of}
 
-abbrev gives_bool : Call → Bool → Option Performed
+abbrev pub gives_bool : Call → Bool → Option Performed
 gives_bool call is = gives call (int_of is ∷ [])
 
-abbrev gives_long : Call → ℤ → Option Performed
+abbrev pub gives_long : Call → ℤ → Option Performed
 gives_long call number = gives call (Long number ∷ [])
 
 -- the identity hash of an object, which null has too
@@ -32,11 +32,11 @@ hash_of call zero = gives_int call (pos 0)
 hash_of call (suc place) = gives_int call (identity_hash (suc place))
 
 -- the unit at a place of a text
-abbrev gives_found : Call → Option ℕ → Option Performed
+abbrev pub gives_found : Call → Option ℕ → Option Performed
 gives_found call None = stops call string_index
 gives_found call (Some unit) = gives_int call (pos unit)
 
-abbrev unit_at : Call → ℤ → List ℕ → Option Performed
+abbrev pub unit_at : Call → ℤ → List ℕ → Option Performed
 unit_at call (pos place) units = gives_found call (slice_get units place)
 unit_at call place units = stops call string_index
 
@@ -54,42 +54,45 @@ compared (unit ∷ units) (other ∷ others) = if unit == other then compared un
 abbrev pub begins : List ℕ → List ℕ → Bool
 begins units front = same_text (take (length front) units) front
 
-abbrev found_from : ℕ → List ℕ → List ℕ → ℤ
+abbrev pub found_from : ℕ → List ℕ → List ℕ → ℤ
 found_from place [] part = if length part == 0 then pos place else negsuc 0
 found_from place (unit ∷ units) part = if begins (unit ∷ units) part then pos place else found_from (place + 1) units part
 
-abbrev ends_with : List ℕ → List ℕ → Bool
+abbrev pub ends_with : List ℕ → List ℕ → Bool
 ends_with units end = nat_le (length end) (length units) && same_text (drop (length units - length end) units) end
 
-abbrev place_or_none : Option ℕ → ℤ
+abbrev pub place_or_none : Option ℕ → ℤ
 place_or_none None = negsuc 0
 place_or_none (Some place) = pos place
 
-abbrev unit_index : List ℕ → ℤ → ℤ
+abbrev pub unit_index : List ℕ → ℤ → ℤ
 unit_index units (pos unit) = place_or_none (position (λ other. other == unit) units)
 unit_index units other = negsuc 0
 
--- an object of a class of the library with these contents is equal to another of it: to nothing else, and not to null
-abbrev of_kind : State → ℕ → ℕ → Option Object
-of_kind state kind serial = option_and_then (λ object. if object.kind == kind then Some object else None) (object_at state serial)
+-- An object of a class of the library that has no subclasses is equal to another of it with the same contents: to nothing else, and not to
+-- null.
+abbrev pub of_kind : List (Option Object) → ℕ → ℕ → Option Object
+of_kind objects kind serial = option_and_then (λ object. if object.kind == kind then Some object else None) (object_in objects serial)
 
-abbrev equal_texts : State → List ℕ → Option Object → Bool
+abbrev pub equal_text : List ℕ → Option (List ℕ) → Bool
+equal_text units None = false
+equal_text units (Some others) = same_text units others
+
+abbrev pub equal_texts : State → List ℕ → Option Object → Bool
 equal_texts state units None = false
-equal_texts state units (Some other) = same (text_of state other) where
-  same : Option (List ℕ) → Bool
-  same None = false
-  same (Some others) = same_text units others
+equal_texts state units (Some other) = equal_text units (text_of state other)
 
-abbrev equal_numbers : ℤ → Option Object → Bool
+abbrev pub equal_number : ℤ → Option ℤ → Bool
+equal_number number None = false
+equal_number number (Some own) = int_eq number own
+
+abbrev pub equal_numbers : ℤ → Option Object → Bool
 equal_numbers number None = false
-equal_numbers number (Some other) = same (number_at other value_slot) where
-  same : Option ℤ → Bool
-  same None = false
-  same (Some own) = int_eq number own
+equal_numbers number (Some other) = equal_number number (number_at other value_slot)
 
 -- boxes
 abbrev equals_box : Call → ℕ → ℕ → ℕ → Option Performed
-equals_box call kind serial other = on_number call serial (λ number. gives_bool call (equal_numbers number (of_kind call.state kind other)))
+equals_box call kind serial other = on_number call serial (λ number. gives_bool call (equal_numbers number (of_kind call.state.objects kind other)))
 
 abbrev compares_boxes : Call → (ℤ → ℤ → ℤ) → ℕ → ℕ → Option Performed
 compares_boxes call order serial other = on_number call other (λ second. on_number call serial (λ first. gives_int call (order first second)))
@@ -101,18 +104,18 @@ abbrev long_hash : ℤ → ℤ
 long_hash number = int_wrap w32 (bits_xor 64 number (long_shift Ushr number (pos 32)))
 
 -- numbers in texts: a sign at most, then digits, within the range of so many bits
-abbrev digit_of : ℕ → Option ℕ
+abbrev pub digit_of : ℕ → Option ℕ
 digit_of unit = if nat_le 48 unit && nat_lt unit 58 then Some (unit - 48) else None
 
-abbrev read_on : ℕ → Option ℕ → Option ℕ
+abbrev pub read_on : ℕ → Option ℕ → Option ℕ
 read_on sum None = None
 read_on sum (Some digit) = Some (sum * 10 + digit)
 
-abbrev read_digits : ℕ → List ℕ → Option ℕ
+abbrev pub read_digits : ℕ → List ℕ → Option ℕ
 read_digits sum [] = Some sum
 read_digits sum (unit ∷ units) = option_and_then (λ sum. read_digits sum units) (read_on sum (digit_of unit))
 
-abbrev read_some : List ℕ → Option ℕ
+abbrev pub read_some : List ℕ → Option ℕ
 read_some [] = None
 read_some (unit ∷ units) = read_digits 0 (unit ∷ units)
 
@@ -123,14 +126,14 @@ number_in (unit ∷ units) =
     else if unit == 43 then option_map pos (read_some units)
     else option_map pos (read_some (unit ∷ units))
 
-abbrev in_range : Width → ℤ → Option ℤ
+abbrev pub in_range : Width → ℤ → Option ℤ
 in_range width number = if int_eq (int_wrap width number) number then Some number else None
 
-abbrev gives_parsed : Call → (ℤ → Option Performed) → Option ℤ → Option Performed
+abbrev pub gives_parsed : Call → (ℤ → Option Performed) → Option ℤ → Option Performed
 gives_parsed call give None = stops call number_format
 gives_parsed call give (Some number) = give number
 
-abbrev parses : Call → Width → (ℤ → Option Performed) → ℕ → Option Performed
+abbrev pub parses : Call → Width → (ℤ → Option Performed) → ℕ → Option Performed
 parses call width give zero = stops call number_format
 parses call width give (suc place) =
     on_text call (suc place) (λ units. gives_parsed call give (option_and_then (in_range width) (number_in units)))
@@ -204,10 +207,10 @@ box_answer call natives.BooleanCompareTo (Ref box ∷ Ref other ∷ []) = compar
 box_answer call other arguments = math_native call other arguments
 
 -- of texts, of objects, and of constants of enums, which compare by their ordinals
-abbrev ordinal_slot : ℕ
+abbrev pub ordinal_slot : ℕ
 ordinal_slot = 1
 
-abbrev on_ordinal : Call → ℕ → (ℤ → Option Performed) → Option Performed
+abbrev pub on_ordinal : Call → ℕ → (ℤ → Option Performed) → Option Performed
 on_ordinal call serial go = on_object call serial (λ object. option_and_then go (number_at object ordinal_slot))
 
 abbrev text_answer : Call → Native → List Value → Option Performed
@@ -215,7 +218,7 @@ text_answer call natives.StringLength (Ref string ∷ []) = on_text call string 
 text_answer call natives.StringIsEmpty (Ref string ∷ []) = on_text call string (λ units. gives_bool call (length units == 0))
 text_answer call natives.StringCharAt (Ref string ∷ Int place ∷ []) = on_text call string (unit_at call place)
 text_answer call natives.StringEquals (Ref string ∷ Ref other ∷ []) =
-    on_text call string (λ units. gives_bool call (equal_texts call.state units (of_kind call.state library.string other)))
+    on_text call string (λ units. gives_bool call (equal_texts call.state units (of_kind call.state.objects library.string other)))
 text_answer call natives.StringHashCode (Ref string ∷ []) = on_text call string (λ units. gives_int call (text_hash units))
 text_answer call natives.StringCompareTo (Ref string ∷ Ref other ∷ []) = on_text call other (λ others. on_text call string (λ units. gives_int call (compared units others)))
 text_answer call natives.StringIndexOfUnit (Ref string ∷ Int unit ∷ []) = on_text call string (λ units. gives_int call (unit_index units unit))

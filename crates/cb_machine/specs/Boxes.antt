@@ -22,21 +22,21 @@ abbrev pub offset : ℤ
 offset = pos 128
 
 -- a new box of a number
-abbrev boxed : Call → ℕ → ℤ → Plan
+abbrev pub boxed : Call → ℕ → ℤ → Plan
 boxed call site number = with_one (leaving call.state) site (kind_of_site call.machine.program site) (Number number ∷ [])
 
-abbrev new_box : Call → ℕ → ℤ → Performed
+abbrev pub new_box : Call → ℕ → ℤ → Performed
 new_box call site number = Gives (boxed call site number) (Ref (leaving call.state).next ∷ [])
 
 -- or the one that is kept at a place of a table
-abbrev kept_box : Call → ℕ → ℤ → Table → ℕ → ℕ → Performed
+abbrev pub kept_box : Call → ℕ → ℤ → Table → ℕ → ℕ → Performed
 kept_box call site number table place zero =
     let plan = boxed call site number in
     let serial = (leaving call.state).next in
     Gives (with_left plan (with_entry call.state table place serial)) (Ref serial ∷ [])
 kept_box call site number table place (suc other) = Gives (leaving call.state) (Ref (suc other) ∷ [])
 
-abbrev box_at : Call → ℕ → ℤ → Table → ℕ → ℤ → Performed
+abbrev pub box_at : Call → ℕ → ℤ → Table → ℕ → ℤ → Performed
 box_at call site number table count (pos place) =
     if nat_lt place count then kept_box call site number table place (listed (table_in call.state.roots.tables table) place) else new_box call site number
 box_at call site number table count other = new_box call site number

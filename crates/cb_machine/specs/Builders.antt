@@ -16,40 +16,40 @@ use Rattle.cb_machine.specs.Strings.{unit_contents}
 use Rattle.cb_machine.specs.Texts.{digits, range_of, truth, unit_of}
 
 -- nothing is given back
-abbrev done : Plan → Option Performed
+abbrev pub done : Plan → Option Performed
 done plan = Some (Gives plan [])
 
-abbrev sets_number : Call → ℕ → ℤ → Object → Option Performed
+abbrev pub sets_number : Call → ℕ → ℤ → Object → Option Performed
 sets_number call serial number object = done (leaving (with_word call.state serial object value_slot (Number number)))
 
 -- an object gets an array of these units with so much room, which is placed
-abbrev with_array : Call → ℕ → ℕ → Object → List ℕ → ℕ → Plan
+abbrev pub with_array : Call → ℕ → ℕ → Object → List ℕ → ℕ → Plan
 with_array call site serial object units room =
     let plan = leaving call.state in
     with_left (with_one plan site (kind_of_site call.machine.program site) (unit_contents (units ++ replicate (room - length units) 0)))
     (with_word call.state serial object value_slot (Reference plan.next))
 
-abbrev sets_text : Call → ℕ → List ℕ → Object → Option Performed
+abbrev pub sets_text : Call → ℕ → List ℕ → Object → Option Performed
 sets_text call serial units object = done (with_array call made_characters serial object units (length units))
 
-abbrev sets_range : Call → ℕ → Object → List ℕ → ℤ → ℤ → Option Performed
+abbrev pub sets_range : Call → ℕ → Object → List ℕ → ℤ → ℤ → Option Performed
 sets_range call serial object units (pos from) (pos count) =
     if nat_le (from + count) (length units) then sets_text call serial (range_of units from (from + count)) object else stops call string_index
 sets_range call serial object units from count = stops call string_index
 
 -- a builder gets an array with room for so many units, and counts those that it has
-abbrev with_count : Call → ℕ → Plan → ℕ → Plan
+abbrev pub with_count : Call → ℕ → Plan → ℕ → Plan
 with_count call serial plan count =
     counted (object_at plan.left serial) where
       counted : Option Object → Plan
       counted None = plan
       counted (Some object) = with_left plan (with_word plan.left serial object count_slot (Number (pos count)))
 
-abbrev builds : Call → ℕ → List ℕ → ℕ → Object → Option Performed
+abbrev pub builds : Call → ℕ → List ℕ → ℕ → Object → Option Performed
 builds call serial units room object =
     if_short call room (done (with_count call serial (with_array call builder_characters serial object units room) (length units)))
 
-abbrev builds_sized : Call → ℕ → ℤ → Object → Option Performed
+abbrev pub builds_sized : Call → ℕ → ℤ → Object → Option Performed
 builds_sized call serial (pos room) object = builds call serial [] room object
 builds_sized call serial room object = stops call negative_size
 
@@ -58,13 +58,13 @@ builds_sized call serial room object = stops call negative_size
 abbrev pub grown : ℕ → ℕ → ℕ
 grown room count = min most_elements (max (2 * room + 2) count)
 
-abbrev in_place : State → ℕ → Object → List ℕ → State
+abbrev pub in_place : State → ℕ → Object → List ℕ → State
 in_place state serial array units = with_contents_at state serial (unit_contents units ++ drop (length units) array.contents)
 
-abbrev in_own_array : Call → ℕ → ℕ → Object → List ℕ → Plan
+abbrev pub in_own_array : Call → ℕ → ℕ → Object → List ℕ → Plan
 in_own_array call serial place array units = with_count call serial (leaving (in_place call.state place array units)) (length units)
 
-abbrev in_new_array : Call → ℕ → Object → ℕ → List ℕ → Plan
+abbrev pub in_new_array : Call → ℕ → Object → ℕ → List ℕ → Plan
 in_new_array call serial builder room units = with_count call serial (with_array call builder_characters serial builder units (grown room (length units))) (length units)
 
 abbrev pub holding : Call → ℕ → Object → ℕ → Object → List ℕ → Plan
@@ -72,38 +72,38 @@ holding call serial builder place array units =
     if nat_le (length units) (length array.contents) then in_own_array call serial place array units
     else in_new_array call serial builder (length array.contents) units
 
-abbrev holds_in : Call → ℕ → Object → List ℕ → List Value → ℕ → Option Performed
+abbrev pub holds_in : Call → ℕ → Object → List ℕ → List Value → ℕ → Option Performed
 holds_in call serial builder units answer zero = Some (Gives (in_new_array call serial builder 0 units) answer)
 holds_in call serial builder units answer (suc place) =
     option_map (λ array. Gives (holding call serial builder (suc place) array units) answer) (object_at call.state (suc place))
 
-abbrev holds : Call → ℕ → Object → List Value → List ℕ → Option Performed
+abbrev pub holds : Call → ℕ → Object → List Value → List ℕ → Option Performed
 holds call serial builder answer units = if_short call (length units) (option_and_then (holds_in call serial builder units answer) (reference_at builder value_slot))
 
 -- on what a builder has
-abbrev on_built : Call → ℕ → (Object → List ℕ → Option Performed) → Option Performed
+abbrev pub on_built : Call → ℕ → (Object → List ℕ → Option Performed) → Option Performed
 on_built call serial go = on_object call serial (λ builder. option_and_then (go builder) (built_text call.state builder))
 
-abbrev appends : Call → ℕ → List ℕ → Option Performed
+abbrev pub appends : Call → ℕ → List ℕ → Option Performed
 appends call serial units = on_built call serial (λ builder built. holds call serial builder (Ref serial ∷ []) (built ++ units))
 
-abbrev appends_string : Call → ℕ → ℕ → Option Performed
+abbrev pub appends_string : Call → ℕ → ℕ → Option Performed
 appends_string call serial zero = appends call serial (codes "null")
 appends_string call serial (suc place) = on_text call (suc place) (appends call serial)
 
 -- with another unit at a place, and without the one there
-abbrev set_at : Call → ℕ → ℕ → ℤ → Object → List ℕ → Option Performed
+abbrev pub set_at : Call → ℕ → ℕ → ℤ → Object → List ℕ → Option Performed
 set_at call serial unit (pos place) builder built =
     if nat_lt place (length built) then holds call serial builder [] (take place built ++ unit ∷ drop (place + 1) built) else stops call string_index
 set_at call serial unit place builder built = stops call string_index
 
-abbrev deleted_at : Call → ℕ → ℤ → Object → List ℕ → Option Performed
+abbrev pub deleted_at : Call → ℕ → ℤ → Object → List ℕ → Option Performed
 deleted_at call serial (pos place) builder built =
     if nat_lt place (length built) then holds call serial builder (Ref serial ∷ []) (take place built ++ drop (place + 1) built) else stops call string_index
 deleted_at call serial place builder built = stops call string_index
 
 -- cut, or with zeros behind
-abbrev cut_at : Call → ℕ → ℤ → Object → List ℕ → Option Performed
+abbrev pub cut_at : Call → ℕ → ℤ → Object → List ℕ → Option Performed
 cut_at call serial (pos count) builder built =
     if_short call count (holds call serial builder [] (take count built ++ replicate (count - length built) 0))
 cut_at call serial count builder built = stops call string_index

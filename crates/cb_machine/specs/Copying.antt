@@ -20,18 +20,18 @@ use Rattle.cb_machine.specs.Sites.{array_index, array_store, clone_not_supported
 use Rattle.cb_machine.specs.Throwing.{throwing}
 
 -- a new object with these contents
-abbrev gives_new : Call → ℕ → ℕ → List Content → Option Performed
+abbrev pub gives_new : Call → ℕ → ℕ → List Content → Option Performed
 gives_new call site kind contents =
     let plan = leaving call.state in
     Some (Gives (with_one plan site kind contents) (Ref plan.next ∷ []))
 
 -- a copy at the site of the original, of what is Cloneable, as arrays are
-abbrev clones : Call → Object → Option Performed
+abbrev pub clones : Call → Object → Option Performed
 clones call object =
     if instance call.machine.program object.kind cloneable then gives_new call object.site object.kind object.contents else stops call clone_not_supported
 
 -- arraycopy: both are arrays, of elements of one base type or both of references
-abbrev same_basic : Basic → Basic → Bool
+abbrev pub same_basic : Basic → Basic → Bool
 same_basic basics.Boolean basics.Boolean = true
 same_basic basics.Byte basics.Byte = true
 same_basic basics.Char basics.Char = true
@@ -41,12 +41,12 @@ same_basic basics.Long basics.Long = true
 same_basic (basics.Reference one) (basics.Reference other) = true
 same_basic one other = false
 
-abbrev can_copy : Option Basic → Option Basic → Bool
+abbrev pub can_copy : Option Basic → Option Basic → Bool
 can_copy (Some one) (Some other) = same_basic one other
 can_copy one other = false
 
 -- a range is one of an array
-abbrev is_range : ℤ → ℤ → ℕ → Bool
+abbrev pub is_range : ℤ → ℤ → ℕ → Bool
 is_range (pos from) (pos count) size = nat_le (from + count) size
 is_range from count size = false
 
@@ -55,7 +55,7 @@ abbrev pub overwritten : List Content → ℕ → List Content → List Content
 overwritten contents from new = take from contents ++ new ++ drop (from + length new) contents
 
 -- up to the first reference that isn't to an instance of what the elements are
-abbrev fits : Call → Option Basic → Content → Bool
+abbrev pub fits : Call → Option Basic → Content → Bool
 fits call (Some (basics.Reference kind)) (Reference (suc place)) = fits_kind call.machine.program kind (object_at call.state (suc place))
 fits call element content = true
 
@@ -63,20 +63,20 @@ abbrev pub fitting : Call → Option Basic → List Content → List Content
 fitting call element [] = []
 fitting call element (content ∷ contents) = if fits call element content then content ∷ fitting call element contents else []
 
-abbrev copied_to : Call → ℕ → Object → ℕ → List Content → State
+abbrev pub copied_to : Call → ℕ → Object → ℕ → List Content → State
 copied_to call serial target from contents = with_contents_at call.state serial (overwritten target.contents from contents)
 
 -- what fits is copied, and an exception thrown where that isn't all
-abbrev copies_fitting : Call → ℕ → Object → ℕ → List Content → List Content → Option Performed
+abbrev pub copies_fitting : Call → ℕ → Object → ℕ → List Content → List Content → Option Performed
 copies_fitting call serial target from all fit =
     if length fit == length all then Some (Gives (leaving (copied_to call serial target from fit)) [])
     else Some (Stops (throwing call.machine array_store (leaving (copied_to call serial target from fit))))
 
-abbrev copies_range : Call → ℕ → Object → ℕ → List Content → Option Performed
+abbrev pub copies_range : Call → ℕ → Object → ℕ → List Content → Option Performed
 copies_range call serial target from contents =
     copies_fitting call serial target from contents (fitting call (element_of call.machine.program target.kind) contents)
 
-abbrev copies_between : Call → Object → ℤ → ℕ → Object → ℤ → ℤ → Option Performed
+abbrev pub copies_between : Call → Object → ℤ → ℕ → Object → ℤ → ℤ → Option Performed
 copies_between call source from serial target to count =
     if can_copy (element_of call.machine.program source.kind) (element_of call.machine.program target.kind) then
     if is_range from count (length source.contents) && is_range to count (length target.contents)
@@ -84,7 +84,7 @@ copies_between call source from serial target to count =
     else stops call array_index
     else stops call array_store
 
-abbrev copies : Call → ℕ → ℤ → ℕ → ℤ → ℤ → Option Performed
+abbrev pub copies : Call → ℕ → ℤ → ℕ → ℤ → ℤ → Option Performed
 copies call source from target to count =
     on_object call source (λ one. on_object call target (λ other. copies_between call one from target other to count))
 
@@ -92,32 +92,32 @@ copies call source from target to count =
 abbrev pub suppressed_slot : ℕ
 suppressed_slot = 2
 
-abbrev contents_of : Option Object → List Content
+abbrev pub contents_of : Option Object → List Content
 contents_of None = []
 contents_of (Some array) = array.contents
 
-abbrev suppressed_by : Call → Object → List Content
+abbrev pub suppressed_by : Call → Object → List Content
 suppressed_by call throwable = contents_of (option_and_then (object_at call.state) (reference_at throwable suppressed_slot))
 
-abbrev gives_suppressed : Call → Object → Option Performed
+abbrev pub gives_suppressed : Call → Object → Option Performed
 gives_suppressed call throwable = gives_new call suppressed (kind_of_site call.machine.program suppressed) (suppressed_by call throwable)
 
-abbrev suppresses : Call → ℕ → Object → ℕ → Option Performed
+abbrev pub suppresses : Call → ℕ → Object → ℕ → Option Performed
 suppresses call serial throwable other =
     let plan = leaving call.state in
     Some (Gives (with_left (with_one plan suppressed (kind_of_site call.machine.program suppressed) (suppressed_by call throwable ++ Reference other ∷ []))
     (with_word call.state serial throwable suppressed_slot (Reference plan.next))) [])
 
-abbrev suppresses_short : Call → ℕ → ℕ → Object → Option Performed
+abbrev pub suppresses_short : Call → ℕ → ℕ → Object → Option Performed
 suppresses_short call serial other throwable =
     if_short call (length (suppressed_by call throwable) + 1) (suppresses call serial throwable other)
 
-abbrev adds_suppressed : Call → ℕ → ℕ → Option Performed
+abbrev pub adds_suppressed : Call → ℕ → ℕ → Option Performed
 adds_suppressed call serial other =
     on_object call other (λ added. if serial == other then stops call illegal_argument else on_object call serial (suppresses_short call serial other))
 
 -- the characters of a string in an array of their own
-abbrev gives_characters : Call → Object → Option Performed
+abbrev pub gives_characters : Call → Object → Option Performed
 gives_characters call string =
     option_and_then (gives_new call made_characters (kind_of_site call.machine.program made_characters)) (array_words call.state string)
 

@@ -18,34 +18,34 @@ use Rattle.cb_machine.specs.Performing.{Call, Performed, Stops, gives, number_at
 use Rattle.cb_machine.specs.Sites.{illegal_argument}
 
 -- the static field of a constant by its name
-abbrev has_name : List ℕ → Option (Numbered Field) → Bool
+abbrev pub has_name : List ℕ → Option (Numbered Field) → Bool
 has_name name None = false
 has_name name (Some field) = same_text (or_none (text_at field.pool field.member.name)) name
 
 abbrev pub constant_named : Linked → ℕ → List ℕ → Option ℕ
 constant_named program class name = find (λ slot. has_name name (static_at program slot)) (enum_statics program.classes class)
 
-abbrev gives_static : Call → Option ℕ → Option Performed
+abbrev pub gives_static : Call → Option ℕ → Option Performed
 gives_static call None = stops call illegal_argument
 gives_static call (Some slot) = option_and_then (λ value. gives call (value ∷ [])) (slice_get call.state.roots.statics slot)
 
 -- the call goes on once the class is ready, and is stopped where it has failed or has to be initialised
-abbrev once_class : Call → ℕ → Option Performed → ClassState → Option Performed
+abbrev pub once_class : Call → ℕ → Option Performed → ClassState → Option Performed
 once_class call class ready Busy = ready
 once_class call class ready Done = ready
 once_class call class ready other = option_map Stops (once_ready call.machine call.state class None)
 
-abbrev of_class : Call → ℕ → Option ℕ → Option Performed
+abbrev pub of_class : Call → ℕ → Option ℕ → Option Performed
 of_class call name None = on_text call name (λ units. stops call illegal_argument)
 of_class call name (Some class) =
     option_and_then (once_class call class (on_text call name (λ units. gives_static call (constant_named call.machine.program class units))))
     (slice_get call.state.roots.classes class)
 
-abbrev kind_of_number : ℤ → Option ℕ
+abbrev pub kind_of_number : ℤ → Option ℕ
 kind_of_number (pos kind) = Some kind
 kind_of_number other = None
 
-abbrev of_object : Call → ℕ → Object → Option Performed
+abbrev pub of_object : Call → ℕ → Object → Option Performed
 of_object call name class =
     of_class call name (option_and_then (class_of_kind call.machine.program) (option_and_then kind_of_number (number_at class value_slot)))
 

@@ -21,11 +21,11 @@ use Rattle.cb_machine.specs.Performing.{Call, Performed}
 use Rattle.cb_machine.specs.Texts.{text_native}
 
 -- the row of a method has the class's number and the method's place in its class
-abbrev native_in : Kind → Option Native
+abbrev pub native_in : Kind → Option Native
 native_in (PerformedBy native) = Some native
 native_in other = None
 
-abbrev native_at : ℕ → ℕ → Option Native
+abbrev pub native_at : ℕ → ℕ → Option Native
 native_at class place =
     option_and_then (λ row. option_and_then (λ method. native_in method.kind) (slice_get row.methods place)) (slice_get core_classes class)
 

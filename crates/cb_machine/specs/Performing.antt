@@ -37,11 +37,11 @@ on_object call zero go = stops call null_pointer
 on_object call (suc place) go = option_and_then go (object_at call.state (suc place))
 
 -- words of objects
-abbrev number_in : Content → Option ℤ
+abbrev pub number_in : Content → Option ℤ
 number_in (Number number) = Some number
 number_in (Reference serial) = None
 
-abbrev reference_in : Content → Option ℕ
+abbrev pub reference_in : Content → Option ℕ
 reference_in (Number number) = None
 reference_in (Reference serial) = Some serial
 
@@ -72,7 +72,7 @@ abbrev pub array_words : State → Object → Option (List Content)
 array_words state object = option_and_then (words_at state) (reference_at object value_slot)
 
 -- the units of an array of chars, of a string, and of a builder, of whose array so many count, none where that is negative
-abbrev unit_in : Content → ℕ
+abbrev pub unit_in : Content → ℕ
 unit_in (Number (pos unit)) = unit
 unit_in other = 0
 
@@ -88,7 +88,7 @@ text_of state string = option_map (map unit_in) (array_words state string)
 abbrev pub on_text : Call → ℕ → (List ℕ → Option Performed) → Option Performed
 on_text call serial go = on_object call serial (λ string. option_and_then go (text_of call.state string))
 
-abbrev counted : List ℕ → ℤ → List ℕ
+abbrev pub counted : List ℕ → ℤ → List ℕ
 counted units (pos count) = take count units
 counted units other = []
 

@@ -28,7 +28,7 @@ abbrev pub hex_digits : ℤ → List ℕ
 hex_digits number = radix_digits 16 false (low_bits 32 number)
 
 -- the name of a class as Class.getName has it
-abbrev dotted : ℕ → ℕ
+abbrev pub dotted : ℕ → ℕ
 dotted unit = if unit == slash then 46 else unit
 
 abbrev pub class_name : Linked → ℕ → List ℕ
@@ -38,19 +38,19 @@ class_name program kind = map dotted (or_none (slice_get program.kinds kind))
 abbrev pub range_of : List ℕ → ℕ → ℕ → List ℕ
 range_of units from to = take (to - from) (drop from units)
 
-abbrev gives_range : Call → List ℕ → ℤ → ℤ → Option Performed
+abbrev pub gives_range : Call → List ℕ → ℤ → ℤ → Option Performed
 gives_range call units (pos from) (pos to) =
     if nat_le from to && nat_le to (length units) then gives_text call (range_of units from to) else stops call string_index
 gives_range call units from to = stops call string_index
 
-abbrev replaced : ℕ → ℕ → ℕ → ℕ
+abbrev pub replaced : ℕ → ℕ → ℕ → ℕ
 replaced old new unit = if unit == old then new else unit
 
 -- the text of an object is its class with its hash; that of a throwable is its class with its message
 abbrev pub object_text : Call → Object → ℤ → List ℕ
 object_text call object hash = class_name call.machine.program object.kind ++ codes "@" ++ hex_digits hash
 
-abbrev with_message : Call → Object → ℕ → Option Performed
+abbrev pub with_message : Call → Object → ℕ → Option Performed
 with_message call throwable zero = gives_text call (class_name call.machine.program throwable.kind)
 with_message call throwable (suc place) =
     on_text call (suc place) (λ message. gives_text call (class_name call.machine.program throwable.kind ++ codes ": " ++ message))

@@ -1,5 +1,5 @@
 -- Values, and what fields and elements hold of them (JVMS §2.3, §2.6, §6.5).
-use Rattle.std.specs.Prelude.{ℤ, pos, Bool, true, false, List, [], ◌∷◌, Option, Some, None, ℕ}
+use Rattle.std.specs.Prelude.{ℤ, pos, List, [], ◌∷◌, Option, Some, None, ℕ}
 use Rattle.cb_arith.specs.Bits.{low_bits}
 use Rattle.cb_arith.specs.Narrowing.{narrow}
 use Rattle.cb_arith.specs.declared.narrower.Narrow.TheVariants as narrower

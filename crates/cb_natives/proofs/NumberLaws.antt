@@ -5,8 +5,8 @@ use Rattle.std.proofs.lemmas.Int.{SFits-int_wrap, int_wrap_fits, ints}
 use Rattle.std.specs.Int.{Width, int_wrap}
 use Rattle.std.specs.Ordering.{int_eq}
 use Rattle.cb_heap.specs.Reading.{serial_of}
-use Rattle.cb_machine.specs.Answering.{number_in}
-use Rattle.cb_natives.specs.Parsing.{SameInRange, at_most, digit_of, in_range, read_digits, read_on, read_some, with_sign}
+use Rattle.cb_machine.specs.Answering.{digit_of, in_range, number_in, read_digits, read_on, read_some}
+use Rattle.cb_natives.specs.Parsing.{SameInRange, at_most, with_sign}
 use Rattle.cb_natives.proofs.UnitLaws.{eq_false, eq_true, le_false, le_true}
 
 -- ---- ranges

@@ -1,24 +1,24 @@
 -- Where the library's table has no native: behind those of a class, and in classes without any.
-use Rattle.std.proofs.Common.{◌≡◌, ◌∙◌, ap, arith, refl, subst, sym, ℕ, zero, suc, ◌+◌, ◌-◌, ◌≤◌, ◌==◌, ◌&&◌, ◌||◌, Bool, true, false, List, [], ◌∷◌, Option, Some, None, option_and_then, slice_get}
-use Rattle.std.proofs.lemmas.Bool.{false≢true, ne_eqb}
+use Rattle.std.proofs.Common.{◌≡◌, ◌∙◌, ap, arith, refl, subst, sym, ℕ, zero, suc, ◌+◌, ◌-◌, ◌≤◌, ◌==◌, ◌&&◌, ◌||◌, Bool, true, false, List, [], ◌∷◌, Option, None, option_and_then, slice_get}
+use Rattle.std.proofs.lemmas.Bool.{false≢true}
 use Rattle.std.specs.List.{list_all, list_any}
 use Rattle.cb_library.specs.CoreClasses.{core_classes}
 use Rattle.cb_library.specs.Rows.{CoreClass, Kind, Method, Performed}
 use Rattle.cb_library.specs.declared.native.Native.{Native}
-use Rattle.cb_natives.specs.Natives.{native_in, native_of_row}
+use Rattle.cb_machine.specs.Natives.{native_at, native_in}
 
 -- ---- behind the natives of String
 
-strings_from : (more : ℕ) → native_in 8 (suc (suc (suc (suc (suc (suc (suc (suc (suc (suc (suc (suc (suc (suc (suc (suc (suc (suc (suc (suc (suc (suc (suc more))))))))))))))))))))))) ≡ None
+strings_from : (more : ℕ) → native_at 8 (suc (suc (suc (suc (suc (suc (suc (suc (suc (suc (suc (suc (suc (suc (suc (suc (suc (suc (suc (suc (suc (suc (suc more))))))))))))))))))))))) ≡ None
 strings_from zero = refl
 strings_from (suc zero) = refl
 strings_from (suc (suc zero)) = refl
 strings_from (suc (suc (suc more))) = refl
 
-pub past_strings : (place : ℕ) → 23 ≤ place → native_in 8 place ≡ None
+pub past_strings : (place : ℕ) → 23 ≤ place → native_at 8 place ≡ None
 past_strings place far =
     let same : suc (suc (suc (suc (suc (suc (suc (suc (suc (suc (suc (suc (suc (suc (suc (suc (suc (suc (suc (suc (suc (suc (suc (place - 23))))))))))))))))))))))) ≡ place = omega (arith, far) in
-    subst (λ (place : ℕ). native_in 8 place ≡ None) same (strings_from (place - 23))
+    subst (λ (place : ℕ). native_at 8 place ≡ None) same (strings_from (place - 23))
 
 -- ---- classes without natives
 
@@ -50,16 +50,15 @@ either : (one other : Bool) → (one || other) ≡ true → one ≡ false → ot
 either true other is none = absurd (false≢true (sym none))
 either false other is none = is
 
-abbrev performed_in : Kind → Option Native
-performed_in (Performed native) = Some native
-performed_in other = None
+abbrev native_of_row : ℕ → CoreClass → Option Native
+native_of_row place row = option_and_then (λ method. native_in method.kind) (slice_get row.methods place)
 
-kind_none : (kind : Kind) → is_quiet kind ≡ true → performed_in kind ≡ None
+kind_none : (kind : Kind) → is_quiet kind ≡ true → native_in kind ≡ None
 kind_none (Performed native) is = absurd (false≢true is)
 kind_none other is = refl
 
 methods_none : (methods : List Method) (place : ℕ) → list_all (λ (method : Method). is_quiet method.kind) methods ≡ true
-    → option_and_then (λ (method : Method). performed_in method.kind) (slice_get methods place) ≡ None
+    → option_and_then (λ (method : Method). native_in method.kind) (slice_get methods place) ≡ None
 methods_none [] place quiet = refl
 methods_none (method ∷ methods) zero quiet = kind_none method.kind (both (is_quiet method.kind) _ quiet).0
 methods_none (method ∷ methods) (suc place) quiet = methods_none methods place (both (is_quiet method.kind) _ quiet).1
@@ -75,6 +74,6 @@ rows_none (row ∷ rows) number (suc class) place quiet none =
     let same : number + suc class ≡ suc number + class = omega arith in
     rows_none rows (suc number) class place (both (is_listed number || row_quiet row) (rows_quiet (suc number) rows) quiet).1 (sym (ap is_listed same) ∙ none)
 
-pub none_elsewhere : (class place : ℕ) → is_listed class ≡ false → native_in class place ≡ None
+pub none_elsewhere : (class place : ℕ) → is_listed class ≡ false → native_at class place ≡ None
 none_elsewhere class place none =
     let same : 0 + class ≡ class = omega arith in rows_none core_classes 0 class place all_quiet (ap is_listed same ∙ none)

@@ -7,8 +7,7 @@ use Rattle.std.proofs.lemmas.List.Sums.{position_or_len_is}
 use Rattle.std.proofs.lemmas.Option.{get_or_from_slice_get, slice_get_within}
 use Rattle.std.specs.List.{position, position_or_len}
 use Rattle.cb_kinds.specs.Texts.{same_text}
-use Rattle.cb_machine.specs.Answering.{begins, compared}
-use Rattle.cb_natives.specs.Finding.{ends_with, found_from, place_or_none, unit_index}
+use Rattle.cb_machine.specs.Answering.{begins, compared, ends_with, found_from, place_or_none, unit_index}
 
 pub rest_of : (units : List ℕ) (place unit : ℕ) → slice_get units place ≡ Some unit → drop place units ≡ unit ∷ drop (place + 1) units
 rest_of units place unit is = drop_more units place unit (slice_get_within units place unit is) ∙ ap (λ unit. unit ∷ drop (place + 1) units) (get_or_from_slice_get units place unit unit is)

@@ -8,7 +8,8 @@ use Rattle.std.specs.Int.{Width, cast_signed, cast_unsigned, int_wrap}
 use Rattle.cb_heap.specs.Kept.{content_at, contents_at, is_held, is_kept, is_number}
 use Rattle.cb_heap.specs.Reading.{serial_of}
 use Rattle.cb_plain.specs.State.{Content, Number, Object, Reference}
-use Rattle.cb_natives.specs.Given.{HoldsUnits, IsUnit, unit_in, units_in}
+use Rattle.cb_machine.specs.Performing.{unit_in}
+use Rattle.cb_natives.specs.Given.{HoldsUnits, IsUnit, units_in}
 
 -- ---- one word
 

@@ -1,15 +1,15 @@
 -- What natives answer that place nothing but an exception.
-use Rattle.std.specs.Prelude.{◌≡◌, ℤ, pos, ℕ, Bool, true, false, List, [], ◌∷◌, Option, Some, None, option_and_then, slice_get, take}
+use Rattle.std.specs.Prelude.{◌≡◌, ℤ, ℕ, Bool, true, false, List, [], ◌∷◌, Option, Some, None, option_and_then, take}
 use Rattle.cb_library.specs.declared.native.Native.{Native}
 use Rattle.cb_library.specs.declared.native.Native.TheVariants as natives
 use Rattle.std.specs.declared.result.Result.{Result}
 use Rattle.std.specs.declared.result.Result.TheVariants.{Err, Ok}
 use Rattle.cb_machine.specs.Answering.{answer_native}
 use Rattle.cb_machine.specs.Computing.{throws_by_zero}
-use Rattle.cb_machine.specs.Performing.{Call, Performed, Stops, built_text, gives, gives_int, number_at, on_object, stops}
+use Rattle.cb_machine.specs.Performing.{Call, Performed, Stops, built_text, gives, on_object, stops}
 use Rattle.cb_heap.specs.Reading.{serial_of}
 use Rattle.cb_machine.specs.Machine.{Machine}
-use Rattle.cb_machine.specs.Sites.{null_pointer, number_format, string_index}
+use Rattle.cb_machine.specs.Sites.{null_pointer}
 use Rattle.cb_natives.specs.Exceptions.{site_of}
 use Rattle.cb_natives.specs.Given.{units_in}
 use Rattle.cb_plain.specs.State.{Object, Roots}
@@ -21,9 +21,6 @@ use Rattle.cb_natives.specs.declared.answers.Thrown.{Thrown}
 use Rattle.cb_natives.specs.declared.answers.Thrown.TheVariants as thrown
 
 -- an answer, and an exception, as a call of a native has them
-abbrev pub gives_long : Call → ℤ → Option Performed
-gives_long call number = gives call (values.Long number ∷ [])
-
 abbrev pub given_as : Call → Answer → Option Performed
 given_as call answers.Nothing = gives call []
 given_as call (answers.Int number) = gives call (values.Int number ∷ [])
@@ -63,32 +60,9 @@ abbrev pub on_given : {A : Type 0} → Call → (A → Option Performed) → Res
 on_given call go (Ok read) = go read
 on_given call go (Err exception) = thrown_as call exception
 
--- with the ordinal of a constant of an enum
-abbrev pub on_ordinal : Call → ℕ → (ℤ → Option Performed) → Option Performed
-on_ordinal call serial go = on_object call serial (λ object. option_and_then go (number_at object 1))
-
 -- with what was built so far
 abbrev pub on_built : Call → ℕ → (List ℕ → Option Performed) → Option Performed
 on_built call serial go = on_object call serial (λ builder. option_and_then go (built_text call.state builder))
-
--- the number that a text spells, or an exception where it spells none
-abbrev pub parsed : Call → (ℤ → Option Performed) → Option ℤ → Option Performed
-parsed call give None = stops call number_format
-parsed call give (Some number) = give number
-
--- the unit at a place, or an exception where there is none
-abbrev found : Call → Option ℕ → Option Performed
-found call None = stops call string_index
-found call (Some unit) = gives_int call (pos unit)
-
-abbrev pub indexed : Call → ℤ → List ℕ → Option Performed
-indexed call (pos place) units = found call (slice_get units place)
-indexed call place units = stops call string_index
-
--- the units of an array that count, none where their number is negative
-abbrev pub counted : List ℕ → ℤ → List ℕ
-counted units (pos count) = take count units
-counted units other = []
 
 -- with the units of an array of a store, or with so many of them
 abbrev pub with_units : Call → (ℕ → ℕ) → (List ℕ → Option Performed) → ℕ → Option Performed

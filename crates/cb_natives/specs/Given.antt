@@ -1,5 +1,5 @@
 -- What natives are given: what is known of each argument (Java SE 8 API, java.lang and java.io).
-use Rattle.std.specs.Prelude.{◌≡◌, ◌<◌, ◌^◌, ℤ, pos, ℕ, Bool, true, false, FitsSigned, IsTrue, List, [], ◌∷◌, ◌&&◌, length, map, Option, Some, None, slice_get, zero, suc}
+use Rattle.std.specs.Prelude.{◌≡◌, ◌<◌, ◌^◌, ℤ, pos, ℕ, Bool, true, false, FitsSigned, IsTrue, List, [], ◌∷◌, ◌&&◌, length, map, Option, Some}
 use Rattle.std.specs.Int.{w32}
 use Rattle.cb_heap.specs.Kept.{content_at, contents_at, is_held, is_kept, is_number, is_reference}
 use Rattle.cb_kinds.specs.declared.basic.Basic.{Basic}
@@ -7,6 +7,7 @@ use Rattle.cb_kinds.specs.declared.basic.Basic.TheVariants as basics
 use Rattle.cb_library.specs.declared.native.Native.{Native}
 use Rattle.cb_library.specs.declared.native.Native.TheVariants as natives
 use Rattle.cb_machine.specs.Library as library
+use Rattle.cb_machine.specs.Performing.{unit_in}
 use Rattle.cb_machine.specs.Values.{kept_int}
 use Rattle.cb_plain.specs.State.{Content, Number, Object, Reference}
 use Rattle.cb_plain.specs.Updates.{object_in}
@@ -16,10 +17,6 @@ use Rattle.cb_shapes.specs.declared.sort.Sort.{Sort}
 use Rattle.cb_shapes.specs.declared.sort.Sort.TheVariants as sorts
 
 -- the units of an array, and the array to which the first word of an object refers
-abbrev pub unit_in : Content → ℕ
-unit_in (Number (pos unit)) = unit
-unit_in other = 0
-
 abbrev pub units_in : List (Option Object) → ℕ → List ℕ
 units_in objects array = map unit_in (contents_at objects array)
 

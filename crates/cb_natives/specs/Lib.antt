@@ -1,7 +1,13 @@
 pub mod Answers
 pub mod Equal
 pub mod Exceptions
-pub mod Finding
 pub mod Given
-pub mod Natives
+pub mod Makers
+pub mod Making
+pub mod MakingKept
+pub mod MakingNumbers
+pub mod MakingOwn
+pub mod MakingTexts
 pub mod Parsing
+pub mod Pieces
+pub mod Writing

@@ -1,25 +1,7 @@
--- Numbers in texts: a sign at most, then digits, within the range of so many bits (Java SE 8 API, `Integer.parseInt`).
-use Rattle.std.specs.Prelude.{◌≡◌, ℤ, pos, ◌-ℤ◌, ℕ, ◌+◌, ◌-◌, ◌*◌, ◌^◌, Bool, true, false, List, [], ◌∷◌, Option, Some, None, option_and_then, option_map, nat_le, nat_lt, ◌&&◌, if◌then◌else◌}
-use Rattle.std.specs.Int.{Width, w32, w64, int_wrap}
-use Rattle.std.specs.Ordering.{int_eq}
-
-abbrev pub digit_of : ℕ → Option ℕ
-digit_of unit = if nat_le 48 unit && nat_lt unit 58 then Some (unit - 48) else None
-
-abbrev pub read_on : ℕ → Option ℕ → Option ℕ
-read_on sum None = None
-read_on sum (Some digit) = Some (sum * 10 + digit)
-
-abbrev pub read_digits : ℕ → List ℕ → Option ℕ
-read_digits sum [] = Some sum
-read_digits sum (unit ∷ units) = option_and_then (λ sum. read_digits sum units) (read_on sum (digit_of unit))
-
-abbrev pub read_some : List ℕ → Option ℕ
-read_some [] = None
-read_some (unit ∷ units) = read_digits 0 (unit ∷ units)
-
-abbrev pub in_range : Width → ℤ → Option ℤ
-in_range width number = if int_eq (int_wrap width number) number then Some number else None
+-- Numbers that are read digit by digit as far as they may be in range.
+use Rattle.std.specs.Prelude.{◌≡◌, ℤ, pos, ◌-ℤ◌, ℕ, ◌^◌, Bool, true, false, Option, Some, None, option_and_then, option_map, nat_le, if◌then◌else◌}
+use Rattle.std.specs.Int.{w32, w64}
+use Rattle.cb_machine.specs.Answering.{in_range}
 
 -- a number that was read, if it isn't more than 2 to the 63
 abbrev pub at_most : Option ℕ → Option ℕ

@@ -4,13 +4,13 @@ ghost use Rattle.cb_heap.specs.Kept.{content_at, is_held, is_number};
 ghost use Rattle.cb_heap.specs.Reading.{serial_of};
 ghost use Rattle.cb_kinds.specs.declared.basic.Basic.{Basic};
 ghost use Rattle.cb_kinds.specs.declared.basic.Basic.TheVariants as basics;
+ghost use Rattle.cb_machine.specs.Answering.{equal_numbers, of_kind, on_ordinal};
 ghost use Rattle.cb_machine.specs.Machine.{Machine};
 ghost use Rattle.cb_machine.specs.Performing.{Performed, on_number};
 ghost use Rattle.cb_machine.specs.Values.{kept_int};
 ghost use Rattle.cb_plain.specs.State.{Number, Object};
 ghost use Rattle.cb_plain.specs.Updates.{object_in};
-ghost use Rattle.cb_natives.specs.Answers.{Beside, call_on, on_given, on_ordinal};
-ghost use Rattle.cb_natives.specs.Equal.{equal_numbers, of_kind};
+ghost use Rattle.cb_natives.specs.Answers.{Beside, call_on, on_given};
 ghost use Rattle.cb_natives.specs.Given.{ABox, AConstant, ALongBox, HoldsInt, IsReference};
 
 use crate::wrapping::long_in;

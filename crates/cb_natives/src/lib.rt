@@ -1,7 +1,10 @@
 //! What the library's natives do (Java SE 8 API, java.lang and java.io), over any store of objects.
 //!
-//! `specs/` says what is known of the arguments of each (`Given`), and what one answers that places nothing but an exception (`Answers`).
-//! No call takes memory.
+//! `answer` does those that give a number or nothing. Those that place objects or change them are done in two calls, `plan_native`, which
+//! tells the room that they ask for, and `run_native`, once that room was made.
+//!
+//! `specs/` says what is known of the arguments of each (`Given`), what one answers that places nothing but an exception (`Answers`), and
+//! what the others ask for and perform (`Making`, and by group the files that begin so). No call takes memory but the store's.
 #![tactic(auto)]
 
 mod answering;
@@ -11,18 +14,44 @@ mod box_answers;
 mod boxes;
 mod gives;
 mod held;
+mod kept_entries;
+mod kept_objects;
+mod low_bits;
+mod makes_texts;
+mod making;
 mod math_answers;
 mod methods;
 mod native_at;
+mod number_boxes;
 mod object_answers;
+mod own;
+mod own_appending;
+mod own_arguments;
+mod own_building;
+mod own_change;
+mod own_editing;
+mod own_natives;
+mod own_pieces;
+mod own_placing;
+mod own_ranges;
+mod own_reading;
 mod parsing;
+mod pieces;
+mod placing_texts;
 mod reading;
 mod scanning;
+mod short_texts;
 mod string_answers;
 mod string_reading;
+mod text_making;
+mod text_of;
+mod texts;
+mod value_texts;
 mod wrapping;
+mod writing;
 
 pub use answering::answer;
 pub use answers::{Answer, Exception, Thrown};
 pub use gives::gives_answer;
+pub use making::{makes, plan_native, run_native};
 pub use methods::native_of;

@@ -1,9 +1,8 @@
 // Natives of numbers alone (Java SE 8 API, java.lang.Math).
 ghost use Rattle.std.specs.Prelude.{◌≡◌, ◌≢◌, ◌∷◌, [], ℕ, List, Ok, Option, map, pos, true};
-ghost use Rattle.std.specs.Int.{int_wrap, w32, w64};
 ghost use Rattle.cb_heap.specs.Reading.{read_value};
 ghost use Rattle.cb_library.specs.declared.native.Native.TheVariants as natives;
-ghost use Rattle.cb_machine.specs.Answering.{floor_quotient, floor_remainder};
+ghost use Rattle.cb_machine.specs.Answering.{floor_quotient};
 ghost use Rattle.cb_plain.specs.State.{Object};
 ghost use Rattle.cb_plain.specs.declared.value.Value.TheVariants as values;
 ghost use Rattle.cb_natives.specs.Answers.{Tells, gives_math};

@@ -1,12 +1,12 @@
 // Which native a method is, by the library's table: by the number of its class, and its place among the methods of the class.
 ghost use Rattle.std.specs.Prelude.{◌≡◌};
-ghost use Rattle.cb_natives.specs.Natives.{native_in};
+ghost use Rattle.cb_machine.specs.Natives.{native_at};
 
 use cb_library::Native;
 
 /// The native at a place of a class of the library, if one stands there.
 pub(crate) fn native_in(class: u32, place: u32) -> Option<Native>
-    ensures { result ≡ native_in class place }
+    ensures { result ≡ native_at class place }
 {
     match class {
         0 => of_object(place),
@@ -29,7 +29,7 @@ pub(crate) fn native_in(class: u32, place: u32) -> Option<Native>
 
 /// Of java/lang/Object.
 fn of_object(place: u32) -> Option<Native>
-    ensures { result ≡ native_in 0 place }
+    ensures { result ≡ native_at 0 place }
 {
     match place {
         1 => Some(Native::ObjectGetClass),
@@ -43,7 +43,7 @@ fn of_object(place: u32) -> Option<Native>
 
 /// Of java/lang/String.
 fn of_string(place: u32) -> Option<Native>
-    ensures { result ≡ native_in 8 place }
+    ensures { result ≡ native_at 8 place }
 {
     match place {
         0 => Some(Native::StringNew),
@@ -75,7 +75,7 @@ fn of_string(place: u32) -> Option<Native>
 
 /// Of java/lang/StringBuilder.
 fn of_string_builder(place: u32) -> Option<Native>
-    ensures { result ≡ native_in 9 place }
+    ensures { result ≡ native_at 9 place }
 {
     match place {
         0 => Some(Native::StringBuilderNew),
@@ -99,7 +99,7 @@ fn of_string_builder(place: u32) -> Option<Native>
 
 /// Of java/lang/Class.
 fn of_class(place: u32) -> Option<Native>
-    ensures { result ≡ native_in 10 place }
+    ensures { result ≡ native_at 10 place }
 {
     match place {
         0 => Some(Native::ClassGetName),
@@ -110,7 +110,7 @@ fn of_class(place: u32) -> Option<Native>
 
 /// Of java/lang/System.
 fn of_system(place: u32) -> Option<Native>
-    ensures { result ≡ native_in 11 place }
+    ensures { result ≡ native_at 11 place }
 {
     match place {
         0 => Some(Native::SystemExit),
@@ -123,7 +123,7 @@ fn of_system(place: u32) -> Option<Native>
 
 /// Of java/io/PrintStream.
 fn of_print_stream(place: u32) -> Option<Native>
-    ensures { result ≡ native_in 12 place }
+    ensures { result ≡ native_at 12 place }
 {
     match place {
         0 => Some(Native::PrintBoolean),
@@ -144,7 +144,7 @@ fn of_print_stream(place: u32) -> Option<Native>
 
 /// Of java/io/InputStream.
 fn of_input_stream(place: u32) -> Option<Native>
-    ensures { result ≡ native_in 13 place }
+    ensures { result ≡ native_at 13 place }
 {
     match place {
         0 => Some(Native::ReadByte),
@@ -155,7 +155,7 @@ fn of_input_stream(place: u32) -> Option<Native>
 
 /// Of java/lang/Integer.
 fn of_integer(place: u32) -> Option<Native>
-    ensures { result ≡ native_in 15 place }
+    ensures { result ≡ native_at 15 place }
 {
     match place {
         0 => Some(Native::IntegerNew),
@@ -176,7 +176,7 @@ fn of_integer(place: u32) -> Option<Native>
 
 /// Of java/lang/Long.
 fn of_long(place: u32) -> Option<Native>
-    ensures { result ≡ native_in 16 place }
+    ensures { result ≡ native_at 16 place }
 {
     match place {
         0 => Some(Native::LongNew),
@@ -196,7 +196,7 @@ fn of_long(place: u32) -> Option<Native>
 
 /// Of java/lang/Character.
 fn of_character(place: u32) -> Option<Native>
-    ensures { result ≡ native_in 17 place }
+    ensures { result ≡ native_at 17 place }
 {
     match place {
         0 => Some(Native::CharacterNew),
@@ -213,7 +213,7 @@ fn of_character(place: u32) -> Option<Native>
 
 /// Of java/lang/Boolean.
 fn of_boolean(place: u32) -> Option<Native>
-    ensures { result ≡ native_in 18 place }
+    ensures { result ≡ native_at 18 place }
 {
     match place {
         0 => Some(Native::BooleanNew),
@@ -230,7 +230,7 @@ fn of_boolean(place: u32) -> Option<Native>
 
 /// Of java/lang/Math.
 fn of_math(place: u32) -> Option<Native>
-    ensures { result ≡ native_in 19 place }
+    ensures { result ≡ native_at 19 place }
 {
     match place {
         0 => Some(Native::MathAbsInt),
@@ -249,7 +249,7 @@ fn of_math(place: u32) -> Option<Native>
 
 /// Of java/lang/Enum.
 fn of_enum(place: u32) -> Option<Native>
-    ensures { result ≡ native_in 20 place }
+    ensures { result ≡ native_at 20 place }
 {
     match place {
         4 => Some(Native::EnumEquals),
@@ -262,7 +262,7 @@ fn of_enum(place: u32) -> Option<Native>
 
 /// Of java/lang/Throwable.
 fn of_throwable(place: u32) -> Option<Native>
-    ensures { result ≡ native_in 22 place }
+    ensures { result ≡ native_at 22 place }
 {
     match place {
         7 => Some(Native::ThrowableSay),

@@ -4,11 +4,12 @@ ghost use Rattle.std.specs.Int.{int_wrap, w32};
 ghost use Rattle.cb_heap.specs.Kept.{is_held};
 ghost use Rattle.cb_heap.specs.Reading.{serial_of};
 ghost use Rattle.cb_library.specs.declared.native.Native.TheVariants as natives;
+ghost use Rattle.cb_machine.specs.Answering.{on_ordinal};
 ghost use Rattle.cb_machine.specs.Machine.{Machine};
 ghost use Rattle.cb_machine.specs.Performing.{Call, gives, gives_int};
 ghost use Rattle.cb_machine.specs.Testing.{int_of};
 ghost use Rattle.cb_plain.specs.declared.value.Value.TheVariants as values;
-ghost use Rattle.cb_natives.specs.Answers.{Beside, Tells, answered, call_on, given_as, on_ordinal};
+ghost use Rattle.cb_natives.specs.Answers.{Beside, Tells, answered, call_on, given_as};
 ghost use Rattle.cb_natives.specs.Given.{AConstant, IsReference};
 
 use crate::held::{ordinal_in, serial_in};

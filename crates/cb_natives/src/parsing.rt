@@ -4,13 +4,13 @@ ghost use Rattle.std.specs.Int.{w32, w64};
 ghost use Rattle.std.specs.Prelude.{option_and_then};
 ghost use Rattle.cb_heap.specs.Reading.{serial_of};
 ghost use Rattle.cb_library.specs.declared.native.Native.TheVariants as natives;
-ghost use Rattle.cb_machine.specs.Answering.{number_in};
+ghost use Rattle.cb_machine.specs.Answering.{digit_of, gives_long, gives_parsed, in_range, number_in, read_some};
 ghost use Rattle.cb_machine.specs.Machine.{Machine};
 ghost use Rattle.cb_machine.specs.Performing.{gives_int, on_text};
 ghost use Rattle.cb_plain.specs.declared.value.Value.TheVariants as values;
-ghost use Rattle.cb_natives.specs.Answers.{Beside, Tells, answered, call_on, gives_long, parsed};
+ghost use Rattle.cb_natives.specs.Answers.{Beside, Tells, answered, call_on};
 ghost use Rattle.cb_natives.specs.Given.{AText, HoldsUnits, IsReference, units_in};
-ghost use Rattle.cb_natives.specs.Parsing.{SameInRange, at_most, digit_of, in_range, read_some, with_sign};
+ghost use Rattle.cb_natives.specs.Parsing.{SameInRange, at_most, with_sign};
 
 use crate::reading::count;
 use crate::scanning::unit_at;
@@ -39,7 +39,7 @@ pub(crate) fn parse_int<S: Store>(store: &S, at: u64) -> Result<Answer, Thrown>
 /// The int that a string spells, or a NumberFormatException.
 fn int_in_text<S: Store>(store: &S, at: u64) -> Result<Answer, Thrown>
     requires { IsReference (S.kept store.now) AText (serial_of (S.index store.now) at) }
-    ensures { (machine : Machine) (beside : Beside) → on_text (call_on machine (S.kept store.now) beside) (serial_of (S.index store.now) at) (λ units. parsed (call_on machine (S.kept store.now) beside) (gives_int (call_on machine (S.kept store.now) beside)) (option_and_then (in_range w32) (number_in units)))
+    ensures { (machine : Machine) (beside : Beside) → on_text (call_on machine (S.kept store.now) beside) (serial_of (S.index store.now) at) (λ units. gives_parsed (call_on machine (S.kept store.now) beside) (gives_int (call_on machine (S.kept store.now) beside)) (option_and_then (in_range w32) (number_in units)))
         ≡ answered (call_on machine (S.kept store.now) beside) result }
 {
     let array = text_in(store, at)?;
@@ -63,7 +63,7 @@ pub(crate) fn parse_long<S: Store>(store: &S, at: u64) -> Result<Answer, Thrown>
 /// The long that a string spells, or a NumberFormatException.
 fn long_in_text<S: Store>(store: &S, at: u64) -> Result<Answer, Thrown>
     requires { IsReference (S.kept store.now) AText (serial_of (S.index store.now) at) }
-    ensures { (machine : Machine) (beside : Beside) → on_text (call_on machine (S.kept store.now) beside) (serial_of (S.index store.now) at) (λ units. parsed (call_on machine (S.kept store.now) beside) (gives_long (call_on machine (S.kept store.now) beside)) (option_and_then (in_range w64) (number_in units)))
+    ensures { (machine : Machine) (beside : Beside) → on_text (call_on machine (S.kept store.now) beside) (serial_of (S.index store.now) at) (λ units. gives_parsed (call_on machine (S.kept store.now) beside) (gives_long (call_on machine (S.kept store.now) beside)) (option_and_then (in_range w64) (number_in units)))
         ≡ answered (call_on machine (S.kept store.now) beside) result }
 {
     let array = text_in(store, at)?;

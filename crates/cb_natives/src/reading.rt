@@ -1,10 +1,8 @@
 // What natives read of objects.
-ghost use Rattle.std.specs.Prelude.{◌≡◌, ◌<◌, ◌∷◌, [], ℕ, List, Option, length, slice_get, IfSome, Some, pos};
-ghost use Rattle.cb_heap.specs.Kept.{contents_at};
+ghost use Rattle.std.specs.Prelude.{◌≡◌, ◌<◌, ℕ, List, Option, length, slice_get, IfSome, Some};
 ghost use Rattle.cb_heap.specs.Reading.{serial_of};
 ghost use Rattle.cb_machine.specs.Machine.{Machine};
 ghost use Rattle.cb_machine.specs.Performing.{Performed, on_text};
-ghost use Rattle.cb_machine.specs.Sites.{null_pointer};
 ghost use Rattle.cb_natives.specs.Answers.{Beside, call_on, on_units};
 ghost use Rattle.cb_natives.specs.Given.{HoldsUnits, IsReference, units_in};
 ghost use Rattle.cb_natives.specs.Given.{AText};

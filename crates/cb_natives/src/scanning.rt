@@ -1,11 +1,10 @@
 // What is asked of the units of strings, which are arrays of chars (Java SE 8 API, java.lang.String).
-ghost use Rattle.std.specs.Prelude.{◌≡◌, ◌+◌, ◌<◌, ◌≤◌, ◌∷◌, ◌*ℤ◌, ◌+ℤ◌, ℤ, List, Option, drop, length, pos};
+ghost use Rattle.std.specs.Prelude.{◌≡◌, ◌+◌, ◌<◌, ◌≤◌, ◌∷◌, ◌*ℤ◌, ◌+ℤ◌, ℤ, drop, length, pos};
 ghost use Rattle.std.specs.Int.{int_wrap, w32};
 ghost use Rattle.cb_heap.specs.Reading.{serial_of};
 ghost use Rattle.cb_kinds.specs.Texts.{same_text};
-ghost use Rattle.cb_machine.specs.Answering.{begins, compared, text_hash};
+ghost use Rattle.cb_machine.specs.Answering.{begins, compared, ends_with, found_from, text_hash, unit_index};
 ghost use Rattle.cb_natives.specs.Given.{HoldsUnits, units_in};
-ghost use Rattle.cb_natives.specs.Finding.{ends_with, found_from, unit_index};
 
 use crate::reading::{count, unit};
 use crate::wrapping::{int_product, int_sum};

@@ -3,10 +3,11 @@ ghost use Rattle.std.specs.Prelude.{◌≡◌, ◌∷◌, [], IsTrue, length, ma
 ghost use Rattle.cb_heap.specs.Kept.{is_held};
 ghost use Rattle.cb_heap.specs.Reading.{read_value, serial_of};
 ghost use Rattle.cb_library.specs.declared.native.Native.TheVariants as natives;
+ghost use Rattle.cb_machine.specs.Answering.{unit_at};
 ghost use Rattle.cb_machine.specs.Machine.{Machine};
 ghost use Rattle.cb_machine.specs.Performing.{gives_int};
 ghost use Rattle.cb_plain.specs.declared.value.Value.TheVariants as values;
-ghost use Rattle.cb_natives.specs.Answers.{Beside, Tells, answered, call_on, gives_text, indexed, on_built};
+ghost use Rattle.cb_natives.specs.Answers.{Beside, Tells, answered, call_on, gives_text, on_built};
 ghost use Rattle.cb_natives.specs.Given.{ABuilder, AText, AreGiven, HasCore, IsReference, have_sorts, roles, sorts_of};
 
 use crate::arguments::{reference, reference_int, references};
@@ -192,7 +193,7 @@ fn built_length<S: Store>(store: &S, at: u64) -> Result<Answer, Thrown>
 /// `charAt` of a builder.
 fn built_char_at<S: Store>(store: &S, at: u64, place: i32) -> Result<Answer, Thrown>
     requires { IsReference (S.kept store.now) ABuilder (serial_of (S.index store.now) at) }
-    ensures { (machine : Machine) (beside : Beside) → on_built (call_on machine (S.kept store.now) beside) (serial_of (S.index store.now) at) (indexed (call_on machine (S.kept store.now) beside) place)
+    ensures { (machine : Machine) (beside : Beside) → on_built (call_on machine (S.kept store.now) beside) (serial_of (S.index store.now) at) (unit_at (call_on machine (S.kept store.now) beside) place)
         ≡ answered (call_on machine (S.kept store.now) beside) result }
 {
     let (array, units) = built_in(store, at)?;

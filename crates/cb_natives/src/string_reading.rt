@@ -2,12 +2,13 @@
 ghost use Rattle.std.specs.Prelude.{◌≡◌, ◌≤◌, ◌<◌, ℕ, IfOk, IfSome, IsTrue, List, Option, Some, length, take};
 ghost use Rattle.cb_heap.specs.Kept.{is_held};
 ghost use Rattle.cb_heap.specs.Reading.{serial_of};
+ghost use Rattle.cb_machine.specs.Answering.{equal_texts, of_kind};
 ghost use Rattle.cb_machine.specs.Machine.{Machine};
-ghost use Rattle.cb_machine.specs.Performing.{Performed, on_text};
+ghost use Rattle.cb_machine.specs.Performing.{Performed, counted, on_text};
 ghost use Rattle.cb_plain.specs.State.{Object};
 ghost use Rattle.cb_plain.specs.Updates.{object_in};
-ghost use Rattle.cb_natives.specs.Answers.{Beside, call_on, counted, on_built, on_given, with_front, with_units};
-ghost use Rattle.cb_natives.specs.Equal.{equal_texts, equal_units, of_kind};
+ghost use Rattle.cb_natives.specs.Answers.{Beside, call_on, on_built, on_given, with_front, with_units};
+ghost use Rattle.cb_natives.specs.Equal.{equal_units};
 ghost use Rattle.cb_natives.specs.Given.{ABuilder, AText, HasText, HoldsUnits, IsReference, units_in};
 
 use crate::held::{OfInt, int_in};

@@ -19,7 +19,7 @@ use Rattle.cb_kinds.specs.declared.basic.Basic.{Basic}
 use Rattle.cb_kinds.specs.declared.basic.Basic.TheVariants as basics
 use Rattle.cb_library.specs.declared.native.Native.{Native}
 use Rattle.cb_library.specs.declared.native.Native.TheVariants as natives
-use Rattle.cb_machine.specs.Answering.{begins, compared, floor_quotient, floor_remainder, number_in}
+use Rattle.cb_machine.specs.Answering.{begins, compared, floor_quotient, floor_remainder, found_from, in_range, number_in, place_or_none, unit_index}
 use Rattle.cb_machine.specs.Computing.{throws_by_zero}
 use Rattle.cb_machine.specs.Machine.{Machine}
 use Rattle.cb_machine.specs.Natives.{performed}
@@ -101,22 +101,10 @@ compared_fits (unit ∷ units) (other ∷ others) is also = go (unit == other) (
   go false later = let one = is.each.0 in let two = also.each.0 in difference_fits unit other (omega (arith, one)) (omega (arith, two))
 
 -- places in texts
-abbrev found_from : ℕ → List ℕ → List ℕ → ℤ
-found_from place [] part = if length part == 0 then pos place else negsuc 0
-found_from place (unit ∷ units) part = if begins (unit ∷ units) part then pos place else found_from (place + 1) units part
-
 found_fits : (place : ℕ) (units part : List ℕ) → place + length units ≤ most_elements → FitsSigned w32 (found_from place units part)
 found_fits place [] part few = either_fits (length part == 0) (pos place) (negsuc 0) w32 (length_fits place (omega (arith, few))) none_fits
 found_fits place (unit ∷ units) part few =
     either_fits (begins (unit ∷ units) part) (pos place) (found_from (place + 1) units part) w32 (length_fits place (omega (arith, few))) (found_fits (place + 1) units part (omega (arith, few)))
-
-abbrev place_or_none : Option ℕ → ℤ
-place_or_none None = negsuc 0
-place_or_none (Some place) = pos place
-
-abbrev unit_index : List ℕ → ℤ → ℤ
-unit_index units (pos unit) = place_or_none (position (λ other. other == unit) units)
-unit_index units other = negsuc 0
 
 index_fits : (units : List ℕ) (unit : ℤ) → length units ≤ most_elements → FitsSigned w32 (unit_index units unit)
 index_fits units (negsuc unit) few = none_fits
@@ -124,10 +112,6 @@ index_fits units (pos unit) few = go (position (λ other. other == unit) units) 
   go : (found : Option ℕ) → position (λ other. other == unit) units ≡ found → FitsSigned w32 (place_or_none found)
   go None is = none_fits
   go (Some place) is = let low = (position-Some (λ other. other == unit) units place 0 is).0 in length_fits place (omega (arith, low, few))
-
--- what is read of a text
-abbrev in_range : Width → ℤ → Option ℤ
-in_range width number = if int_eq (int_wrap width number) number then Some number else None
 
 -- ---- what they give
 

@@ -26,6 +26,7 @@ use Rattle.cb_link.specs.declared.linked.LinkedMethod.{LinkedMethod}
 use Rattle.cb_names.specs.Signs.{bracket, letter_boolean, letter_byte, letter_char, letter_class, letter_double, letter_long, letter_short}
 use Rattle.cb_verify.specs.Types.{type_of}
 use Rattle.cb_safety.specs.Linked.{IsLinked}
+use Rattle.cb_machine.specs.Natives.{native_at, native_in}
 use Rattle.cb_safety.specs.Natives.{receiver_types}
 use Rattle.cb_safety.specs.Performing.{HasSignature, HaveSignatures}
 use Rattle.cb_safety.specs.Signatures.{gives_of, takes_of}
@@ -86,13 +87,6 @@ rows_fit program class (first ∷ table) all (suc place) row there =
     subst (λ (number : ℕ). MethodsFit program number row.methods) (let same : class + 1 + place ≡ class + suc place = omega arith in same) (rows_fit program (class + 1) table all.1 place row there)
 
 -- ---- the row of a native
-
-abbrev native_in : Kind → Option Native
-native_in (rows.Performed native) = Some native
-native_in other = None
-
-abbrev native_at : ℕ → ℕ → Option Native
-native_at class place = option_and_then (λ (row : CoreClass). option_and_then (λ (method : rows.Method). native_in method.kind) (slice_get row.methods place)) (slice_get core_classes class)
 
 fits_native : (program : Linked) (class : ℕ) (method : rows.Method) (kind : Kind) (native : Native) → native_in kind ≡ Some native → MethodFits program class method kind
     → (receiver_types (has_flag acc_static method.flags) class ++ map type_of (map (core_basic program.kinds) (parameters_of method.descriptor)) ≡ takes_of program native)

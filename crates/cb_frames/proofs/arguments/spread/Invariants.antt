@@ -9,3 +9,4 @@ abbrev pub invariant-loop-i : goal.invariant-loop-i
 invariant-loop-i l =
     (map value_of l.slots ≡ pasted (map value_of l.initial.slots) l.to (flat_map slots_of (slice_range (map value_of l.initial.slots) l.from l.i)))
     × (l.at ≡ l.to + length (flat_map slots_of (slice_range (map value_of l.initial.slots) l.from l.i)))
+    × (length l.slots ≡ length l.initial.slots)

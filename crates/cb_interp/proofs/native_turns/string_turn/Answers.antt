@@ -61,4 +61,4 @@ pub returns-in_default-clause-only : goal.returns-in_default-clause-only
 returns-in_default-clause-only g c =
     leaves_native (machine_of c.args.program.now c.args.roots.now.limit)
     (state_of (seen (g.S.Store.index c.args.store.now) (g.S.Store.kept c.args.store.now) c.args.roots.now.roots) g.outside) c.args.decoded.now c.requires.1.1.1.0 c.args.method
-    c.requires.1.1.1.1.0 c.requires.1.1.1.1.1 c.in_default.ensures.other
+    c.requires.1.1.1.1.0 c.requires.1.1.1.1.1.0 c.in_default.ensures.other c.requires.1.1.1.1.1.1

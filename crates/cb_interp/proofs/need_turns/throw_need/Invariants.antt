@@ -1,4 +1,4 @@
 use Rattle.cb_interp.proofs.need_turns.throw_need.Given as goal
 
-abbrev pub ghost-throw_turn : goal.ghost-throw_turn
-ghost-throw_turn g a = g.outside
+abbrev pub ghost-throw_of : goal.ghost-throw_of
+ghost-throw_of g a = g.outside

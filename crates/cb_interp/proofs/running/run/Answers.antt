@@ -1,4 +1,4 @@
-use Rattle.std.proofs.Common.{◌∙◌, ap, arith, ◌≡◌, ◌≤◌, ◌+◌, refl, rules, sym, subst, ℕ, IsTrue}
+use Rattle.std.proofs.Common.{◌∙◌, ap, arith, ◌≤◌, ◌+◌, refl, rules, sym, subst, ℕ, IsTrue}
 use Rattle.std.specs.declared.result.Result.TheVariants.{Err}
 use Rattle.cb_heap.specs.Kept.{is_kept}
 use Rattle.cb_heap.specs.Reading.{seen}
@@ -7,7 +7,7 @@ use Rattle.cb_interp.specs.Quick.{TurnedBy}
 use Rattle.cb_interp.specs.Running.{MayRun, SaysBy, TurnStops, outside_of}
 use Rattle.cb_act.specs.Turning.{Moment, machine_of, moment_of, state_of}
 use Rattle.cb_interp.proofs.RunCounts.{counts_as, counts_none, counts_still, counts_then, output_ends, output_stops, report_ends, report_stops}
-use Rattle.cb_interp.proofs.RunLoop.{Ran, ended_goes, ended_stops, ends_at, ends_spent, ran_none, stays_silent, stopped_uncaught, stops_turn, takes_turn}
+use Rattle.cb_interp.proofs.RunLoop.{ended_goes, ended_stops, ends_at, ends_spent, ran_none, stays_silent, stopped_uncaught, stops_turn, takes_turn}
 use Rattle.cb_interp.proofs.RunQuick.{ran_on}
 use Rattle.cb_interp.proofs.RunTyped.{after_typed, made_closed, may_run_on, stands_typed, uncaught_kept}
 use Rattle.cb_interp.proofs.running.run.Goals as goal

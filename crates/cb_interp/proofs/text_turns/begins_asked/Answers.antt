@@ -1,4 +1,4 @@
-use Rattle.std.proofs.Common.{◌≡◌, ◌∙◌, ap, arith, subst, sym, ◌+◌, ◌<◌, [], IsTrue, length, true, ℕ}
+use Rattle.std.proofs.Common.{◌≡◌, ◌∙◌, ap, arith, subst, sym, IsTrue, length, true, ℕ}
 use Rattle.std.proofs.lemmas.Bool.{false≢true}
 use Rattle.cb_heap.proofs.Laws.{reads_room}
 use Rattle.cb_heap.specs.Reading.{read_roots, seen}

@@ -1,4 +1,4 @@
-use Rattle.std.proofs.Common.{rules, ◌≡◌, ◌∙◌, ap, arith, refl, sym, Some}
+use Rattle.std.proofs.Common.{◌∙◌, ap, arith, refl, sym, Some}
 use Rattle.cb_heap.proofs.Laws.{reads_room}
 use Rattle.cb_heap.specs.Reading.{read_roots, seen}
 use Rattle.cb_act.specs.Turning.{machine_of, state_of}

@@ -10,17 +10,14 @@ use Rattle.cb_machine.specs.Steps.{plan}
 use Rattle.cb_safety.specs.States.{IsTypedState}
 use Rattle.cb_act.specs.Acting.{Asks, acted}
 use Rattle.cb_act.specs.Here.{Here, need_plan}
-use Rattle.cb_interp.specs.Leaving.{NativeStops}
-use Rattle.cb_interp.specs.Running.{SaysBy, StopsBy, Turned}
-use Rattle.cb_act.specs.Turning.{Moment, TurnMade, machine_of, moment_of, state_of}
+use Rattle.cb_interp.specs.Running.{SaysBy, TurnStops, Turned}
+use Rattle.cb_act.specs.Turning.{Moment, machine_of, moment_of, state_of}
 use Rattle.cb_heap.specs.declared.no_room.NoRoom.TheVariants as rooms
-use Rattle.cb_act.specs.declared.need.Need.TheVariants as needs
 use Rattle.cb_interp.specs.declared.stop.Stop.TheVariants as stops
 use Rattle.cb_interp.proofs.LinkedFew.{few_parameters}
 use Rattle.cb_interp.proofs.LinkedMarks.{marks_natives}
-use Rattle.cb_interp.proofs.RunCounts.{counts_as, counts_none}
 use Rattle.cb_interp.proofs.RunHere.{decoded_here, here_at, runs_special}
-use Rattle.cb_interp.proofs.RunTurns.{err_on, native_stops, never_output, silent_made, silent_stops, silences}
+use Rattle.cb_interp.proofs.RunTurns.{silent_made}
 use Rattle.cb_interp.proofs.RunTyped.{may_run_on}
 use Rattle.cb_interp.proofs.turn.method_turn.Goals as goal
 
@@ -55,39 +52,8 @@ act_turn-requires g c κs within =
       ),
     )
 
-pub native_turn-requires : goal.native_turn-requires
-native_turn-requires g c κs within =
-    let program = c.args.program.now in
-    let limit = c.args.roots.now.limit in
-    let view = seen (g.S.Store.index c.args.store.now) (g.S.Store.kept c.args.store.now) c.args.roots.now.roots in
-    let later = seen (g.S.Store.index c.act_turn.new.store) (g.S.Store.kept c.act_turn.new.store) c.act_turn.new.roots.roots in
-    let same : later ≡ view =
-    ap (λ index. seen index (g.S.Store.kept c.act_turn.new.store) c.act_turn.new.roots.roots) c.in-Err.ensures.places
-    ∙ ap (λ kept. seen (g.S.Store.index c.args.store.now) kept c.act_turn.new.roots.roots) c.in-Err.ensures.held
-    ∙ ap (λ (limited : Limited). seen (g.S.Store.index c.args.store.now) (g.S.Store.kept c.args.store.now) limited.roots) c.in-Err.ensures.same in
-    let found : Some c.in-Some.decoded.now ≡ decoded program c.args.method c.args.pc = c.in-Some.ensures.found in
-    let here = here_at program limit (g.S.Store.index c.args.store.now) (g.S.Store.kept c.args.store.now) c.args.roots.now.roots g.outside c.args.method c.args.pc c.in-Some.decoded.now
-    c.requires.1.1.1.1.0 c.requires.1.1.1.1.1 found in
-    let asked : acted program limit c.in-Some.decoded.now view ≡ Some (Asks (needs.Performs c.in-Performs.native)) =
-    c.in-Err.ensures.asked ∙ ap (λ need. Some (Asks need)) c.in-Performs.is in (
-      search rules,
-      (
-        search rules,
-        (
-          (may_run_on program c.requires.1.1.0 c.act_turn.ensures.shapes c.act_turn.ensures.knows c.act_turn.ensures.allows
-              (subst (λ view. IsTypedState program (state_of view g.outside)) (sym same) c.requires.1.1.0.typed)),
-          (
-            (subst (λ limit. Here (machine_of program limit) (state_of later g.outside) c.in-Some.decoded.now) (sym c.act_turn.ensures.limit)
-                (subst (λ view. Here (machine_of program limit) (state_of view g.outside) c.in-Some.decoded.now) (sym same) here)),
-            (subst (λ limit. acted program limit c.in-Some.decoded.now later ≡ Some (Asks (needs.Performs c.in-Performs.native))) (sym c.act_turn.ensures.limit)
-                (subst (λ view. acted program limit c.in-Some.decoded.now view ≡ Some (Asks (needs.Performs c.in-Performs.native))) (sym same) asked)),
-          ),
-        ),
-      ),
-    )
-
-pub need_turn-requires : goal.need_turn-requires
-need_turn-requires g c κs within =
+pub needed_turn-requires : goal.needed_turn-requires
+needed_turn-requires g c κs within =
     let program = c.args.program.now in
     let limit = c.args.roots.now.limit in
     let view = seen (g.S.Store.index c.args.store.now) (g.S.Store.kept c.args.store.now) c.args.roots.now.roots in
@@ -101,18 +67,18 @@ need_turn-requires g c κs within =
     c.requires.1.1.1.1.0 c.requires.1.1.1.1.1 found in (
       search rules,
       (
-        (may_run_on program c.requires.1.1.0 c.act_turn.ensures.shapes c.act_turn.ensures.knows c.act_turn.ensures.allows
-            (subst (λ view. IsTypedState program (state_of view g.outside)) (sym same) c.requires.1.1.0.typed)),
+        search rules,
         (
-          c.requires.1.1.1.0,
+          (may_run_on program c.requires.1.1.0 c.act_turn.ensures.shapes c.act_turn.ensures.knows c.act_turn.ensures.allows
+              (subst (λ view. IsTypedState program (state_of view g.outside)) (sym same) c.requires.1.1.0.typed)),
           (
-            (subst (λ limit. Here (machine_of program limit) (state_of later g.outside) c.in-Some.decoded.now) (sym c.act_turn.ensures.limit)
-                (subst (λ view. Here (machine_of program limit) (state_of view g.outside) c.in-Some.decoded.now) (sym same) here)),
+            c.requires.1.1.1.0,
             (
-              (subst (λ limit. acted program limit c.in-Some.decoded.now later ≡ Some (Asks c.in-Err.need)) (sym c.act_turn.ensures.limit)
-                  (subst (λ view. acted program limit c.in-Some.decoded.now view ≡ Some (Asks c.in-Err.need)) (sym same) c.in-Err.ensures.asked)),
+              (subst (λ limit. Here (machine_of program limit) (state_of later g.outside) c.in-Some.decoded.now) (sym c.act_turn.ensures.limit)
+                  (subst (λ view. Here (machine_of program limit) (state_of view g.outside) c.in-Some.decoded.now) (sym same) here)),
               (
-                search rules,
+                (subst (λ limit. acted program limit c.in-Some.decoded.now later ≡ Some (Asks c.in-Err.need)) (sym c.act_turn.ensures.limit)
+                    (subst (λ view. acted program limit c.in-Some.decoded.now view ≡ Some (Asks c.in-Err.need)) (sym same) c.in-Err.ensures.asked)),
                 (subst (λ limit. plan (machine_of program limit) (state_of later g.outside) ≡ need_plan (machine_of program limit) (state_of later g.outside) c.in-Err.need) (sym c.act_turn.ensures.limit)
                     (subst (λ view. plan (machine_of program limit) (state_of view g.outside) ≡ need_plan (machine_of program limit) (state_of view g.outside) c.in-Err.need) (sym same) c.in-Err.ensures.needs)),
               ),
@@ -129,8 +95,8 @@ returns-in-Ok-clause-made g c =
     (seen (g.S.Store.index c.act_turn.new.store) (g.S.Store.kept c.act_turn.new.store) c.act_turn.new.roots.roots)
     (g.S.Store.facts c.args.store.now) (g.S.Store.facts c.act_turn.new.store) (g.O.Sink.taken c.args.out.now) (Ok tt) c.in-Ok.ensures.made
 
-pub returns-in-Performs-clause-made : goal.returns-in-Performs-clause-made
-returns-in-Performs-clause-made g c =
+pub returns-in-Err : goal.returns-in-Err
+returns-in-Err g c =
     let program = c.args.program.now in
     let limit = c.args.roots.now.limit in
     let view = seen (g.S.Store.index c.args.store.now) (g.S.Store.kept c.args.store.now) c.args.roots.now.roots in
@@ -139,82 +105,29 @@ returns-in-Performs-clause-made g c =
     ap (λ index. seen index (g.S.Store.kept c.act_turn.new.store) c.act_turn.new.roots.roots) c.in-Err.ensures.places
     ∙ ap (λ kept. seen (g.S.Store.index c.args.store.now) kept c.act_turn.new.roots.roots) c.in-Err.ensures.held
     ∙ ap (λ (limited : Limited). seen (g.S.Store.index c.args.store.now) (g.S.Store.kept c.args.store.now) limited.roots) c.in-Err.ensures.same in
-    let behind = seen (g.S.Store.index c.act_turn.new.store) (g.S.Store.kept c.act_turn.new.store) c.native_turn.new.roots.roots in
-    subst (λ facts. OnOk c.native_turn.result (Turned g.S.Store.rules (machine_of program limit) g.outside view behind facts (g.S.Store.facts c.act_turn.new.store)
-    (g.O.Sink.taken c.args.out.now) (g.O.Sink.taken c.native_turn.new.out))) c.in-Err.ensures.facts
-    (subst (λ view. OnOk c.native_turn.result (Turned g.S.Store.rules (machine_of program limit) g.outside view behind (g.S.Store.facts c.act_turn.new.store) (g.S.Store.facts c.act_turn.new.store)
-    (g.O.Sink.taken c.args.out.now) (g.O.Sink.taken c.native_turn.new.out))) same
-    (subst (λ limit. OnOk c.native_turn.result (Turned g.S.Store.rules (machine_of program limit) g.outside later behind (g.S.Store.facts c.act_turn.new.store) (g.S.Store.facts c.act_turn.new.store)
-    (g.O.Sink.taken c.args.out.now) (g.O.Sink.taken c.native_turn.new.out))) c.act_turn.ensures.limit c.native_turn.ensures.made))
-
-pub returns-in-Performs-clause-stopped : goal.returns-in-Performs-clause-stopped
-returns-in-Performs-clause-stopped g c =
-    let program = c.args.program.now in
-    let limit = c.args.roots.now.limit in
-    let view = seen (g.S.Store.index c.args.store.now) (g.S.Store.kept c.args.store.now) c.args.roots.now.roots in
-    let later = seen (g.S.Store.index c.act_turn.new.store) (g.S.Store.kept c.act_turn.new.store) c.act_turn.new.roots.roots in
-    let same : later ≡ view =
-    ap (λ index. seen index (g.S.Store.kept c.act_turn.new.store) c.act_turn.new.roots.roots) c.in-Err.ensures.places
-    ∙ ap (λ kept. seen (g.S.Store.index c.args.store.now) kept c.act_turn.new.roots.roots) c.in-Err.ensures.held
-    ∙ ap (λ (limited : Limited). seen (g.S.Store.index c.args.store.now) (g.S.Store.kept c.args.store.now) limited.roots) c.in-Err.ensures.same in
-    let behind = seen (g.S.Store.index c.act_turn.new.store) (g.S.Store.kept c.act_turn.new.store) c.native_turn.new.roots.roots in
-    native_stops g.S.Store.rules (machine_of program limit) (moment_of view g.outside (g.S.Store.facts c.args.store.now)) (moment_of behind g.outside (g.S.Store.facts c.act_turn.new.store))
-    c.native_turn.result
-    (subst (λ view. IfErr c.native_turn.result (NativeStops (machine_of program limit) (state_of view g.outside))) same
-    (subst (λ limit. IfErr c.native_turn.result (NativeStops (machine_of program limit) (state_of later g.outside))) c.act_turn.ensures.limit c.native_turn.ensures.only))
-    (err_on c.native_turn.result
-    (λ stays. ap₂ (λ (view : View) facts. moment_of view g.outside facts)
-    (ap (λ (limited : Limited). seen (g.S.Store.index c.act_turn.new.store) (g.S.Store.kept c.act_turn.new.store) limited.roots) stays ∙ same) c.in-Err.ensures.facts)
-    c.native_turn.ensures.same)
-
-pub returns-in-Performs-clause-left : goal.returns-in-Performs-clause-left
-returns-in-Performs-clause-left g c =
-    let program = c.args.program.now in
-    let limit = c.args.roots.now.limit in
-    let view = seen (g.S.Store.index c.args.store.now) (g.S.Store.kept c.args.store.now) c.args.roots.now.roots in
-    let later = seen (g.S.Store.index c.act_turn.new.store) (g.S.Store.kept c.act_turn.new.store) c.act_turn.new.roots.roots in
-    let same : later ≡ view =
-    ap (λ index. seen index (g.S.Store.kept c.act_turn.new.store) c.act_turn.new.roots.roots) c.in-Err.ensures.places
-    ∙ ap (λ kept. seen (g.S.Store.index c.args.store.now) kept c.act_turn.new.roots.roots) c.in-Err.ensures.held
-    ∙ ap (λ (limited : Limited). seen (g.S.Store.index c.args.store.now) (g.S.Store.kept c.args.store.now) limited.roots) c.in-Err.ensures.same in
-    subst (λ view. IfErr c.native_turn.result (λ stop. SaysBy (machine_of program limit) (state_of view g.outside) stop (g.O.Sink.taken c.args.out.now) (g.O.Sink.taken c.native_turn.new.out))) same
-    (subst (λ limit. IfErr c.native_turn.result (λ stop. SaysBy (machine_of program limit) (state_of later g.outside) stop (g.O.Sink.taken c.args.out.now) (g.O.Sink.taken c.native_turn.new.out)))
-    c.act_turn.ensures.limit c.native_turn.ensures.left)
-
-pub returns-in_default-need : goal.returns-in_default-need
-returns-in_default-need g c =
-    let program = c.args.program.now in
-    let limit = c.args.roots.now.limit in
-    let view = seen (g.S.Store.index c.args.store.now) (g.S.Store.kept c.args.store.now) c.args.roots.now.roots in
-    let later = seen (g.S.Store.index c.act_turn.new.store) (g.S.Store.kept c.act_turn.new.store) c.act_turn.new.roots.roots in
-    let same : later ≡ view =
-    ap (λ index. seen index (g.S.Store.kept c.act_turn.new.store) c.act_turn.new.roots.roots) c.in-Err.ensures.places
-    ∙ ap (λ kept. seen (g.S.Store.index c.args.store.now) kept c.act_turn.new.roots.roots) c.in-Err.ensures.held
-    ∙ ap (λ (limited : Limited). seen (g.S.Store.index c.args.store.now) (g.S.Store.kept c.args.store.now) limited.roots) c.in-Err.ensures.same in
-    let behind = seen (g.S.Store.index c.need_turn.new.store) (g.S.Store.kept c.need_turn.new.store) c.need_turn.new.roots.roots in
-    let before = moment_of view g.outside (g.S.Store.facts c.args.store.now) in
-    let middle = moment_of later g.outside (g.S.Store.facts c.act_turn.new.store) in
-    let after = moment_of behind g.outside (g.S.Store.facts c.need_turn.new.store) in
-    let stays : middle ≡ before = ap₂ (λ (view : View) facts. moment_of view g.outside facts) same c.in-Err.ensures.facts in
-    let made = subst (λ (moment : Moment g.S.Store.Facts). OnOk c.need_turn.result (TurnMade g.S.Store.rules (machine_of program limit) moment after)) stays
-    (subst (λ limit. OnOk c.need_turn.result (TurnMade g.S.Store.rules (machine_of program limit) middle after)) c.act_turn.ensures.limit c.need_turn.ensures.made) in
-    let stopped = subst (λ (moment : Moment g.S.Store.Facts). IfErr c.need_turn.result (λ stop. StopsBy g.S.Store.rules (machine_of program limit) stop moment after)) stays
-    (subst (λ limit. IfErr c.need_turn.result (λ stop. StopsBy g.S.Store.rules (machine_of program limit) stop middle after)) c.act_turn.ensures.limit c.need_turn.ensures.stopped) in
+    let behind = seen (g.S.Store.index c.needed_turn.new.store) (g.S.Store.kept c.needed_turn.new.store) c.needed_turn.new.roots.roots in
+    let after = moment_of behind g.outside (g.S.Store.facts c.needed_turn.new.store) in
+    let facts = g.S.Store.facts c.needed_turn.new.store in
+    let taken = g.O.Sink.taken c.args.out.now in
+    let takes = g.O.Sink.taken c.needed_turn.new.out in
     record {
-      made = silent_made g.S.Store.rules (machine_of program limit) g.outside view behind (g.S.Store.facts c.args.store.now) (g.S.Store.facts c.need_turn.new.store) (g.O.Sink.taken c.args.out.now)
-          c.need_turn.result made;
-      stopped = silent_stops g.S.Store.rules (machine_of program limit) g.outside view behind (g.S.Store.facts c.args.store.now) (g.S.Store.facts c.need_turn.new.store) (g.O.Sink.taken c.args.out.now)
-          c.need_turn.result stopped;
-      left = silences g.S.Store.rules (machine_of program limit) g.outside view behind (g.S.Store.facts c.args.store.now) (g.S.Store.facts c.need_turn.new.store) (g.O.Sink.taken c.args.out.now)
-          c.need_turn.result stopped;
-      counted = subst (λ count. CountsFaults count (g.S.Store.faults c.need_turn.new.store) (IsErrOf c.need_turn.result (stops.NoRoom rooms.ReportFault))) c.act_turn.ensures.faults c.need_turn.ensures.counted;
-      output = counts_as (g.O.Sink.faults c.args.out.now) (g.O.Sink.faults c.args.out.now) (λ never. absurd never)
-          (never_output g.S.Store.rules (machine_of program limit) g.outside view behind (g.S.Store.facts c.args.store.now) (g.S.Store.facts c.need_turn.new.store) (g.O.Sink.taken c.args.out.now)
-          c.need_turn.result stopped) (counts_none (g.O.Sink.faults c.args.out.now));
-      limit = c.need_turn.ensures.limit ∙ c.act_turn.ensures.limit;
-      knows = c.need_turn.ensures.knows ∙ c.act_turn.ensures.knows;
-      allows = c.need_turn.ensures.allows ∙ c.act_turn.ensures.allows;
-      shapes = c.need_turn.ensures.shapes ∙ c.act_turn.ensures.shapes;
+      made = subst (λ facts_before. OnOk c.needed_turn.result (Turned g.S.Store.rules (machine_of program limit) g.outside view behind facts_before facts taken takes)) c.in-Err.ensures.facts
+          (subst (λ view. OnOk c.needed_turn.result (Turned g.S.Store.rules (machine_of program limit) g.outside view behind (g.S.Store.facts c.act_turn.new.store) facts taken takes)) same
+          (subst (λ limit. OnOk c.needed_turn.result (Turned g.S.Store.rules (machine_of program limit) g.outside later behind (g.S.Store.facts c.act_turn.new.store) facts taken takes))
+          c.act_turn.ensures.limit c.needed_turn.ensures.made));
+      stopped = subst (λ (moment : Moment g.S.Store.Facts). IfErr c.needed_turn.result (λ stop. TurnStops g.S.Store.rules (machine_of program limit) stop moment after))
+          (ap₂ (λ (view : View) facts. moment_of view g.outside facts) same c.in-Err.ensures.facts)
+          (subst (λ limit. IfErr c.needed_turn.result (λ stop. TurnStops g.S.Store.rules (machine_of program limit) stop (moment_of later g.outside (g.S.Store.facts c.act_turn.new.store)) after))
+          c.act_turn.ensures.limit c.needed_turn.ensures.stopped);
+      left = subst (λ view. IfErr c.needed_turn.result (λ stop. SaysBy (machine_of program limit) (state_of view g.outside) stop taken takes)) same
+          (subst (λ limit. IfErr c.needed_turn.result (λ stop. SaysBy (machine_of program limit) (state_of later g.outside) stop taken takes)) c.act_turn.ensures.limit c.needed_turn.ensures.left);
+      counted = subst (λ count. CountsFaults count (g.S.Store.faults c.needed_turn.new.store) (IsErrOf c.needed_turn.result (stops.NoRoom rooms.ReportFault))) c.act_turn.ensures.faults
+          c.needed_turn.ensures.counted;
+      output = c.needed_turn.ensures.output;
+      limit = c.needed_turn.ensures.limit ∙ c.act_turn.ensures.limit;
+      knows = c.needed_turn.ensures.knows ∙ c.act_turn.ensures.knows;
+      allows = c.needed_turn.ensures.allows ∙ c.act_turn.ensures.allows;
+      shapes = c.needed_turn.ensures.shapes ∙ c.act_turn.ensures.shapes;
     }
 
 pub unreachable-requires : goal.unreachable-requires

@@ -1,5 +1,5 @@
 use Rattle.cb_natives.proofs.Places.{past_strings}
-use Rattle.std.proofs.Common.{arith, ◌≤◌, sym}
+use Rattle.std.proofs.Common.{arith, sym}
 use Rattle.cb_natives.proofs.native_at.of_string.Goals as goal
 
 pub returns-in_default : goal.returns-in_default

@@ -1,7 +1,8 @@
 use Rattle.std.proofs.Common.{drop, false, refl, subst, sym, true, None, ◌∙◌}
 use Rattle.cb_heap.specs.Reading.{serial_of}
 use Rattle.cb_natives.specs.Given.{units_in}
-use Rattle.cb_natives.specs.Parsing.{SameInRange, read_some, with_sign}
+use Rattle.cb_machine.specs.Answering.{read_some}
+use Rattle.cb_natives.specs.Parsing.{SameInRange, with_sign}
 use Rattle.cb_natives.proofs.NumberLaws.{number_bare, number_minus, number_none, number_plus, sign_so}
 use Rattle.cb_natives.proofs.parsing.number_in_units.Goals as goal
 

@@ -1,4 +1,3 @@
-use Rattle.cb_heap.specs.Reading.{serial_of}
 use Rattle.cb_natives.proofs.Units.{kept_so}
 use Rattle.cb_natives.proofs.reading.count.Goals as goal
 

@@ -1,5 +1,5 @@
 use Rattle.std.proofs.Common.{◌≡◌, drop}
-use Rattle.cb_natives.specs.Finding.{found_from}
+use Rattle.cb_machine.specs.Answering.{found_from}
 use Rattle.cb_heap.specs.Reading.{serial_of}
 use Rattle.cb_natives.specs.Given.{units_in}
 use Rattle.cb_natives.proofs.scanning.find_units.Given as goal

@@ -3,7 +3,7 @@ use Rattle.cb_heap.specs.Reading.{serial_of}
 use Rattle.cb_machine.specs.Performing.{gives}
 use Rattle.cb_machine.specs.Testing.{int_of}
 use Rattle.cb_natives.specs.Answers.{call_on, on_given, with_units}
-use Rattle.cb_natives.specs.Equal.{equal_texts, of_kind}
+use Rattle.cb_machine.specs.Answering.{equal_texts, of_kind}
 use Rattle.cb_natives.proofs.string_answers.equal_strings.Goals as goal
 
 pub returns : goal.returns

@@ -15,6 +15,6 @@ invariant_of-self c = begun_laid _ _ _ _ _ _ c.self.invariant (room_known _ _ _ 
 pub returns : goal.returns
 returns c =
     ap (held_of c.self.inside.limit)
-    (stood_frames (map value_of c.self.inside.slots.items) c.self.inside.top (class_at c.self.inside.top c.args.class) c.self.inside.below.items c.self.inside.free
+    (stood_frames (map value_of c.self.inside.slots) c.self.inside.top (class_at c.self.inside.top c.args.class) c.self.inside.below.items c.self.inside.free
     (room_known _ _ _ _ _ 0 _ _ c.self.view_is c.self.invariant c.requires).0 c.self.invariant.within)
     ∙ ap (λ held. holding held (Initialising c.args.class 0 ∷ held.frames)) c.self.view_is

@@ -5,7 +5,7 @@ use Rattle.cb_frames.proofs.frame_stack.FrameStack.has_room.Goals as goal
 
 pub returns-then-self-gt0 : goal.returns-then-self-gt0
 returns-then-self-gt0 c =
-    let size : c.len.result ≡ length c.self.inside.slots.items = search rules in
+    let size : c.len.result ≡ length c.self.inside.slots = search rules in
     ap (nat_le (c.self.inside.top.end + c.args.slots)) size ∙ room_decided _ _ _ _ _ _ _ _ c.self.view_is c.self.invariant c.if-self-gt0.true
 
 pub returns-else-self-gt0 : goal.returns-else-self-gt0

@@ -9,17 +9,17 @@ use Rattle.cb_frames.proofs.frame_stack.FrameStack.int.Goals as goal
 pub overflow_sub-self-inside : goal.overflow_sub-self-inside
 overflow_sub-self-inside c =
     let there = seen (λ frames. c.args.below < length (on_top [] stack_in frames)) c.self.view_is c.requires in
-    omega (arith, (stack_inside c.self.inside.slots.items c.self.inside.top _ c.self.invariant.stacked c.self.invariant.inside c.args.below there).0)
+    omega (arith, (stack_inside c.self.inside.slots c.self.inside.top _ c.self.invariant.stacked c.self.invariant.inside c.args.below there).0)
 
 pub overflow_sub-self-inside-2 : goal.overflow_sub-self-inside-2
 overflow_sub-self-inside-2 c =
     let there = seen (λ frames. c.args.below < length (on_top [] stack_in frames)) c.self.view_is c.requires in
-    omega (arith, (stack_inside c.self.inside.slots.items c.self.inside.top _ c.self.invariant.stacked c.self.invariant.inside c.args.below there).0)
+    omega (arith, (stack_inside c.self.inside.slots c.self.inside.top _ c.self.invariant.stacked c.self.invariant.inside c.args.below there).0)
 
-pub index-requires : goal.index-requires
-index-requires c =
+pub get-requires : goal.get-requires
+get-requires c =
     let there = seen (λ frames. c.args.below < length (on_top [] stack_in frames)) c.self.view_is c.requires in
-    let within = stack_inside c.self.inside.slots.items c.self.inside.top _ c.self.invariant.stacked c.self.invariant.inside c.args.below there in
+    let within = stack_inside c.self.inside.slots c.self.inside.top _ c.self.invariant.stacked c.self.invariant.inside c.args.below there in
     omega (arith, within.0, within.1)
 
 pub returns : goal.returns
@@ -27,6 +27,6 @@ returns c =
     λ number is.
     let there = seen (λ frames. c.args.below < length (on_top [] stack_in frames)) c.self.view_is c.requires in
     let read =
-    shown (λ frames. slice_get (on_top [] stack_in frames) c.args.below ≡ Some (value_of c.index.result.now)) c.self.view_is
-    (stack_of c.self.inside.slots.items c.self.inside.top _ c.self.invariant.stacked c.self.invariant.inside c.args.below c.index.result.now there c.index.ensures) in
-    to_z-of_z w32 c.int_in.result (record { sfits = c.int_in.type_inv }) ∙ c.int_in.ensures ∙ int_known c.index.result.now _ number read is
+    shown (λ frames. slice_get (on_top [] stack_in frames) c.args.below ≡ Some (value_of c.get.result)) c.self.view_is
+    (stack_of c.self.inside.slots c.self.inside.top _ c.self.invariant.stacked c.self.invariant.inside c.args.below c.get.result there c.get.ensures) in
+    to_z-of_z w32 c.int_in.result (record { sfits = c.int_in.type_inv }) ∙ c.int_in.ensures ∙ int_known c.get.result _ number read is

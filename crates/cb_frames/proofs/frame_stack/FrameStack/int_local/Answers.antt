@@ -9,17 +9,17 @@ use Rattle.cb_frames.proofs.frame_stack.FrameStack.int_local.Goals as goal
 pub overflow_add-self-inside : goal.overflow_add-self-inside
 overflow_add-self-inside c =
     let there = seen (λ frames. c.args.i < length (on_top [] locals_in frames)) c.self.view_is c.requires in
-    omega (arith, local_inside c.self.inside.slots.items c.self.inside.top _ c.self.invariant.stacked c.self.invariant.inside c.args.i there, few_slots _ _ _ _ _ c.self.invariant)
+    omega (arith, local_inside c.self.inside.slots c.self.inside.top _ c.self.invariant.stacked c.self.invariant.inside c.args.i there, few_slots _ _ _ _ _ c.self.invariant)
 
-pub index-requires : goal.index-requires
-index-requires c =
+pub get-requires : goal.get-requires
+get-requires c =
     let there = seen (λ frames. c.args.i < length (on_top [] locals_in frames)) c.self.view_is c.requires in
-    omega (arith, local_inside c.self.inside.slots.items c.self.inside.top _ c.self.invariant.stacked c.self.invariant.inside c.args.i there)
+    omega (arith, local_inside c.self.inside.slots c.self.inside.top _ c.self.invariant.stacked c.self.invariant.inside c.args.i there)
 
 pub returns : goal.returns
 returns c =
     λ number is.
     let there = seen (λ frames. c.args.i < length (on_top [] locals_in frames)) c.self.view_is c.requires in
-    let read = shown (λ frames. slice_get (on_top [] locals_in frames) c.args.i ≡ Some (value_of c.index.result.now)) c.self.view_is
-    (local_of c.self.inside.slots.items c.self.inside.top _ c.self.invariant.stacked c.self.invariant.inside c.args.i c.index.result.now there c.index.ensures) in
-    to_z-of_z w32 c.int_in.result (record { sfits = c.int_in.type_inv }) ∙ c.int_in.ensures ∙ int_known c.index.result.now _ number read is
+    let read = shown (λ frames. slice_get (on_top [] locals_in frames) c.args.i ≡ Some (value_of c.get.result)) c.self.view_is
+    (local_of c.self.inside.slots c.self.inside.top _ c.self.invariant.stacked c.self.invariant.inside c.args.i c.get.result there c.get.ensures) in
+    to_z-of_z w32 c.int_in.result (record { sfits = c.int_in.type_inv }) ∙ c.int_in.ensures ∙ int_known c.get.result _ number read is

@@ -9,7 +9,7 @@ use Rattle.cb_frames.proofs.frame_stack.FrameStack.size.Goals as goal
 pub returns-clause-entries : goal.returns-clause-entries
 returns-clause-entries c =
     shown (λ frames. c.self.inside.top.end ≡ length (flat_map frame_entries (reverse frames))) c.self.view_is
-    (entries_counted (map value_of c.self.inside.slots.items) c.self.inside.top _ c.self.invariant.stacked (values_within c.self.inside.slots.items _ c.self.invariant.inside))
+    (entries_counted (map value_of c.self.inside.slots) c.self.inside.top _ c.self.invariant.stacked (values_within c.self.inside.slots _ c.self.invariant.inside))
 
 pub returns-clause-few : goal.returns-clause-few
 returns-clause-few c = omega (arith, c.self.invariant.few, c.self.invariant.inside, c.self.invariant.size)

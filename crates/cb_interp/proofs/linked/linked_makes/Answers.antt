@@ -1,0 +1,5 @@
+use Rattle.cb_interp.proofs.LinkedMaking.{may_make}
+use Rattle.cb_interp.proofs.linked.linked_makes.Goals as goal
+
+pub returns : goal.returns
+returns c = λ program shapes is typed are. may_make program (c.linked_programs.ensures.whole program is) shapes are (c.linked_has_natives.ensures program is typed)

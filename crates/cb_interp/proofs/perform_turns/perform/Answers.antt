@@ -1,0 +1,54 @@
+use Rattle.std.proofs.Common.{◌≡◌, ◌∙◌, ap, rules, subst, sym, true, List, ℕ, map, reverse, take}
+use Rattle.cb_frames.specs.Limited.{Limited}
+use Rattle.cb_frames.specs.Tops.{top_stack}
+use Rattle.cb_heap.specs.Reading.{read_roots, read_value, seen}
+use Rattle.cb_natives.specs.Given.{AreGiven, have_sorts, roles, sorts_of}
+use Rattle.cb_natives.specs.Making.{Asks, Performs, given_back}
+use Rattle.cb_plain.specs.declared.value.Value.{Value}
+use Rattle.cb_interp.specs.Answering.{argument_count, behind_answer}
+use Rattle.cb_interp.specs.Performing.{made_values}
+use Rattle.cb_interp.proofs.NativesMade.{behind_made}
+use Rattle.cb_interp.proofs.perform_turns.perform.Goals as goal
+
+pub run_native-made-requires : goal.run_native-made-requires
+run_native-made-requires g c κs within =
+    let same = c.arguments_on-arguments.ensures ∙ ap (λ (count : ℕ). reverse (take count (top_stack c.args.roots.now.roots))) c.argument_count-count.ensures in
+    let view = seen (g.S.Store.index c.args.store.now) (g.S.Store.kept c.args.store.now) c.args.roots.now.roots in
+    let behind = c.requires.1.1.1.1.1.1.1 in (
+      search rules,
+      (
+        c.requires.1.0,
+        (
+          behind.0,
+          (
+            subst (λ (held : List Value). have_sorts (sorts_of c.args.native) held ≡ true) (sym same) behind.1.0,
+            (
+              subst (λ (held : List Value). AreGiven (g.S.Store.kept c.args.store.now) (roles c.args.native) (map (read_value (g.S.Store.index c.args.store.now)) held)) (sym same) behind.1.1.0,
+              (
+                subst (λ (held : List Value). Asks c.args.program.now view c.args.native (map (read_value (g.S.Store.index c.args.store.now)) held) g.asked.1) (sym same) behind.1.1.1.0,
+                behind.1.1.1.1,
+              ),
+            ),
+          ),
+        ),
+      ),
+    )
+
+pub returns-clause-left : goal.returns-clause-left
+returns-clause-left g c =
+    let same = c.arguments_on-arguments.ensures ∙ ap (λ (count : ℕ). reverse (take count (top_stack c.args.roots.now.roots))) c.argument_count-count.ensures in
+    let before = seen (g.S.Store.index c.args.store.now) (g.S.Store.kept c.args.store.now) c.args.roots.now.roots in
+    let index = g.S.Store.index c.run_native-made.new.store in
+    let ran = c.run_native-made.new.roots.roots in
+    let back = c.run_native-made.result in
+    record {
+      ran = read_roots index ran;
+      answer = given_back index back;
+      performs = subst (λ (held : List Value). Performs g.S.Store.rules c.args.program.now c.args.native (map (read_value (g.S.Store.index c.args.store.now)) held) before
+          (g.S.Store.facts c.args.store.now) (seen index (g.S.Store.kept c.run_native-made.new.store) ran) (g.S.Store.facts c.run_native-made.new.store) (given_back index back))
+          same c.run_native-made.ensures.made;
+      frames = c.run_native-made.ensures.frames;
+      left = ap (λ (held : Limited). read_roots index held.roots) c.leave_made.ensures
+          ∙ ap (λ (count : ℕ). read_roots index (behind_answer count (made_values back) c.args.next ran)) c.argument_count-count.ensures
+          ∙ behind_made index (argument_count c.args.program.now c.args.decoded.now) c.args.next back ran;
+    }
