@@ -97,6 +97,11 @@ fn print_verdict(
 fn was_run(cause: Cause) -> bool {
     matches!(
         cause,
-        Cause::Returned | Cause::Uncaught(_) | Cause::BudgetSpent | Cause::HeapFull | Cause::NotYet
+        Cause::Returned
+            | Cause::Exited(_)
+            | Cause::Uncaught(_)
+            | Cause::BudgetSpent
+            | Cause::HeapFull
+            | Cause::NotYet
     )
 }

@@ -18,8 +18,10 @@ use Rattle.cb_plain.specs.State.{State}
 use Rattle.cb_act.specs.Acting.{Asks, acted}
 use Rattle.cb_act.specs.Here.{Here, standing_here}
 use Rattle.cb_natives.specs.Answers.{gives_answer}
+use Rattle.cb_natives.specs.ArrayRanges.{copies}
+use Rattle.cb_natives.specs.Enums.{finds}
 use Rattle.cb_natives.specs.Makers.{makes}
-use Rattle.cb_interp.specs.Leaving.{Leaves, is_done, is_performed}
+use Rattle.cb_interp.specs.Leaving.{Leaves, collects, exits, is_done, is_performed}
 use Rattle.cb_interp.specs.Printing.{IsNoneOf, prints_text, prints_value}
 use Rattle.cb_act.specs.Steps.{view_of}
 use Rattle.cb_act.specs.declared.need.Need.TheVariants as needs
@@ -139,6 +141,11 @@ leaves_native machine state decoded at method asks values texts answers =
       left = done_by performing.native (values performing.native performing.is) (texts performing.native performing.is) (answers performing.native performing.is);
     }
 
--- a native that neither answers nor places or changes objects isn't performed
-pub none_performed : (program : Linked) (method : ℕ) → IsNoneOf gives_answer program method → IsNoneOf makes program method → IsNoneOf is_performed program method
-none_performed program method answers making native is = ap₂ (λ (one other : Bool). one || other) (answers native is) (making native is)
+-- a native that neither answers nor places or changes objects, nor finds a constant, nor copies words, nor asks for a collection, nor ends
+-- the run, isn't performed
+pub none_performed : (program : Linked) (method : ℕ) → IsNoneOf gives_answer program method → IsNoneOf makes program method → IsNoneOf finds program method
+    → IsNoneOf copies program method → IsNoneOf collects program method → IsNoneOf exits program method → IsNoneOf is_performed program method
+none_performed program method answers making finding copying collecting exiting native is =
+    either (either (either (either (either (answers native is) (making native is)) (finding native is)) (copying native is)) (collecting native is)) (exiting native is) where
+      either : {one other : Bool} → one ≡ false → other ≡ false → one || other ≡ false
+      either one other = ap₂ (λ (one other : Bool). one || other) one other

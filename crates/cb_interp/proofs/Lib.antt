@@ -1,3 +1,4 @@
+mod EnumTurns
 mod FieldsFew
 mod Grown
 mod LeavingAsks
@@ -12,7 +13,10 @@ mod MadeActions
 mod MadeNames
 mod MakingSteps
 mod NativesAnswered
+mod NativesCopied
 mod NativesGiven
+mod NativesLaid
+mod NativesLeft
 mod NativesMade
 mod QuickPlaces
 mod QuickPlain
@@ -41,6 +45,8 @@ mod TurnsInitial
 mod TurnsMade
 mod TurnsMaking
 mod TurnsNative
+mod TurnsNativeExit
+mod TurnsNativeGc
 mod TurnsNativePrint
 mod TurnsNativeSaid
 mod TurnsNativeString

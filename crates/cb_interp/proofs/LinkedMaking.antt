@@ -10,10 +10,12 @@ use Rattle.cb_machine.specs.Arrays.{element_of}
 use Rattle.cb_machine.specs.Machine.{kind_of_site}
 use Rattle.cb_machine.specs.Sites as sites
 use Rattle.cb_natives.specs.Making.{MayMake}
+use Rattle.cb_natives.specs.MakingArrays.{MayHold}
 use Rattle.cb_plain.specs.declared.shape.Shape.{Shape}
 use Rattle.cb_plain.specs.declared.shape.Shape.TheVariants as shapes
 use Rattle.cb_safety.specs.Naming.{HasField}
 use Rattle.cb_safety.specs.Performing.{AreBoxes, HasNatives}
+use Rattle.cb_verify.specs.Within.{kind_of_throwable}
 use Rattle.cb_interp.specs.Fit.{ShapesOf}
 use Rattle.cb_interp.proofs.LinkedConstants.{elements_shape, kind_low, one_field}
 use Rattle.cb_interp.proofs.LinkedFit.{kind_there, sites_there}
@@ -51,3 +53,7 @@ module _ (program : Linked) (whole : IsWhole program) (all : List Shape) (are : 
         boxed_characters = box_so (kind_of_site program sites.characters) _ basics.Char refl has.char_boxes (has.core.chars (kind_of_site program sites.characters) has.char_boxes.box);
         booleans = box_so (kind_of_site program sites.booleans) _ basics.Boolean refl has.boolean_boxes (has.core.booleans (kind_of_site program sites.booleans) has.boolean_boxes.box);
       }
+
+  -- the store has the shapes of the program's kinds
+  pub may_hold : HasNatives program → MayHold program all
+  may_hold has = record { suppressed = array_so (kind_of_site program sites.suppressed) (basics.Reference kind_of_throwable) has.suppressed.elements; each = are }

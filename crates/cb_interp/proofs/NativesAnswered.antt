@@ -1,5 +1,5 @@
 -- Natives that give a number or nothing: what stands on the stack is what they ask for, and the turn in which one is performed is the machine's.
-use Rattle.std.proofs.Common.{◌≡◌, ◌∙◌, ap, arith, refl, sym, subst, ℕ, zero, suc, ◌+◌, ◌<◌, ◌≤◌, true, false, List, [], ◌∷◌, ◌++◌, drop, length, map, reverse, take, Option, Some, None, option_and_then, is_some, nat_le, nat_lt}
+use Rattle.std.proofs.Common.{◌≡◌, ◌∙◌, ap, arith, refl, sym, subst, ℕ, zero, suc, ◌+◌, ◌<◌, ◌≤◌, true, List, [], ◌∷◌, ◌++◌, drop, length, map, reverse, take, Option, Some, None, option_and_then, is_some, nat_le, nat_lt}
 use Rattle.std.proofs.Math.Seq.{drop-append_seam, take-append_seam}
 use Rattle.std.proofs.lemmas.List.{drop-map, length-append, length-map, length-reverse, reverse-reverse}
 use Rattle.std.proofs.lemmas.Option.{same_Some}
@@ -10,7 +10,7 @@ use Rattle.std.specs.declared.result.Result.TheVariants.{Err, Ok}
 use Rattle.cb_library.specs.declared.native.Native.TheVariants as natives
 use Rattle.cb_machine.specs.Answering.{answer_native}
 use Rattle.cb_machine.specs.Machine.{kind_of_site}
-use Rattle.cb_machine.specs.Sites.{negative_size, null_pointer, number_format, string_index}
+use Rattle.cb_machine.specs.Sites.{array_index, array_store, clone_not_supported, illegal_argument, index_out_of_bounds, negative_size, no_class_definition, null_pointer, number_format, string_index}
 use Rattle.cb_natives.specs.Answers.{Beside, Tells, answered, gives_answer}
 use Rattle.cb_natives.specs.Exceptions.{site_of}
 use Rattle.cb_natives.specs.Given.{has_sort}
@@ -36,7 +36,6 @@ use Rattle.cb_link.specs.Named.{behind_in, code_at, named as named_at}
 use Rattle.cb_link.specs.Program.{Linked}
 use Rattle.cb_link.specs.declared.decoded.Decoded.{Decoded}
 use Rattle.cb_link.specs.declared.named.Named.{Named}
-use Rattle.cb_link.specs.declared.named.Named.TheVariants as meanings
 use Rattle.cb_machine.specs.Computing.{throws_by_zero}
 use Rattle.cb_machine.specs.Machine.{Machine}
 use Rattle.cb_machine.specs.Natives.{native_of, performed}
@@ -52,7 +51,6 @@ use Rattle.cb_plain.specs.Roots.{with_frames as frames_changed}
 use Rattle.cb_plain.specs.State.{Object, OfMethod, Roots, State}
 use Rattle.cb_plain.specs.Updates.{with_frames}
 use Rattle.cb_plain.specs.declared.value.Value.{Value}
-use Rattle.cb_plain.specs.declared.value.Value.TheVariants as values
 use Rattle.cb_safety.proofs.Laws.{arguments_are_given, map_reverse}
 use Rattle.cb_safety.specs.Given.{AreTaken, RunsOn}
 use Rattle.cb_safety.specs.Kinds.{kinds_of}
@@ -60,7 +58,6 @@ use Rattle.cb_safety.specs.Linked.{IsLinked}
 use Rattle.cb_safety.specs.Performing.{HasNatives}
 use Rattle.cb_safety.specs.States.{IsTypedState}
 use Rattle.cb_shapes.specs.declared.action.Action.{Action}
-use Rattle.cb_shapes.specs.declared.action.Action.TheVariants as actions
 use Rattle.cb_verify.specs.Typed.{IsTyped}
 use Rattle.cb_interp.proofs.NativesGiven.{core_given, natives_given, sorts_given}
 use Rattle.cb_interp.proofs.TurnsMade.{quiet_turn}
@@ -89,7 +86,7 @@ map_append : {Item Other : Type 0} (change : Item → Other) (one other : List I
 map_append change [] other = refl
 map_append {Other = Other} change (item ∷ one) other = ap (λ (rest : List Other). change item ∷ rest) (map_append change one other)
 
-behind_read : (index : ℕ → ℕ) (count pc : ℕ) (answer : Answer) (held : Roots)
+pub behind_read : (index : ℕ → ℕ) (count pc : ℕ) (answer : Answer) (held : Roots)
     → read_roots index (behind_answer count (answer_values answer) pc held) ≡ behind_answer count (answer_values answer) pc (read_roots index held)
 behind_read index count pc answer held =
     reads_placed index (stacked held (answer_values answer ++ drop count (top_stack held))) pc
@@ -189,12 +186,24 @@ low_site exceptions.NullPointer = omega arith
 low_site exceptions.NegativeArraySize = omega arith
 low_site exceptions.StringIndexOutOfBounds = omega arith
 low_site exceptions.NumberFormat = omega arith
+low_site exceptions.IllegalArgument = omega arith
+low_site exceptions.NoClassDefinition = omega arith
+low_site exceptions.CloneNotSupported = omega arith
+low_site exceptions.ArrayIndexOutOfBounds = omega arith
+low_site exceptions.ArrayStore = omega arith
+low_site exceptions.IndexOutOfBounds = omega arith
 
 pub thrown_site : (program : Linked) → HasNatives program → (exception : Exception) → IsThrown program (kind_of_site program (site_of exception))
 thrown_site program has exceptions.NullPointer = has.thrown null_pointer (0, omega arith, refl)
 thrown_site program has exceptions.NegativeArraySize = has.thrown negative_size (3, omega arith, refl)
 thrown_site program has exceptions.StringIndexOutOfBounds = has.thrown string_index (5, omega arith, refl)
 thrown_site program has exceptions.NumberFormat = has.thrown number_format (6, omega arith, refl)
+thrown_site program has exceptions.IllegalArgument = has.thrown illegal_argument (7, omega arith, refl)
+thrown_site program has exceptions.NoClassDefinition = has.thrown no_class_definition (10, omega arith, refl)
+thrown_site program has exceptions.CloneNotSupported = has.thrown clone_not_supported (8, omega arith, refl)
+thrown_site program has exceptions.ArrayIndexOutOfBounds = has.thrown array_index (2, omega arith, refl)
+thrown_site program has exceptions.ArrayStore = has.thrown array_store (4, omega arith, refl)
+thrown_site program has exceptions.IndexOutOfBounds = has.thrown index_out_of_bounds (9, omega arith, refl)
 
 -- so many were taken where the list has so many
 pub taken_there : (count : ℕ) (items : List Value) → length (take count items) ≡ count → count ≤ length items

@@ -251,10 +251,10 @@ char_unit program kinds content has =
     no_long : basics.Char ≡ basics.Long → ⊥
     no_long same = cc same
 
-contents_there : (objects : List (Option Object)) (serial : ℕ) (own : Object) → object_in objects serial ≡ Some own → contents_at objects serial ≡ own.contents
+pub contents_there : (objects : List (Option Object)) (serial : ℕ) (own : Object) → object_in objects serial ≡ Some own → contents_at objects serial ≡ own.contents
 contents_there objects serial own there = rw there refl
 
-kept_there : (objects : List (Option Object)) (serial : ℕ) (own : Object) → object_in objects serial ≡ Some own → IsTrue (is_kept objects serial)
+pub kept_there : (objects : List (Option Object)) (serial : ℕ) (own : Object) → object_in objects serial ≡ Some own → IsTrue (is_kept objects serial)
 kept_there objects serial own there = rw there refl
 
 module _ (machine : Machine) (state : State) (has : HasNatives machine.program) (typed : IsTypedState machine.program state) (runs : state.roots.pending ≡ 0) where

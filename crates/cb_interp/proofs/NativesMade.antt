@@ -28,13 +28,14 @@ use Rattle.cb_heap.specs.Rules.{Meaning, Rules}
 use Rattle.cb_heap.specs.declared.no_room.NoRoom.{NoRoom}
 use Rattle.cb_library.specs.declared.native.Native.{Native}
 use Rattle.cb_library.specs.declared.native.Native.TheVariants as natives
+use Rattle.cb_link.specs.Having.{IsWhole}
 use Rattle.cb_link.specs.Named.{behind_in, code_at}
 use Rattle.cb_link.specs.Program.{Linked}
 use Rattle.cb_link.specs.declared.decoded.Decoded.{Decoded}
 use Rattle.cb_machine.specs.Machine.{Machine}
 use Rattle.cb_machine.specs.Natives.{native_of, performed}
-use Rattle.cb_machine.specs.Performing.{Gives}
-use Rattle.cb_machine.specs.Plans.{Alike, One, Placing, Plan, Rows, asked, made, wants_of, with_left}
+use Rattle.cb_machine.specs.Performing.{Gives, Performed, Stops}
+use Rattle.cb_machine.specs.Plans.{Alike, One, Placing, Plan, Rows, asked, wants_of, with_left}
 use Rattle.cb_machine.specs.Standing.{at_place}
 use Rattle.cb_machine.specs.Steps.{asked_of, plan, request}
 use Rattle.cb_machine.specs.Throwing.{throws}
@@ -42,6 +43,7 @@ use Rattle.cb_natives.specs.Exceptions.{site_of}
 use Rattle.cb_natives.specs.Given.{AreGiven, have_sorts, roles, sorts_of}
 use Rattle.cb_natives.specs.Making.{Asks, HasRoom, Throws, given_back, machine_in, state_in}
 use Rattle.cb_natives.specs.Makers.{makes}
+use Rattle.cb_natives.specs.MakingArrays.{AreLaid}
 use Rattle.cb_natives.specs.MakingKept.{HasKinds, HasTables}
 use Rattle.cb_natives.specs.declared.answers.Exception.{Exception}
 use Rattle.cb_plain.specs.Reach.{references_in}
@@ -49,6 +51,7 @@ use Rattle.cb_plain.specs.Requests.{add_want, most_words}
 use Rattle.cb_plain.specs.Roots.{with_frames as frames_changed}
 use Rattle.cb_plain.specs.State.{Frame, Object, OfMethod, Roots, State}
 use Rattle.cb_plain.specs.Updates.{object_in, with_frames, with_objects}
+use Rattle.cb_plain.specs.declared.shape.Shape.{Shape}
 use Rattle.cb_plain.specs.declared.value.Value.{Value}
 use Rattle.cb_plain.specs.declared.value.Value.TheVariants as values
 use Rattle.cb_plain.specs.declared.want.Want.{Want}
@@ -62,8 +65,10 @@ use Rattle.cb_shapes.specs.declared.action.Action.{Action}
 use Rattle.cb_verify.specs.Typed.{IsTyped}
 use Rattle.cb_interp.proofs.NativesAnswered.{count_is, count_there, doing, enough, given, now, performed_so, rest, stack_is, standing_read, stops_so}
 use Rattle.cb_interp.proofs.NativesGiven.{natives_given, sorts_given}
+use Rattle.cb_interp.proofs.NativesLaid.{natives_laid}
 use Rattle.cb_interp.proofs.TurnsMade.{marks_count}
 use Rattle.cb_interp.specs.Answering.{argument_count, behind_answer}
+use Rattle.cb_interp.specs.Fit.{ShapesOf}
 use Rattle.cb_interp.specs.Performing.{Left, arguments_at, made_values}
 
 -- ---- what stands on the stack, read
@@ -143,11 +148,10 @@ placings_header : (placed : List Placing) → AllByRecursion HasHeader (flat_map
 placings_header [] = tt
 placings_header (placing ∷ placed) = joined (wants_of placing) (flat_map wants_of placed) (placing_header placing) (placings_header placed)
 
-pub known_sites : (knows : ℕ → Bool) (count : ℕ) (wants : List Want) → 32 ≤ count → ((site : ℕ) → site < count → IsTrue (knows site))
-    → AllByRecursion (λ (want : Want). want.site < 32) wants → AllByRecursion (λ (want : Want). IsTrue (knows want.site)) wants
-known_sites knows count [] enough each all = tt
-known_sites knows count (want ∷ wants) enough each all =
-    let low = all.0 in (each want.site (omega (arith, low, enough)), known_sites knows count wants enough each all.1)
+pub known_sites : (knows : ℕ → Bool) (count : ℕ) (wants : List Want) → ((site : ℕ) → site < count → IsTrue (knows site))
+    → AllByRecursion (λ (want : Want). want.site < count) wants → AllByRecursion (λ (want : Want). IsTrue (knows want.site)) wants
+known_sites knows count [] each all = tt
+known_sites knows count (want ∷ wants) each all = (each want.site all.0, known_sites knows count wants each all.1)
 
 -- such a native takes some arguments
 some_sorts : (native : Native) → makes native ≡ true → nat_lt 0 (length (sorts_of native)) ≡ true
@@ -280,6 +284,20 @@ module _ (program : Linked) (index : ℕ → ℕ) (objects : List (Option Object
   throws_so exception throwing =
       stops_so program index objects limit held outside decoded method at asks native is (throws machine state (site_of exception)) (throwing limit outside.input outside.printed)
 
+  -- what is given has the words of its kind
+  taken_now : IsLinked program → IsTyped program → IsTypedState program state → AreTaken program (kinds_of objects) native (reverse values_given)
+  taken_now linked fits typed =
+      let own = doing program index objects limit held outside decoded method at asks in
+      arguments_are_given machine state at.frame at.below at.insn own.action own.named method native (reverse values_given) values_left linked fits typed at.quiet at.frames at.there
+      own.acts own.names (own.performing.stack ∙ ap (λ (front : List Value). front ++ values_left) (sym (reverse-reverse values_given))) own.runs is
+
+  pub laid_there : IsLinked program → IsTyped program → IsTypedState program state → HasNatives program → IsWhole program → (all : List Shape) → ShapesOf program all
+      → AreLaid program objects native arguments
+  laid_there linked fits typed has whole all are =
+      let taken = taken_now linked fits typed in
+      subst (AreLaid program objects native) (sym arguments_are)
+      (natives_laid machine state has typed at.quiet whole all are taken.method taken.own native (reverse values_given) taken.have)
+
   left_in : (roots : Roots) (answer : List Value) (pc : ℕ) → roots.frames ≡ OfMethod at.frame ∷ at.below
       → frames_changed roots (frames_behind answer pc) ≡ behind_answer (argument_count program decoded) answer pc roots
   left_in roots answer pc frames =
@@ -326,14 +344,23 @@ module _ (program : Linked) (index : ℕ → ℕ) (objects : List (Option Object
     same_arguments =
         arguments_read program decoded places roots ∙ ap (arguments_at program decoded) collects.roots ∙ sym (arguments_read program decoded index held)
 
-    -- it asks for the same
+    -- it asks for the same, or throws the same
+    done_kept : (frames : ℕ) (input printed : List ℕ) (done : Performed)
+        → performed (machine_in program frames) (state_in view input printed) native arguments ≡ Some done
+        → performed (machine_in program frames) (state_in middle input printed) native arguments ≡ Some (changed_performed (keep marks) done)
+    done_kept frames input printed done is =
+        ap (λ (state : State). performed (machine_in program frames) state native arguments) (kept_so input printed)
+        ∙ natives_keep (machine_in program frames) marks (state_in view input printed) (keeping_so input printed) native arguments passes
+        ∙ ap (option_map (changed_performed (keep marks))) is
+
     performs_kept : (frames : ℕ) (input printed : List ℕ) (own : Plan) (answer : List Value)
         → performed (machine_in program frames) (state_in view input printed) native arguments ≡ Some (Gives own answer)
         → performed (machine_in program frames) (state_in middle input printed) native arguments ≡ Some (Gives (kept_plan marks own) answer)
-    performs_kept frames input printed own answer gives =
-        ap (λ (state : State). performed (machine_in program frames) state native arguments) (kept_so input printed)
-        ∙ natives_keep (machine_in program frames) marks (state_in view input printed) (keeping_so input printed) native arguments passes
-        ∙ ap (option_map (changed_performed (keep marks))) gives
+    performs_kept frames input printed own answer gives = done_kept frames input printed (Gives own answer) gives
+
+    pub stops_again : (own : Plan) → performed machine state native arguments ≡ Some (Stops own)
+        → performed machine (state_of middle outside) native (map (read_value places) (arguments_at program decoded roots)) ≡ Some (Stops (kept_plan marks own))
+    stops_again own stops = ap (performed machine (state_of middle outside) native) same_arguments ∙ done_kept limit outside.input outside.printed (Stops own) stops
 
     asks_kept : {wants : List Want} → Asks program view native arguments wants → Asks program middle native arguments wants
     asks_kept makes frames input printed =
@@ -394,6 +421,13 @@ module _ (program : Linked) (index : ℕ → ℕ) (objects : List (Option Object
           let taken = taken_still linked fits typed in
           subst (AreGiven stay (roles native)) (sym (same_arguments ∙ arguments_are))
           (natives_given machine (state_of middle outside) has (typed_still typed) quiet_still taken.method taken.own native (reverse values_given) taken.have)
+
+      pub laid_still : IsWhole program → (all : List Shape) → ShapesOf program all
+          → AreLaid program stay native (map (read_value places) (arguments_at program decoded roots))
+      laid_still whole all are =
+          let taken = taken_still linked fits typed in
+          subst (AreLaid program stay native) (sym (same_arguments ∙ arguments_are))
+          (natives_laid machine (state_of middle outside) has (typed_still typed) quiet_still whole all are taken.method taken.own native (reverse values_given) taken.have)
 
       pub sorts_still : have_sorts (sorts_of native) (arguments_at program decoded roots) ≡ true
       sorts_still = sorts_given stay places native (arguments_at program decoded roots) given_still

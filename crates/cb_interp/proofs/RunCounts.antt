@@ -44,6 +44,7 @@ counts_still before now never counts = counts_as before now never (λ never. abs
 -- a run ends for a report, and for what is printed, where its last turn is stopped for it
 pub report_ends : (view : View) (stop : Stop) (end : End) → IsEndOf view stop end → stop ≡ stops.NoRoom rooms.ReportFault → end ≡ ends.ReportFault
 report_ends view stops.Returned end is same = absurd (cc same)
+report_ends view (stops.Exited status) end is same = absurd (cc same)
 report_ends view stops.Uncaught end is same = absurd (cc same)
 report_ends view (stops.NoRoom (rooms.Full live asked limit)) end is same = absurd (cc same)
 report_ends view (stops.NoRoom rooms.ReportFault) end is same = is
@@ -53,6 +54,7 @@ report_ends view stops.NotYet end is same = absurd (cc same)
 
 pub report_stops : (view : View) (stop : Stop) (end : End) → IsEndOf view stop end → end ≡ ends.ReportFault → stop ≡ stops.NoRoom rooms.ReportFault
 report_stops view stops.Returned end is same = absurd (cc (is, same))
+report_stops view (stops.Exited status) end is same = absurd (cc (is, same))
 report_stops view stops.Uncaught end (class, at, is, kind) same = absurd (cc (is, same))
 report_stops view (stops.NoRoom (rooms.Full live asked limit)) end is same = absurd (cc (is, same))
 report_stops view (stops.NoRoom rooms.ReportFault) end is same = refl
@@ -62,6 +64,7 @@ report_stops view stops.NotYet end is same = absurd (cc (is, same))
 
 pub output_ends : (view : View) (stop : Stop) (end : End) → IsEndOf view stop end → stop ≡ stops.OutputFault → end ≡ ends.OutputFault
 output_ends view stops.Returned end is same = absurd (cc same)
+output_ends view (stops.Exited status) end is same = absurd (cc same)
 output_ends view stops.Uncaught end is same = absurd (cc same)
 output_ends view (stops.NoRoom reason) end is same = absurd (cc same)
 output_ends view stops.OutputFault end is same = is
@@ -69,6 +72,7 @@ output_ends view stops.NotYet end is same = absurd (cc same)
 
 pub output_stops : (view : View) (stop : Stop) (end : End) → IsEndOf view stop end → end ≡ ends.OutputFault → stop ≡ stops.OutputFault
 output_stops view stops.Returned end is same = absurd (cc (is, same))
+output_stops view (stops.Exited status) end is same = absurd (cc (is, same))
 output_stops view stops.Uncaught end (class, at, is, kind) same = absurd (cc (is, same))
 output_stops view (stops.NoRoom (rooms.Full live asked limit)) end is same = absurd (cc (is, same))
 output_stops view (stops.NoRoom rooms.ReportFault) end is same = absurd (cc (is, same))

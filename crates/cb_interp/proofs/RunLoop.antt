@@ -1,5 +1,5 @@
 -- Runs that have made so many turns, and how they end.
-use Rattle.std.proofs.Common.{◌≡◌, ◌∙◌, ◌++◌, ◌<◌, ◌≤◌, ap, append_assoc, append-nil, arith, refl, sym, subst, ℕ, ◌==◌, if◌then◌else◌, IsTrue, List, [], ◌∷◌, Option, Some, None, zero, suc}
+use Rattle.std.proofs.Common.{◌≡◌, ◌∙◌, ◌++◌, ◌<◌, ◌≤◌, ap, append_assoc, append-nil, arith, refl, sym, subst, ℤ, ℕ, ◌==◌, if◌then◌else◌, IsTrue, List, [], ◌∷◌, Option, Some, None, zero, suc}
 use Rattle.std.proofs.lemmas.Option.{same_Some}
 use Rattle.std.specs.Io.KnownBytes.{Appends}
 use Rattle.std.specs.Prelude.{option_map}
@@ -16,7 +16,7 @@ use Rattle.cb_machine.specs.Steps.{plan}
 use Rattle.cb_machine.specs.declared.outcome.Outcome.TheVariants as outcomes
 use Rattle.cb_plain.specs.State.{Frame, Object, Roots, State}
 use Rattle.cb_plain.specs.Updates.{object_at, object_in}
-use Rattle.cb_interp.specs.Running.{Ended, EndsBy, IsEndOf, Prints, SaysBy, StopsBy, TurnStops, Turned, WentOut, has_ended, outside_of}
+use Rattle.cb_interp.specs.Running.{Ended, EndsBy, IsEndOf, Prints, SaysBy, StopsBy, TurnStops, Turned, WentOut, exited, has_ended, last_of, outside_of}
 use Rattle.cb_act.specs.Steps.{view_of}
 use Rattle.cb_act.specs.Turning.{Moment, Outside, StandsAt, TurnMade, Turns, moment_of}
 use Rattle.cb_interp.specs.declared.end.End.{End}
@@ -81,6 +81,44 @@ module _ {Facts : Type 0} (rules : Rules Facts) (machine : Machine) (full : Stat
         appends = appends_more taken takes took ran.said turned.said ran.appends turned.appends;
       }
 
+  -- while a run goes on, `exit` wasn't called
+  pub never_exited : (number : ℕ) (view : View) (facts : Facts) → StandsAt (moment_at number view facts) (after machine number full) → (after machine number full).exit ≡ None
+  never_exited number view facts stands = sym (ap (λ (state : State). state.exit) stands.same)
+
+  pub last_at : (number : ℕ) (view later : View) (facts now : Facts) → StandsAt (moment_at number view facts) (after machine number full)
+      → last_of later (after machine number full) now ≡ moment_at number later now
+  last_at number view later facts now stands =
+      ap (λ (exit : Option ℤ). record {
+        state = record { roots = later.roots; objects = later.objects; input = (after machine number full).input; printed = (after machine number full).printed; exit = exit };
+        facts = now;
+      }) (never_exited number view facts stands)
+
+  -- one turn more was made, and its step called it
+  pub exits_at : (budget number : ℕ) (status : ℤ) (first : Moment Facts) (view later : View) (facts now : Facts) (taken takes : Option (List ℕ))
+      → Ran number first view facts taken takes → number < budget → TurnMade rules machine (moment_at number view facts) (exited status (moment_at number later now))
+      → ((own : Plan) → plan machine (after machine number full) ≡ Some own → IsClosed (view_of (made own)))
+      → Ended rules machine budget (ends.Exited status) full first later now taken takes
+  exits_at budget number status first view later facts now taken takes ran low made closed =
+      let here : State = after machine number full in
+      let there : State = after machine (suc number) full in
+      let last : Moment Facts = exited status (moment_at number later now) in
+      let stands : StandsAt last there =
+      subst (StandsAt last) (sym (after_one_more rules machine number full)) (turn_stands rules machine (moment_at number view facts) last here made ran.stands closed) in
+      let printed : here.printed ≡ there.printed = ap (λ (state : State). state.printed) stands.same in
+      let is : last_of later there now ≡ last =
+      sym (ap (λ (state : State). record { state = record { roots = later.roots; objects = later.objects; input = state.input; printed = state.printed; exit = state.exit }; facts = now }) stands.same) in
+      record {
+        count = suc number;
+        within = low;
+        before = last;
+        turns = (moment_at number view facts, ran.turns, made);
+        stands = stands;
+        ends = (sym (ap outcome stands.same), is);
+        said = ran.said;
+        grows = sym printed ∙ ran.grows;
+        out = ran.appends;
+      }
+
   -- a step of what is kept prints what the step prints
   prints_whole : (moment : Moment Facts) (state : State) (more : List ℕ) → StandsAt moment state → Prints machine moment.state more → Prints machine state more
   prints_whole moment state more stands prints = go (plan machine moment.state) refl where
@@ -133,7 +171,7 @@ module _ {Facts : Type 0} (rules : Rules Facts) (machine : Machine) (full : Stat
     ending : (end : End) → number ≤ budget → EndsBy rules machine budget number end here before after_it → WentOut machine end here ran.said taken took
         → Ended rules machine budget end full first later now taken took
     ending end within ends out =
-        record { count = number; within = within; before = before; turns = ran.turns; stands = ran.stands; ends = ends; said = ran.said; grows = ran.grows; out = out }
+        record { count = number; within = within; before = before; turns = ran.turns; stands = ran.stands; ends = subst (EndsBy rules machine budget number end here before) (sym (last_at number view later facts now ran.stands)) ends; said = ran.said; grows = ran.grows; out = out }
 
     same_out : took ≡ takes → Appends taken took ran.said
     same_out same = subst (λ took. Appends taken took ran.said) (sym same) ran.appends
@@ -142,31 +180,36 @@ module _ {Facts : Type 0} (rules : Rules Facts) (machine : Machine) (full : Stat
     cut_out (more, prints, (front, appends, proper)) =
         (more, front, prints_whole before here more ran.stands prints, proper, appends_more taken takes took ran.said front ran.appends appends)
 
-    pub ends_at : (stop : Stop) (end : End) → number ≤ budget → (takes_turn stop → number < budget) → TurnStops rules machine stop before after_it
+    pub ends_at : (stop : Stop) (end : End) → number ≤ budget → (takes_turn stop → number < budget)
+        → ((own : Plan) → plan machine here ≡ Some own → IsClosed (view_of (made own))) → TurnStops rules machine stop before after_it
         → SaysBy machine before.state stop takes took → IsEndOf later stop end → Ended rules machine budget end full first later now taken took
-    ends_at stops.Returned end within low (same, is) says is_end =
+    ends_at stops.Returned end within low closed (same, is) says is_end =
         subst (λ end. Ended rules machine budget end full first later now taken took) (sym is_end)
         (ending ends.Returned within (outcome_whole before here ran.stands ∙ is, same) (same_out says))
-    ends_at stops.Uncaught end within low (same, is) says (class, at, is_end, kind) =
+    ends_at stops.Uncaught end within low closed (same, is) says (class, at, is_end, kind) =
         subst (λ end. Ended rules machine budget end full first later now taken took) (sym is_end)
         (ending (ends.Uncaught class at) within (
           (outcome_whole before here ran.stands ∙ is ∙ ap (λ (state : State). outcomes.Uncaught state.roots.pending) ran.stands.same, same),
           whole_kind before here class ran.stands (subst (λ (moment : Moment Facts). option_map (λ (object : Object). object.kind) (object_in moment.state.objects moment.state.roots.pending) ≡ Some class) same kind),
         )
         (same_out says))
-    ends_at (stops.NoRoom (rooms.Full live asked limit)) end within low refused says is_end =
+    ends_at (stops.NoRoom (rooms.Full live asked limit)) end within low closed refused says is_end =
         subst (λ end. Ended rules machine budget end full first later now taken took) (sym is_end)
         (ending (ends.HeapFull live asked limit) within (low tt, refused) (same_out says))
-    ends_at (stops.NoRoom rooms.ReportFault) end within low refused says is_end =
+    ends_at (stops.NoRoom rooms.ReportFault) end within low closed refused says is_end =
         subst (λ end. Ended rules machine budget end full first later now taken took) (sym is_end)
         (ending ends.ReportFault within (low tt, refused) (same_out says))
-    ends_at (stops.NoRoom rooms.OutOfMemory) end within low refused says is_end =
+    ends_at (stops.NoRoom rooms.OutOfMemory) end within low closed refused says is_end =
         subst (λ end. Ended rules machine budget end full first later now taken took) (sym is_end)
         (ending ends.OutOfMemory within (low tt, refused) (same_out says))
-    ends_at stops.OutputFault end within low same says is_end =
+    ends_at stops.OutputFault end within low closed same says is_end =
         subst (λ end. Ended rules machine budget end full first later now taken took) (sym is_end)
         (ending ends.OutputFault within (low tt, same) (cut_out says))
-    ends_at stops.NotYet end within low (same, leaves) says is_end =
+    ends_at (stops.Exited status) end within low closed made says is_end =
+        subst (λ end. Ended rules machine budget end full first later now taken took) (sym is_end)
+        (subst (λ took. Ended rules machine budget (ends.Exited status) full first later now taken took) (sym says)
+        (exits_at budget number status first view later facts now taken takes ran (low tt) made closed))
+    ends_at stops.NotYet end within low closed (same, leaves) says is_end =
         subst (λ end. Ended rules machine budget end full first later now taken took) (sym is_end)
         (ending ends.NotYet within (low tt, same, leaves) (same_out says))
 
@@ -225,6 +268,7 @@ pub stops_turn : {Facts : Type 0} (rules : Rules Facts) (machine : Machine) (sto
     → TurnStops rules machine stop moment moment
 stops_turn rules machine stops.Returned moment is = is
 stops_turn rules machine stops.Uncaught moment is = is
+stops_turn rules machine (stops.Exited status) moment is = absurd is
 stops_turn rules machine (stops.NoRoom reason) moment is = is
 stops_turn rules machine stops.OutputFault moment is = refl
 stops_turn rules machine stops.NotYet moment is = absurd is
@@ -232,6 +276,7 @@ stops_turn rules machine stops.NotYet moment is = absurd is
 pub stays_silent : (machine : Machine) (state : State) (stop : Stop) (taken : Option (List ℕ)) → (takes_turn stop → ⊥) → SaysBy machine state stop taken taken
 stays_silent machine state stops.Returned taken never = refl
 stays_silent machine state stops.Uncaught taken never = refl
+stays_silent machine state (stops.Exited status) taken never = refl
 stays_silent machine state (stops.NoRoom reason) taken never = refl
 stays_silent machine state stops.OutputFault taken never = absurd (never tt)
 stays_silent machine state stops.NotYet taken never = refl

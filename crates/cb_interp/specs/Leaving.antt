@@ -6,6 +6,8 @@ use Rattle.cb_link.specs.declared.decoded.Decoded.{Decoded}
 use Rattle.cb_machine.specs.Machine.{Machine}
 use Rattle.cb_machine.specs.Natives.{native_of}
 use Rattle.cb_natives.specs.Answers.{gives_answer}
+use Rattle.cb_natives.specs.ArrayRanges.{copies}
+use Rattle.cb_natives.specs.Enums.{finds}
 use Rattle.cb_natives.specs.Makers.{makes}
 use Rattle.cb_plain.specs.State.{State}
 use Rattle.cb_act.specs.Acting.{Asks, acted}
@@ -15,9 +17,20 @@ use Rattle.cb_act.specs.declared.need.Need.TheVariants as needs
 use Rattle.cb_interp.specs.declared.stop.Stop.{Stop}
 use Rattle.cb_interp.specs.declared.stop.Stop.TheVariants as stops
 
--- natives that are performed over any store: those that give a number or nothing, and those that place objects or change them
+-- the native that asks for a collection (Java SE 8 API, java.lang.System)
+abbrev pub collects : Native → Bool
+collects natives.SystemGc = true
+collects other = false
+
+-- and the one that ends the run
+abbrev pub exits : Native → Bool
+exits natives.SystemExit = true
+exits other = false
+
+-- natives that are performed over any store: those that give a number or nothing, those that place objects or change them, the one that
+-- finds a constant of an enum, the one that copies words of an array, and these two
 abbrev pub is_performed : Native → Bool
-is_performed native = gives_answer native || makes native
+is_performed native = gives_answer native || makes native || finds native || copies native || collects native || exits native
 
 -- the natives that are done: these, and those that print a boolean, a char, an int, a long, a string or a newline (Java SE 8 API,
 -- java.io.PrintStream)

@@ -5,6 +5,8 @@
 pub enum End {
     /// `main` has returned.
     Returned,
+    /// `exit` was called with this status.
+    Exited(i32),
     /// An exception found no handler.
     Uncaught {
         /// The number of its class.

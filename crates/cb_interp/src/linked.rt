@@ -5,6 +5,7 @@ ghost use Rattle.cb_link.specs.Named.{IsThere, named};
 ghost use Rattle.cb_link.specs.Program.{Linked};
 ghost use Rattle.cb_machine.specs.Sites.{constant_characters};
 ghost use Rattle.cb_natives.specs.Making.{MayMake};
+ghost use Rattle.cb_natives.specs.MakingArrays.{MayHold};
 ghost use Rattle.cb_plain.specs.declared.shape.Shape.{Shape};
 ghost use Rattle.cb_safety.specs.Linked.{IsLinked};
 ghost use Rattle.cb_safety.specs.Throwing.{AreThrown};
@@ -58,10 +59,12 @@ pub(crate) fn linked_constants()
     linked_has_natives();
 }
 
-/// What natives place has the words that they write, by the shapes of a linked program's kinds.
+/// What natives place has the words that they write, by the shapes of a linked program's kinds, and so has each copy that they make.
 pub(crate) fn linked_makes()
-    ensures { (program : Linked) (shapes : List Shape) → IsLinked program → IsTyped program
+    ensures makes { (program : Linked) (shapes : List Shape) → IsLinked program → IsTyped program
         → ShapesOf program shapes → MayMake program shapes }
+    ensures holds { (program : Linked) (shapes : List Shape) → IsLinked program → IsTyped program
+        → ShapesOf program shapes → MayHold program shapes }
 {
     linked_programs();
     linked_has_natives();

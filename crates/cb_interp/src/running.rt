@@ -62,6 +62,7 @@ fn stopped<S: Store>(store: &S, roots: &Roots, stop: Stop) -> End
 {
     match stop {
         Stop::Returned => End::Returned,
+        Stop::Exited(status) => End::Exited(status),
         Stop::Uncaught => uncaught(store, roots),
         Stop::NoRoom(NoRoom::Full { live, asked, limit }) => End::HeapFull { live, asked, limit },
         Stop::NoRoom(NoRoom::ReportFault) => End::ReportFault,

@@ -32,7 +32,7 @@ reads call [] = gives_int call (negsuc 0)
 reads call (byte ∷ input) = Some (Gives (leaving (with_input call.state input)) (Int (pos byte) ∷ []))
 
 -- bytes into a range of an array: as many as the range takes or the input has, or -1 where it is at its end and the range takes some
-abbrev stored_byte : ℕ → Content
+abbrev pub stored_byte : ℕ → Content
 stored_byte byte = Number (narrow narrower.Byte (pos byte))
 
 abbrev read_into : Call → ℕ → Object → ℕ → List ℕ → Option Performed

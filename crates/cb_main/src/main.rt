@@ -6,7 +6,7 @@ ghost use Rattle.std.specs.IoError.{error_kind};
 ghost use Rattle.std.specs.Process.{exit_status};
 ghost use Rattle.cb_runner.specs.Answer.{IsAnswer};
 ghost use Rattle.cb_runner.specs.Ending.{status_of};
-ghost use Rattle.cb_runner.specs.Words.{AreFew, SaysNone};
+ghost use Rattle.cb_runner.specs.Words.{AreFew, SaysNone, SaysRun};
 ghost use Rattle.cb_runner.specs.declared.cause.Cause.{Cause};
 
 use cb_io::{DirFolder, Folder, Sink, Source, StreamSink, StreamSource};
@@ -31,7 +31,7 @@ fn words(rt: &HostRuntime) -> io::Result<Vec<String>> {
 fn end_of_words(rt: &HostRuntime, words: io::Result<Vec<String>>) -> ExitCode
     ensures status { (cause : Cause) × (exit_status result ≡ status_of cause) }
     ensures usage { IfOk words (λ words. exit_status result ≡ 120 → AreFew (map string_bytes (drop 1 words.items))
-        → SaysNone (map string_bytes (drop 1 words.items))) }
+        → SaysNone (map string_bytes (drop 1 words.items)) ⊎ SaysRun (map string_bytes (drop 1 words.items))) }
     ensures many { IfOk words (λ words. ¬ AreFew (map string_bytes (drop 1 words.items)) → exit_status result ≡ 120) }
     ensures none { IfOk words (λ words. SaysNone (map string_bytes (drop 1 words.items))
         → (exit_status result ≡ 120) ⊎ (exit_status result ≡ 127)) }
@@ -71,7 +71,8 @@ fn end_without_words(rt: &HostRuntime, kind: ErrorKind) -> ExitCode
 /// program. Too many words, or too long ones, are no command, and then nothing is written.
 fn run(rt: &HostRuntime, words: &[String]) -> ExitCode
     ensures status { (cause : Cause) × (exit_status result ≡ status_of cause) }
-    ensures usage { exit_status result ≡ 120 → AreFew (map string_bytes words.now) → SaysNone (map string_bytes words.now) }
+    ensures usage { exit_status result ≡ 120 → AreFew (map string_bytes words.now)
+        → SaysNone (map string_bytes words.now) ⊎ SaysRun (map string_bytes words.now) }
     ensures many { ¬ AreFew (map string_bytes words.now) → exit_status result ≡ 120 }
     ensures none { SaysNone (map string_bytes words.now) → (exit_status result ≡ 120) ⊎ (exit_status result ≡ 127) }
 {
@@ -86,7 +87,7 @@ fn run(rt: &HostRuntime, words: &[String]) -> ExitCode
 fn run_few(rt: &HostRuntime, words: &[String]) -> ExitCode
     requires { AreFew (map string_bytes words.now) }
     ensures status { (cause : Cause) × (exit_status result ≡ status_of cause) }
-    ensures usage { exit_status result ≡ 120 → SaysNone (map string_bytes words.now) }
+    ensures usage { exit_status result ≡ 120 → SaysNone (map string_bytes words.now) ⊎ SaysRun (map string_bytes words.now) }
     ensures none { SaysNone (map string_bytes words.now) → (exit_status result ≡ 120) ⊎ (exit_status result ≡ 127) }
 {
     let mut folder = DirFolder::new(rt);

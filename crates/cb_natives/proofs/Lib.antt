@@ -1,9 +1,16 @@
 mod BoxesSet
 mod Changes
+mod CopiesClosed
+mod CopyAdded
+mod CopyLaws
+mod CopyPlaced
+mod CopyRuns
+mod EnumLaws
 mod Filling
 mod HexLaws
 mod KeptMade
 mod MakingLaws
+mod MakingSites
 mod NativesNamed
 mod NumberLaws
 mod Overwriting
@@ -15,6 +22,8 @@ mod OwnPlacing
 mod OwnRuns
 mod Placed
 mod Places
+mod RangeLaws
+mod RangesDecided
 mod TextLaws
 mod UnitLaws
 mod Units

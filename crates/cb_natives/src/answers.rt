@@ -20,6 +20,12 @@ pub enum Exception {
     NegativeArraySize,
     StringIndexOutOfBounds,
     NumberFormat,
+    IllegalArgument,
+    NoClassDefinition,
+    CloneNotSupported,
+    ArrayIndexOutOfBounds,
+    ArrayStore,
+    IndexOutOfBounds,
 }
 
 impl Exception {
@@ -32,6 +38,12 @@ impl Exception {
             Exception::NegativeArraySize => 19,
             Exception::StringIndexOutOfBounds => 27,
             Exception::NumberFormat => 28,
+            Exception::IllegalArgument => 29,
+            Exception::NoClassDefinition => 24,
+            Exception::CloneNotSupported => 30,
+            Exception::ArrayIndexOutOfBounds => 18,
+            Exception::ArrayStore => 20,
+            Exception::IndexOutOfBounds => 31,
         }
     }
 }

@@ -1,7 +1,8 @@
 //! What the library's natives do (Java SE 8 API, java.lang and java.io), over any store of objects.
 //!
 //! `answer` does those that give a number or nothing. Those that place objects or change them are done in two calls, `plan_native`, which
-//! tells the room that they ask for, and `run_native`, once that room was made.
+//! tells the room that they ask for, and `run_native`, once that room was made. `find_constant` does `Enum.valueOf`, which also asks for a
+//! class to be initialised. `plan_copy` tells what `System.arraycopy` copies and throws, and `copy_planned` copies it.
 //!
 //! `specs/` says what is known of the arguments of each (`Given`), what one answers that places nothing but an exception (`Answers`), and
 //! what the others ask for and perform (`Making`, and by group the files that begin so). No call takes memory but the store's.
@@ -10,8 +11,16 @@
 mod answering;
 mod answers;
 mod arguments;
+mod array_natives;
+mod array_ranges;
+mod arrays;
 mod box_answers;
 mod boxes;
+mod copies;
+mod copy_placing;
+mod copy_plans;
+mod copying;
+mod enums;
 mod gives;
 mod held;
 mod kept_entries;
@@ -38,6 +47,7 @@ mod own_reading;
 mod parsing;
 mod pieces;
 mod placing_texts;
+mod range_copies;
 mod reading;
 mod scanning;
 mod short_texts;
@@ -52,6 +62,9 @@ mod writing;
 
 pub use answering::answer;
 pub use answers::{Answer, Exception, Thrown};
+pub use array_ranges::Ranges;
+pub use copy_plans::{CopyPlan, copy_planned, plan_copy};
+pub use enums::{EnumAnswer, find_constant};
 pub use gives::gives_answer;
 pub use making::{makes, plan_native, run_native};
 pub use methods::native_of;

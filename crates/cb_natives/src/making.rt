@@ -1,18 +1,21 @@
 // Natives that place objects or change them (Java SE 8 API, java.lang).
-ghost use Rattle.std.specs.Prelude.{◌≡◌, ◌<◌, [], ℕ, List, OnOk, map, true};
+ghost use Rattle.std.specs.Prelude.{◌≡◌, ◌<◌, ◌≤◌, [], ℕ, List, OnOk, length, map, true};
 ghost use Rattle.std.specs.List.{AllByRecursion};
 ghost use Rattle.cb_frames.specs.Tops.{top_stack};
 ghost use Rattle.cb_heap.specs.Closed.{IsClosed};
 ghost use Rattle.cb_heap.specs.Reading.{read_roots, read_value, seen};
 ghost use Rattle.cb_heap.specs.Store.{ReadsAsBefore};
+ghost use Rattle.cb_link.specs.Having.{site_kinds};
 ghost use Rattle.cb_plain.specs.State.{Roots as Held};
 ghost use Rattle.cb_plain.specs.declared.want.Want.{Want};
 ghost use Rattle.cb_natives.specs.Given.{AreGiven, have_sorts, roles, sorts_of};
 ghost use Rattle.cb_natives.specs.Makers.{makes, makes_beside};
 ghost use Rattle.cb_natives.specs.Making.{Asks, HasRoom, MayMake, Performs, Planned, given_back};
+ghost use Rattle.cb_natives.specs.MakingArrays.{AreLaid, MayHold};
 ghost use Rattle.cb_natives.specs.MakingKept.{HasKinds, HasTables};
 
 use crate::Exception;
+use crate::arrays::{makes_array, plan_array, run_array};
 use crate::kept_objects::{makes_kept, plan_kept, run_kept};
 use crate::makes_texts::makes_text;
 use crate::number_boxes::{makes_number, plan_number, run_number};
@@ -35,7 +38,7 @@ pub fn makes(native: Native) -> bool
 fn makes_beside(native: Native) -> bool
     ensures { result ≡ makes_beside native }
 {
-    makes_text(native) || makes_own(native) || makes_number(native)
+    makes_text(native) || makes_own(native) || makes_number(native) || makes_array(native)
 }
 
 /// What room a native asks for, which replaces what the request holds, or which exception it throws. Takes time in the units that it reads.
@@ -47,15 +50,17 @@ pub fn plan_native<S: Store>(
     arguments: &[Value],
     request: &mut Request,
 ) -> Result<(), Exception>
+    requires known { 32 ≤ length (site_kinds program.now) }
     requires makes { makes native ≡ true }
     requires sorts { have_sorts (sorts_of native) arguments.now ≡ true }
     requires given { AreGiven (S.kept store.now) (roles native) (map (read_value
         (S.index store.now)) arguments.now) }
+    requires laid { AreLaid program.now (S.kept store.now) native (map (read_value (S.index store.now)) arguments.now) }
     requires tables { HasTables program.now roots.now.roots.tables }
     requires kinds { HasKinds program.now (S.kept store.now) }
     ensures planned { Planned program.now (seen (S.index store.now)
         (S.kept store.now) roots.now.roots) native (map (read_value (S.index store.now)) arguments.now) request.new result }
-    ensures sites { OnOk result (AllByRecursion (λ (want : Want). want.site < 32) request.new) }
+    ensures sites { OnOk result (AllByRecursion (λ (want : Want). want.site < length (site_kinds program.now)) request.new) }
 {
     if makes_text(native) {
         plan_text(program, store, native, arguments, request)
@@ -63,6 +68,8 @@ pub fn plan_native<S: Store>(
         plan_own(program, store, native, arguments, request)
     } else if makes_number(native) {
         plan_number(program, store, native, arguments, request)
+    } else if makes_array(native) {
+        plan_array(program, store, native, arguments, request)
     } else {
         plan_kept(program, store, roots, native, arguments, request)
     }
@@ -83,10 +90,12 @@ pub fn run_native<S: Store>(
     requires sorts { have_sorts (sorts_of native) arguments.now ≡ true }
     requires given { AreGiven (S.kept store.old) (roles native) (map (read_value
         (S.index store.old)) arguments.now) }
+    requires laid { AreLaid program.now (S.kept store.old) native (map (read_value (S.index store.old)) arguments.now) }
     requires asks { Asks program.now (seen (S.index store.old) (S.kept store.old) roots.old.roots)
         native (map (read_value (S.index store.old)) arguments.now) asked.1 }
     requires room { (asked.1 ≡ [] → ⊥) → HasRoom (S.kept store.old) asked.1 (S.granted store.old) }
     requires shaped { MayMake program.now (S.shapes store.old) }
+    requires holds { MayHold program.now (S.shapes store.old) }
     requires allowed { (one other : ℕ) → S.allows store.old one other ≡ true }
     requires closed { IsClosed (seen (S.index store.old) (S.kept store.old) roots.old.roots) }
     requires tables { HasTables program.now roots.old.roots.tables }
@@ -123,10 +132,12 @@ fn run_beside<S: Store>(
     requires sorts { have_sorts (sorts_of native) arguments.now ≡ true }
     requires given { AreGiven (S.kept store.old) (roles native) (map (read_value
         (S.index store.old)) arguments.now) }
+    requires laid { AreLaid program.now (S.kept store.old) native (map (read_value (S.index store.old)) arguments.now) }
     requires asks { Asks program.now (record { roots = asked.0; objects = S.kept store.old }) native
         (map (read_value (S.index store.old)) arguments.now) asked.1 }
     requires room { (asked.1 ≡ [] → ⊥) → HasRoom (S.kept store.old) asked.1 (S.granted store.old) }
     requires shaped { MayMake program.now (S.shapes store.old) }
+    requires holds { MayHold program.now (S.shapes store.old) }
     requires allowed { (one other : ℕ) → S.allows store.old one other ≡ true }
     ensures made { (roots : Held) → Performs S.rules program.now native (map (read_value
         (S.index store.old)) arguments.now) (record { roots = roots; objects = S.kept store.old }) (S.facts store.old) (record { roots = roots; objects = S.kept store.new }) (S.facts store.new)
@@ -141,6 +152,8 @@ fn run_beside<S: Store>(
         Some(run_text(program, store, native, arguments))
     } else if makes_own(native) {
         run_own(program, store, native, arguments)
+    } else if makes_array(native) {
+        run_array(program, store, native, arguments)
     } else {
         run_number(program, store, native, arguments);
         None

@@ -1,4 +1,4 @@
-// The arguments of natives that set the text of their own object, by their sorts.
+// The arguments of natives that set the text of their own object, or copy ranges, by their sorts.
 ghost use Rattle.std.specs.Prelude.{◌≡◌, ◌∷◌, [], true};
 ghost use Rattle.cb_plain.specs.declared.value.Value.TheVariants as values;
 ghost use Rattle.cb_shapes.specs.declared.sort.Sort.TheVariants as sorts;
@@ -40,6 +40,23 @@ pub(crate) fn references_ints(arguments: &[Value]) -> (u64, u64, i32, i32)
             Value::Int(one),
             Value::Int(other),
         ] => (*at, *array, *one, *other),
+        _ => unreachable!(),
+    }
+}
+
+/// Two references, each with an int, and one int more.
+pub(crate) fn range_arguments(arguments: &[Value]) -> (u64, i32, u64, i32, i32)
+    requires { have_sorts (sorts.Reference ∷ sorts.Int ∷ sorts.Reference ∷ sorts.Int ∷ sorts.Int ∷ []) arguments.now ≡ true }
+    ensures { arguments.now ≡ values.Ref result.0 ∷ values.Int result.1 ∷ values.Ref result.2 ∷ values.Int result.3 ∷ values.Int result.4 ∷ [] }
+{
+    match arguments {
+        [
+            Value::Ref(source),
+            Value::Int(from),
+            Value::Ref(to),
+            Value::Int(at),
+            Value::Int(count),
+        ] => (*source, *from, *to, *at, *count),
         _ => unreachable!(),
     }
 }

@@ -27,7 +27,6 @@ pub(crate) fn place_in(place: i32, count: u32) -> Option<u32>
 
 /// Two numbers as the start and the size of a range of so many.
 pub(crate) fn range_in(from: i32, size: i32, count: u32) -> Option<(u32, u32)>
-    requires { count < 2 ^ 31 }
     ensures { result ≡ range_in from size count }
 {
     if from < 0 {

@@ -14,7 +14,7 @@ use Rattle.cb_io.specs.declared.folder.Found.TheVariants.{Bytes, Absent, TooLong
 use Rattle.cb_link.specs.Program.{Linked}
 use Rattle.cb_runner.specs.declared.cause.Cause.TheVariants as causes
 use Rattle.cb_runner.specs.declared.stop.Stop.{Stop}
-use Rattle.cb_runner.specs.declared.stop.Stop.TheVariants.{Returned, Usage, Refused, Told, FolderFault, InputFault, OutputFault, OutOfMemory}
+use Rattle.cb_runner.specs.declared.stop.Stop.TheVariants.{Exited, Returned, Usage, Refused, Told, FolderFault, InputFault, OutputFault, OutOfMemory}
 use Rattle.cb_runner.specs.Answer.{Answers, Ends, EndsIn, IsCutShort, MayStandAt, OfMemory, OfFolder, OfOutput}
 use Rattle.cb_runner.specs.Ending.{Ending, out_of_memory, output_fault, refused, returned}
 use Rattle.cb_runner.specs.Inner.{IsCarriedOut, IsRefusal, IsUnfound, Makes, PrintsMade, RunsTo, StopsAtOnce, StopsBy, TellsWhole, cause_of, ending_of}
@@ -121,6 +121,7 @@ run_ends folder run files program OutOfMemory out runnable (inl nothing) = λ le
 run_ends folder run files program OutOfMemory out runnable (inr cuts) = λ left. inr (OfMemory, inr (program, runnable, cuts))
 run_ends folder run files program OutputFault out runnable runs = λ left. inr (OfOutput, (program, runnable, runs))
 run_ends folder run files program Returned out runnable runs = λ left. inl (Typed program runnable runs)
+run_ends folder run files program (Exited status) out runnable runs = λ left. inl (Typed program runnable runs)
 run_ends folder run files program (Told cause text) out runnable runs = λ left. inl (Typed program runnable runs)
 run_ends folder run files program stop out runnable runs = absurd runs
 
@@ -171,6 +172,7 @@ not_failed given stop is = cc
 folder_cause : (stop : Stop) → TellsWhole stop → (stop ≡ FolderFault) ↔ (cause_of stop ≡ causes.FolderFault)
 folder_cause (Told cause text) whole = (λ is. cc, λ is. absurd (false≢true (cause_whole cause causes.FolderFault is whole)))
 folder_cause Returned whole = (λ is. cc, λ is. cc)
+folder_cause (Exited status) whole = (λ is. cc, λ is. cc)
 folder_cause Usage whole = (λ is. cc, λ is. cc)
 folder_cause (Refused text) whole = (λ is. cc, λ is. cc)
 folder_cause FolderFault whole = (λ is. refl, λ is. refl)
@@ -181,6 +183,7 @@ folder_cause OutOfMemory whole = (λ is. cc, λ is. cc)
 input_cause : (stop : Stop) → TellsWhole stop → (stop ≡ InputFault) ↔ (cause_of stop ≡ causes.InputFault)
 input_cause (Told cause text) whole = (λ is. cc, λ is. absurd (false≢true (cause_whole cause causes.InputFault is whole)))
 input_cause Returned whole = (λ is. cc, λ is. cc)
+input_cause (Exited status) whole = (λ is. cc, λ is. cc)
 input_cause Usage whole = (λ is. cc, λ is. cc)
 input_cause (Refused text) whole = (λ is. cc, λ is. cc)
 input_cause FolderFault whole = (λ is. cc, λ is. cc)
@@ -191,6 +194,7 @@ input_cause OutOfMemory whole = (λ is. cc, λ is. cc)
 output_cause : (stop : Stop) → TellsWhole stop → (stop ≡ OutputFault) ↔ (cause_of stop ≡ causes.OutputFault)
 output_cause (Told cause text) whole = (λ is. cc, λ is. absurd (false≢true (cause_whole cause causes.OutputFault is whole)))
 output_cause Returned whole = (λ is. cc, λ is. cc)
+output_cause (Exited status) whole = (λ is. cc, λ is. cc)
 output_cause Usage whole = (λ is. cc, λ is. cc)
 output_cause (Refused text) whole = (λ is. cc, λ is. cc)
 output_cause FolderFault whole = (λ is. cc, λ is. cc)
@@ -202,6 +206,7 @@ output_cause OutOfMemory whole = (λ is. cc, λ is. cc)
 pub tells_no_fault : (stop : Stop) → TellsWhole stop → cause_of stop ≡ causes.ErrFault → ⊥
 tells_no_fault (Told cause text) whole is = false≢true (cause_whole cause causes.ErrFault is whole)
 tells_no_fault Returned whole is = cc
+tells_no_fault (Exited status) whole is = cc
 tells_no_fault Usage whole is = cc
 tells_no_fault (Refused text) whole is = cc
 tells_no_fault FolderFault whole is = cc

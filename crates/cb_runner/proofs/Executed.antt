@@ -11,10 +11,10 @@ use Rattle.cb_heap.specs.Rules.{Meaning}
 use Rattle.cb_heap.specs.declared.no_room.NoRoom.{NoRoom}
 use Rattle.cb_heap.specs.declared.no_room.NoRoom.TheVariants as rooms
 use Rattle.cb_interp.specs.Leaving.{Leaves}
-use Rattle.cb_interp.specs.Running.{Ended, outside_of}
+use Rattle.cb_interp.specs.Running.{Ended, last_of}
 use Rattle.cb_act.specs.Steps.{view_of}
 use Rattle.cb_interp.specs.Texts.{exception_units}
-use Rattle.cb_act.specs.Turning.{Moment, StandsAt, moment_of}
+use Rattle.cb_act.specs.Turning.{Moment, StandsAt}
 use Rattle.cb_interp.specs.declared.end.End.{End}
 use Rattle.cb_interp.specs.declared.end.End.TheVariants as ends
 use Rattle.cb_link.specs.Program.{Linked}
@@ -30,11 +30,11 @@ use Rattle.cb_plain.specs.Updates.{object_at, with_objects}
 use Rattle.cb_runner.specs.declared.cause.Cause.{Cause}
 use Rattle.cb_runner.specs.declared.cause.Cause.TheVariants as causes
 use Rattle.cb_runner.specs.declared.stop.Stop.{Stop}
-use Rattle.cb_runner.specs.declared.stop.Stop.TheVariants.{FolderFault, InputFault, OutOfMemory, OutputFault, Refused, Returned, Told, Usage}
+use Rattle.cb_runner.specs.declared.stop.Stop.TheVariants.{Exited, FolderFault, InputFault, OutOfMemory, OutputFault, Refused, Returned, Told, Usage}
 use Rattle.cb_runner.specs.Ending.{Ending, output_fault, told}
 use Rattle.cb_runner.specs.Inner.{IsRefusedStart, IsStopOf, IsToldAs, IsUncaughtAs, MayTell, RunsTo, ending_of}
 use Rattle.cb_runner.specs.Messages.{NotYet, line, refusal_text}
-use Rattle.cb_runner.specs.Running.{EndsBegun, EndsRun, Fills, FillsFirst, HadRoom, LeavesOut, Returns, Spends, Throws, exception_line, full_line, machine_of, spent_line, state_at, texts_of}
+use Rattle.cb_runner.specs.Running.{EndsBegun, EndsRun, Exits, Fills, FillsFirst, HadRoom, LeavesOut, Returns, Spends, Throws, exception_line, full_line, machine_of, spent_line, state_at, texts_of}
 use Rattle.cb_runner.specs.Words.{Run}
 use Rattle.cb_runner.proofs.Roomy.{had_room}
 use Rattle.cb_io.specs.Faults.{CountsFaults}
@@ -131,12 +131,20 @@ module _ (asks : Run) (program : Linked) (begins : ¬ FillsFirst asks program) (
     no_memory end run out = (run.said, out, inr (run.count, run.within, had end run, same_told end run causes.OutOfMemory _))
 
     -- where nothing has changed, a moment is the whole state
-    before_whole : (end : End) → (run : HasRun end) → moment_of (seen index (map Some items) roots) (outside_of (state_at asks program run.count)) tt ≡ run.before → run.before.state ≡ state_at asks program run.count
+    before_whole : (end : End) → (run : HasRun end) → last_of (seen index (map Some items) roots) (state_at asks program run.count) tt ≡ run.before → run.before.state ≡ state_at asks program run.count
     before_whole end run same = whole_so run.before (state_at asks program run.count) items run.stands (sym (ap (λ (moment : Moment (Unit {0})). moment.state.objects) same))
 
     returns_so : (run : HasRun ends.Returned) → (stop : Stop) → stop ≡ Returned → Shown stop
     returns_so run stop is =
         subst Shown (sym is) (run.said, run.out, ends_so _ (Returns run.count run.within (had ends.Returned run) run.ends.0 (same_told ends.Returned run causes.Returned [])))
+
+    exits_so : (status : ℤ) → (run : HasRun (ends.Exited status)) → (stop : Stop) → stop ≡ Exited status → Shown stop
+    exits_so status run stop is =
+        subst Shown (sym is) (
+          run.said,
+          run.out,
+          ends_so _ (Exits run.count status run.within (had (ends.Exited status) run) run.ends.0 (same_told (ends.Exited status) run (causes.Exited status) [])),
+        )
 
     spends_so : (run : HasRun ends.BudgetSpent) → (stop : Stop) → IsToldAs causes.BudgetSpent (spent_line asks.steps) stop → Shown stop
     spends_so run (Told cause text) (same, is) = (
@@ -149,6 +157,7 @@ module _ (asks : Run) (program : Linked) (begins : ¬ FillsFirst asks program) (
     )
     spends_so run OutOfMemory is = no_memory ends.BudgetSpent run run.out
     spends_so run Returned is = absurd is
+    spends_so run (Exited status) is = absurd is
     spends_so run Usage is = absurd is
     spends_so run (Refused text) is = absurd is
     spends_so run FolderFault is = absurd is
@@ -165,6 +174,7 @@ module _ (asks : Run) (program : Linked) (begins : ¬ FillsFirst asks program) (
     )
     leaves_so run OutOfMemory is = no_memory ends.NotYet run run.out
     leaves_so run Returned is = absurd is
+    leaves_so run (Exited status) is = absurd is
     leaves_so run Usage is = absurd is
     leaves_so run (Refused text) is = absurd is
     leaves_so run FolderFault is = absurd is
@@ -193,6 +203,7 @@ module _ (asks : Run) (program : Linked) (begins : ¬ FillsFirst asks program) (
     fills_so : (live asked limit : ℕ) → (run : HasRun (ends.HeapFull live asked limit)) → (stop : Stop) → IsToldAs causes.HeapFull (full_line (rooms.Full live asked limit)) stop → Shown stop
     fills_so live asked limit run OutOfMemory is = no_memory (ends.HeapFull live asked limit) run run.out
     fills_so live asked limit run Returned is = absurd is
+    fills_so live asked limit run (Exited status) is = absurd is
     fills_so live asked limit run Usage is = absurd is
     fills_so live asked limit run (Refused text) is = absurd is
     fills_so live asked limit run FolderFault is = absurd is
@@ -239,6 +250,7 @@ module _ (asks : Run) (program : Linked) (begins : ¬ FillsFirst asks program) (
     throws_so : (class at : ℕ) → serial_of pred at ≡ later.roots.pending → (run : HasRun (ends.Uncaught class at)) → (stop : Stop) → IsUncaughtAs program (map Some items) class at stop → Shown stop
     throws_so class at place run OutOfMemory is = no_memory (ends.Uncaught class at) run run.out
     throws_so class at place run Returned is = absurd is
+    throws_so class at place run (Exited status) is = absurd is
     throws_so class at place run Usage is = absurd is
     throws_so class at place run (Refused text) is = absurd is
     throws_so class at place run FolderFault is = absurd is
@@ -263,6 +275,7 @@ module _ (asks : Run) (program : Linked) (begins : ¬ FillsFirst asks program) (
     pub shown_so : (end : End) (stop : Stop) → ((class at : ℕ) → end ≡ ends.Uncaught class at → serial_of pred at ≡ later.roots.pending) → HasRun end
         → IsStopOf asks program (map Some items) end stop → Shown stop
     shown_so ends.Returned stop place run is = returns_so run stop is
+    shown_so (ends.Exited status) stop place run is = exits_so status run stop is
     shown_so (ends.Uncaught class at) stop place run is = throws_so class at (place class at refl) run stop is
     shown_so ends.BudgetSpent stop place run is = spends_so run stop is
     shown_so (ends.HeapFull live asked limit) stop place run is = fills_so live asked limit run stop is
@@ -290,6 +303,7 @@ module _ (asks : Run) (program : Linked) (begins : ¬ FillsFirst asks program) (
         → IsTypedState program (state_at asks program run.count) → MayTell program (map Some items) end
     tells_so (ends.Uncaught class at) place run typed = may_tell class at (place class at refl) run typed
     tells_so ends.Returned place run typed = tt
+    tells_so (ends.Exited status) place run typed = tt
     tells_so ends.BudgetSpent place run typed = tt
     tells_so (ends.HeapFull live asked limit) place run typed = tt
     tells_so ends.ReportFault place run typed = tt
@@ -314,6 +328,7 @@ output_stops asks program objects end stop is same = subst (λ end. IsStopOf ask
 pub output_ends : (asks : Run) (program : Linked) (objects : List (Option Object)) (end : End) (stop : Stop) → IsStopOf asks program objects end stop → stop ≡ OutputFault
     → end ≡ ends.OutputFault
 output_ends asks program objects ends.Returned stop is same = absurd (cc (is, same))
+output_ends asks program objects (ends.Exited status) stop is same = absurd (cc (is, same))
 output_ends asks program objects (ends.Uncaught class at) stop is same = absurd (subst (IsUncaughtAs program objects class at) same is)
 output_ends asks program objects ends.BudgetSpent stop is same = absurd (told_never causes.BudgetSpent (spent_line asks.steps) stop is same)
 output_ends asks program objects (ends.HeapFull live asked limit) stop is same = absurd (told_never causes.HeapFull (full_line (rooms.Full live asked limit)) stop is same)
@@ -332,6 +347,7 @@ refused_so asks program rooms.ReportFault stop refused is = subst (λ stop. Runs
 refused_so asks program rooms.OutOfMemory stop refused is = subst (λ stop. RunsTo asks program stop []) (sym is) (inl refl)
 refused_so asks program (rooms.Full live most limit) OutOfMemory refused is = inl refl
 refused_so asks program (rooms.Full live most limit) Returned refused is = absurd is
+refused_so asks program (rooms.Full live most limit) (Exited status) refused is = absurd is
 refused_so asks program (rooms.Full live most limit) Usage refused is = absurd is
 refused_so asks program (rooms.Full live most limit) (Refused text) refused is = absurd is
 refused_so asks program (rooms.Full live most limit) FolderFault refused is = absurd is

@@ -1,17 +1,17 @@
 -- What crates above may cite. No other file of these proofs is for them.
-use Rattle.std.proofs.Common.{◌≡◌, ◌⊎◌, inl, inr, ℕ, List, Option, Some, None, IsTrue, refl, sym, ◌∙◌, ap, subst}
+use Rattle.std.proofs.Common.{◌≡◌, ◌⊎◌, inl, inr, ℤ, ℕ, List, Option, Some, None, IsTrue, refl, sym, ◌∙◌, ap, subst}
 use Rattle.std.proofs.lemmas.Bool.{false≢true}
 use Rattle.cb_io.specs.Folder.{Files}
 use Rattle.cb_link.specs.Program.{Linked}
 use Rattle.cb_runner.specs.declared.cause.Cause.{Cause}
-use Rattle.cb_runner.specs.declared.cause.Cause.TheVariants.{Usage, FolderFault, InputFault, OutputFault, ErrFault, OutOfMemory}
+use Rattle.cb_runner.specs.declared.cause.Cause.TheVariants.{Exited, Refused, Returned, Usage, FolderFault, InputFault, OutputFault, ErrFault, OutOfMemory}
 use Rattle.cb_runner.specs.Answer.{Answers, Ends, EndsIn, Fault, IsCutShort, IsTold, IsWhole, OfMemory, OfFolder, OfInput, OfOutput, ends_whole}
 use Rattle.cb_runner.specs.Asm.{AssemblesText, TooLong, Assembled, Bad}
 use Rattle.cb_runner.specs.Ending.{Ending}
 use Rattle.cb_runner.specs.List.{ListsBytes, ListsFile, OfVersion, OfNoClass, OfItem, Listed}
 use Rattle.cb_runner.specs.Run.{RunsClass, Stopped, Typed, Untyped}
-use Rattle.cb_runner.specs.Running.{EndsBegun, EndsRun, Returns, Throws, Spends, Fills, LeavesOut}
-use Rattle.cb_runner.specs.Words.{Command, Run, RunIn, ListOf, Assemble, SaysNone}
+use Rattle.cb_runner.specs.Running.{EndsBegun, EndsRun, Exits, Returns, Throws, Spends, Fills, LeavesOut}
+use Rattle.cb_runner.specs.Words.{Command, Run, RunIn, ListOf, Assemble, Says, SaysNone, SaysRun}
 
 -- whether an end is whole, its cause says
 pub whole_by : (ending other : Ending) → ending ≡ other → IsWhole other → IsWhole ending
@@ -23,6 +23,7 @@ cause_whole one other is whole = subst (λ cause. IsTrue (ends_whole cause)) is 
 -- a command that nothing cuts short returns or is refused, or the program that it runs ends in another way
 ends_begun_whole : (run : Run) (program : Linked) (ending : Ending) → EndsBegun run program ending → IsWhole ending
 ends_begun_whole run program ending (Returns count within had returns is) = whole_by ending _ is refl
+ends_begun_whole run program ending (Exits count status within had exits is) = whole_by ending _ is refl
 ends_begun_whole run program ending (Throws count serial object units within had throws there tells is) = whole_by ending _ is refl
 ends_begun_whole run program ending (Spends had runs is) = whole_by ending _ is refl
 ends_begun_whole run program ending (Fills count below had fills is) = whole_by ending _ is refl
@@ -135,3 +136,52 @@ asks_folder files left ending (inr (OfFolder, cut)) is = cut
 asks_folder files left ending (inr (OfMemory, cut)) is = let no : OutOfMemory ≡ FolderFault = sym (cut_cause OfMemory Assemble files left ending cut) ∙ is in cc
 asks_folder files left ending (inr (OfInput, cut)) is = let no : InputFault ≡ FolderFault = sym (cut_cause OfInput Assemble files left ending cut) ∙ is in cc
 asks_folder files left ending (inr (OfOutput, cut)) is = let no : OutputFault ≡ FolderFault = sym (cut_cause OfOutput Assemble files left ending cut) ∙ is in cc
+
+-- what calls `exit` is the program of a run: a listing and an assembly return or are refused
+returned_apart : (ending other : Ending) (status : ℤ) → ending ≡ other → other.cause ≡ Returned → ending.cause ≡ Exited status → ⊥
+returned_apart ending other status is returned exits = let no : Returned ≡ Exited status = sym returned ∙ sym (ap (λ e. e.cause) is) ∙ exits in cc
+
+refused_apart : (ending other : Ending) (status : ℤ) → ending ≡ other → other.cause ≡ Refused → ending.cause ≡ Exited status → ⊥
+refused_apart ending other status is refused exits = let no : Refused ≡ Exited status = sym refused ∙ sym (ap (λ e. e.cause) is) ∙ exits in cc
+
+bytes_apart : (path bytes : List ℕ) (ending : Ending) (status : ℤ) → ListsBytes path bytes ending → ending.cause ≡ Exited status → ⊥
+bytes_apart path bytes ending status (Listed class listed is) exits = returned_apart ending _ status is refl exits
+bytes_apart path bytes ending status (OfVersion major has other is) exits = refused_apart ending _ status is refl exits
+bytes_apart path bytes ending status (OfNoClass versions none is) exits = refused_apart ending _ status is refl exits
+bytes_apart path bytes ending status (OfItem item leaves is) exits = refused_apart ending _ status is refl exits
+
+list_apart : (path : List ℕ) (file : Option (List ℕ)) (ending : Ending) (status : ℤ) → ListsFile path file ending → ending.cause ≡ Exited status → ⊥
+list_apart path None ending status is exits = refused_apart ending _ status is refl exits
+list_apart path (Some bytes) ending status (inl (long, is)) exits = refused_apart ending _ status is refl exits
+list_apart path (Some bytes) ending status (inr (short, lists)) exits = bytes_apart path bytes ending status lists exits
+
+text_apart : (text : List ℕ) (ending : Ending) (status : ℤ) → AssemblesText text ending → ending.cause ≡ Exited status → ⊥
+text_apart text ending status (TooLong long is) exits = refused_apart ending _ status is refl exits
+text_apart text ending status (Assembled short class text_of is) exits = returned_apart ending _ status is refl exits
+text_apart text ending status (Bad short line stops is) exits = refused_apart ending _ status is refl exits
+
+cut_apart : (fault : Fault) (ending : Ending) (status : ℤ) → ending.cause ≡ fault_cause fault → ending.cause ≡ Exited status → ⊥
+unfolding fault_cause
+cut_apart OfMemory ending status cut exits = let no : OutOfMemory ≡ Exited status = sym cut ∙ exits in cc
+cut_apart OfFolder ending status cut exits = let no : FolderFault ≡ Exited status = sym cut ∙ exits in cc
+cut_apart OfInput ending status cut exits = let no : InputFault ≡ Exited status = sym cut ∙ exits in cc
+cut_apart OfOutput ending status cut exits = let no : OutputFault ≡ Exited status = sym cut ∙ exits in cc
+
+exits_run : (words : List (List ℕ)) (command : Command) (files : Option Files) (left : Option (List ℕ)) (ending : Ending) (status : ℤ) → Says words command
+    → EndsIn command files left ending → ending.cause ≡ Exited status → SaysRun words
+exits_run words (RunIn folder run) files left ending status says ends exits = (folder, run, says)
+exits_run words (ListOf path) files left ending status says (inl (file, may, lists)) exits = absurd (list_apart path file ending status lists exits)
+exits_run words (ListOf path) files left ending status says (inr (fault, cut)) exits = absurd (cut_apart fault ending status (cut_cause fault (ListOf path) files left ending cut) exits)
+exits_run words Assemble files left ending status says (inl (text, may, assembles)) exits = absurd (text_apart text ending status assembles exits)
+exits_run words Assemble files left ending status says (inr (fault, cut)) exits = absurd (cut_apart fault ending status (cut_cause fault Assemble files left ending cut) exits)
+
+usage_apart : (status : ℤ) → Usage ≡ Exited status → ⊥
+usage_apart status is = cc
+
+-- the cause of a call tells words that say one
+pub told_run : (words : List (List ℕ)) (files : Option Files) (left before now : Option (List ℕ)) (ending : Ending) (cause : Cause) (status : ℤ) → Ends words files left ending
+    → IsTold ending cause before now → cause ≡ Exited status → SaysRun words
+told_run words files left before now ending cause status ends (inr (fails, appends)) is = let no : ErrFault ≡ Exited status = sym fails ∙ is in absurd cc
+told_run words files left before now ending cause status (inl (none, ends)) (inl (same, appends)) is =
+    absurd (usage_apart status (sym (ap (λ e. e.cause) ends) ∙ sym same ∙ is))
+told_run words files left before now ending cause status (inr (command, says, ends)) (inl (same, appends)) is = exits_run words command files left ending status says ends (sym same ∙ is)

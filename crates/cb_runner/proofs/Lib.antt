@@ -1,6 +1,7 @@
 pub mod Reading
 pub mod FewItems
-pub mod Options
+pub mod OneCommand
+mod Options
 pub mod Plain
 pub mod RunSaid
 pub mod Texts

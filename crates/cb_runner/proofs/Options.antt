@@ -50,10 +50,10 @@ takes_so name most usual value other words rest front back takes (inl (none, usu
     only own (inr (number, is, tells)) are = absurd (apart (number ∷ rest, sym here ∙ are ∙ ap (λ own. own ++ rest) is))
 
 -- a word that is no option is no name of one, nor is one name another
-no_name : (name word : List ℕ) (behind : List (List ℕ)) → IsOption name → ¬ IsOption word → ¬ LeadsWith name (word ∷ behind)
+pub no_name : (name word : List ℕ) (behind : List (List ℕ)) → IsOption name → ¬ IsOption word → ¬ LeadsWith name (word ∷ behind)
 no_name name word behind option none (more, is) = none (subst IsOption (sym (heads is)) option)
 
-leads_not : (name other : List ℕ) (most usual value : ℕ) (front behind : List (List ℕ)) (word : List ℕ) → IsOption name → ¬ (name ≡ other) → ¬ IsOption word
+pub leads_not : (name other : List ℕ) (most usual value : ℕ) (front behind : List (List ℕ)) (word : List ℕ) → IsOption name → ¬ (name ≡ other) → ¬ IsOption word
     → IsOptionOf other most usual value front → ¬ LeadsWith name (front ++ word ∷ behind)
 leads_not name other most usual value front behind word option apart none (inl (nothing, usually)) (more, is) =
     no_name name word behind option none (more, sym (ap (λ front. front ++ word ∷ behind) nothing) ∙ is)

@@ -9,10 +9,10 @@ use Rattle.cb_runner.specs.Words.{AllOf, AreArguments, AreFew, ArePlain, IsDashe
 use Rattle.cb_runner.proofs.FewItems.{heads, tails}
 
 -- the first of all items, and the others
-first_of : {X : Type 0} (P : X → Type 0) (item : X) (items : List X) → All P (item ∷ items) → P item
+pub first_of : {X : Type 0} (P : X → Type 0) (item : X) (items : List X) → All P (item ∷ items) → P item
 first_of P item items all = all 0 item (omega arith)
 
-others_of : {X : Type 0} (P : X → Type 0) (item : X) (items : List X) → All P (item ∷ items) → All P items
+pub others_of : {X : Type 0} (P : X → Type 0) (item : X) (items : List X) → All P (item ∷ items) → All P items
 others_of P item items all = All-drop P 1 (item ∷ items) all
 
 -- what is said of each place up to one is said of all words before it
@@ -22,7 +22,7 @@ plain_taken words count within plain =
     (λ k d below. let size = length-take count words in
     subst (λ (word : String Global). ¬ IsDashed (string_bytes word)) (sym (get_or-take count words k d (omega (arith, below, size, within)))) (plain k d (omega arith) (omega (arith, below, size, within))))
 
-dashes : IsDashed (codes "--")
+pub dashes : IsDashed (codes "--")
 dashes = (refl, omega arith)
 
 -- words with one that is kept for options, before which none is and which isn't `--`, are no arguments
@@ -34,7 +34,7 @@ parted_so (first ∷ plain) word behind [] back none dashed other also is = firs
 parted_so (first ∷ plain) word behind (own ∷ front) back none dashed other also is =
     parted_so plain word behind front back (others_of (λ word. ¬ IsDashed word) first plain none) dashed other (others_of (λ word. ¬ IsDashed word) own front also) (tails is)
 
-all_so : (plain : List (List ℕ)) (word : List ℕ) (behind : List (List ℕ)) → IsDashed word → ArePlain (plain ++ word ∷ behind) → ⊥
+pub all_so : (plain : List (List ℕ)) (word : List ℕ) (behind : List (List ℕ)) → IsDashed word → ArePlain (plain ++ word ∷ behind) → ⊥
 all_so [] word behind dashed all = first_of (λ word. ¬ IsDashed word) word behind all dashed
 all_so (first ∷ plain) word behind dashed all = all_so plain word behind dashed (others_of (λ word. ¬ IsDashed word) first (plain ++ word ∷ behind) all)
 

@@ -7,7 +7,7 @@ use Rattle.cb_io.specs.Folder.{Files}
 use Rattle.cb_io.specs.Sink.{AppendsProperPrefix, IsProperPrefix}
 use Rattle.cb_link.specs.Program.{Linked}
 use Rattle.cb_runner.specs.declared.cause.Cause.{Cause}
-use Rattle.cb_runner.specs.declared.cause.Cause.TheVariants.{BudgetSpent, ErrFault, FolderFault, HeapFull, InputFault, NotYet, OutOfMemory, OutputFault, Refused, Returned, Uncaught, Usage}
+use Rattle.cb_runner.specs.declared.cause.Cause.TheVariants.{BudgetSpent, ErrFault, Exited, FolderFault, HeapFull, InputFault, NotYet, OutOfMemory, OutputFault, Refused, Returned, Uncaught, Usage}
 use Rattle.cb_runner.specs.Asm.{AssemblesText, text_limit}
 use Rattle.cb_runner.specs.Ending.{Ending, folder_fault, input_fault, out_of_memory, output_fault, usage}
 use Rattle.cb_runner.specs.List.{ListsFile}
@@ -19,6 +19,7 @@ use Rattle.cb_runner.specs.Words.{Command, RunIn, ListOf, Assemble, Says, SaysNo
 -- a command that nothing cuts short returns or is refused, or the program that it runs ends in another way
 abbrev pub ends_whole : Cause → Bool
 ends_whole Returned = true
+ends_whole (Exited status) = true
 ends_whole (Uncaught class) = true
 ends_whole BudgetSpent = true
 ends_whole HeapFull = true

@@ -1,13 +1,15 @@
 -- How a call ends, and the status that tells it.
-use Rattle.std.specs.Prelude.{ℕ, List, []}
+use Rattle.std.specs.Prelude.{pos, ℕ, List, [], unsigned_abs}
+use Rattle.std.specs.Int.{int_rem_euclid}
 use Rattle.std.specs.Prelude.{codes}
 use Rattle.cb_runner.specs.declared.cause.Cause.{Cause}
-use Rattle.cb_runner.specs.declared.cause.Cause.TheVariants.{BudgetSpent, ErrFault, FolderFault, HeapFull, InputFault, NotYet, OutOfMemory, OutputFault, Refused, Returned, Uncaught, Usage}
+use Rattle.cb_runner.specs.declared.cause.Cause.TheVariants.{BudgetSpent, ErrFault, Exited, FolderFault, HeapFull, InputFault, NotYet, OutOfMemory, OutputFault, Refused, Returned, Uncaught, Usage}
 use Rattle.cb_runner.specs.Messages.{Reason, line, refusal_text}
 
--- the exit status of each cause
+-- the exit status of each cause; that of a program that called `exit` is its argument modulo 256
 abbrev pub status_of : Cause → ℕ
 status_of Returned = 0
+status_of (Exited status) = unsigned_abs (int_rem_euclid status (pos 256))
 status_of (Uncaught class) = 1
 status_of OutOfMemory = 119
 status_of Usage = 120

@@ -31,7 +31,7 @@ use Rattle.cb_runner.specs.declared.input.Input.{Input}
 use Rattle.cb_runner.specs.declared.input.Input.TheVariants.{Whole, TooLong}
 use Rattle.cb_runner.specs.declared.refusal.Refusal.{Refusal}
 use Rattle.cb_runner.specs.declared.stop.Stop.{Stop}
-use Rattle.cb_runner.specs.declared.stop.Stop.TheVariants.{FolderFault, InputFault, OutOfMemory, OutputFault, Refused, Returned, Told, Usage}
+use Rattle.cb_runner.specs.declared.stop.Stop.TheVariants.{Exited, FolderFault, InputFault, OutOfMemory, OutputFault, Refused, Returned, Told, Usage}
 use Rattle.cb_runner.specs.declared.arguments.Arguments.{Arguments}
 use Rattle.cb_runner.specs.declared.run_words.RunWords.{RunWords}
 use Rattle.cb_runner.specs.declared.words.Command.{Command as SaidCommand}
@@ -61,6 +61,7 @@ abbrev pub cause_of : Stop → Cause
 cause_of Returned = causes.Returned
 cause_of Usage = causes.Usage
 cause_of (Refused text) = causes.Refused
+cause_of (Exited status) = causes.Exited status
 cause_of (Told cause text) = cause
 cause_of FolderFault = causes.FolderFault
 cause_of InputFault = causes.InputFault
@@ -71,6 +72,7 @@ abbrev pub line_of : Stop → List ℕ
 line_of Returned = []
 line_of Usage = line (codes "these words are no command")
 line_of (Refused text) = string_bytes text
+line_of (Exited status) = []
 line_of (Told cause text) = string_bytes text
 line_of FolderFault = line (codes "folder fault")
 line_of InputFault = line (codes "input fault")
@@ -189,6 +191,7 @@ abbrev pub RunsTo : Run → Linked → Stop → List ℕ → Type 0
 RunsTo run program OutOfMemory out = (out ≡ []) ⊎ CutsMemory run program (ending_of OutOfMemory out 0)
 RunsTo run program OutputFault out = CutsOutput run program (ending_of OutputFault out 0)
 RunsTo run program Returned out = EndsRun run program (ending_of Returned out 0)
+RunsTo run program (Exited status) out = EndsRun run program (ending_of (Exited status) out 0)
 RunsTo run program (Told cause text) out = EndsRun run program (ending_of (Told cause text) out 0)
 RunsTo run program other out = ⊥
 
@@ -219,6 +222,7 @@ IsUncaughtAs program objects class at other = ⊥
 -- how a command stops whose run has ended so
 abbrev pub IsStopOf : Run → Linked → List (Option Object) → End → Stop → Type 0
 IsStopOf run program objects ends.Returned stop = stop ≡ Returned
+IsStopOf run program objects (ends.Exited status) stop = stop ≡ Exited status
 IsStopOf run program objects (ends.Uncaught class at) stop = IsUncaughtAs program objects class at stop
 IsStopOf run program objects ends.BudgetSpent stop = IsToldAs causes.BudgetSpent (spent_line run.steps) stop
 IsStopOf run program objects (ends.HeapFull live asked limit) stop = IsToldAs causes.HeapFull (full_line (rooms.Full live asked limit)) stop

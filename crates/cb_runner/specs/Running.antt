@@ -1,5 +1,5 @@
 -- What a run of a program comes to, over a store that never lets an object go.
-use Rattle.std.specs.Prelude.{◌≡◌, ◌⊎◌, ◌<◌, ◌≤◌, ◌++◌, ℕ, IsTrue, List, [], Some, codes, map}
+use Rattle.std.specs.Prelude.{ℤ, ◌≡◌, ◌⊎◌, ◌<◌, ◌≤◌, ◌++◌, ℕ, IsTrue, List, [], Some, codes, map}
 use Rattle.std.specs.Fmt.{decimal}
 use Rattle.cb_heap.specs.declared.no_room.NoRoom.{NoRoom}
 use Rattle.cb_heap.specs.declared.no_room.NoRoom.TheVariants.{Full, ReportFault, OutOfMemory as NoMemory}
@@ -54,11 +54,13 @@ abbrev pub HadRoom : Run → Linked → ℕ → Type 0
 HadRoom run program count =
     (step : ℕ) → step < count → ¬ IsTrue (one_has_reached most_words (request (machine_of run program) (state_at run program step)))
 
--- so one ends that has begun, behind steps that had room: `main` returns; an exception finds no handler; the steps are spent; what the next step places takes more
+-- so one ends that has begun, behind steps that had room: `main` returns; it calls `exit`; an exception finds no handler; the steps are spent; what the next step places takes more
 -- words than are counted; or the next step performs a native that isn't done yet
 pub data EndsBegun (run : Run) (program : Linked) (ending : Ending) : Type 0 where
   Returns : (count : ℕ) → count ≤ run.steps → HadRoom run program count → outcome (state_at run program count) ≡ outcomes.Returned
       → ending ≡ told causes.Returned (state_at run program count).printed [] → EndsBegun run program ending
+  Exits : (count : ℕ) (status : ℤ) → count ≤ run.steps → HadRoom run program count → outcome (state_at run program count) ≡ outcomes.Exited status
+      → ending ≡ told (causes.Exited status) (state_at run program count).printed [] → EndsBegun run program ending
   Throws : (count serial : ℕ) (object : Object) (units : List ℕ) → count ≤ run.steps → HadRoom run program count → outcome (state_at run program count) ≡ outcomes.Uncaught serial
       → object_at (state_at run program count) serial ≡ Some object → exception_units program (state_at run program count) object ≡ Some units
       → ending ≡ told (causes.Uncaught object.kind) (state_at run program count).printed (exception_line units) → EndsBegun run program ending

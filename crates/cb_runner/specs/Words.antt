@@ -132,3 +132,7 @@ Says words Assemble = words ≡ codes "asm" ∷ []
 -- they say none
 abbrev pub SaysNone : List (List ℕ) → Type 0
 SaysNone words = (command : Command) → ¬ Says words command
+
+-- they say a run, whose program may end with any status
+abbrev pub SaysRun : List (List ℕ) → Type 0
+SaysRun words = (folder : List ℕ) × (run : Run) × Says words (RunIn folder run)

@@ -4,6 +4,8 @@
 pub enum Cause {
     /// The command came to its end.
     Returned,
+    /// The program called `exit` with this status. What was printed before stands.
+    Exited(i32),
     /// An exception of the program found no handler: that of a class of this number. What was printed before stands.
     Uncaught(u32),
     /// As many steps were made as a run makes at most. What they print stands.
@@ -29,6 +31,9 @@ pub enum Cause {
     OutOfMemory,
 }
 
+/// How many exit statuses there are. That of a program that called `exit` is its argument modulo this.
+const STATUSES: i32 = 256;
+
 impl Cause {
     ghost use Rattle.std.specs.Prelude.{◌≡◌};
     ghost use Rattle.cb_runner.specs.Ending.{status_of};
@@ -39,6 +44,7 @@ impl Cause {
     {
         match self {
             Cause::Returned => 0,
+            Cause::Exited(status) => status.rem_euclid(STATUSES) as u8,
             Cause::Uncaught(_) => 1,
             Cause::OutOfMemory => 119,
             Cause::Usage => 120,

@@ -22,7 +22,8 @@ use std::alloc::Global;
 /// classes that are needed. Then it verifies their methods (JVMS §4.10.1). If all are typed, the program is run with the
 /// arguments, for at most so many steps and with at most so many frames, and what it prints goes to `out`. `list PATH` prints the listing of a class file. `asm` reads an assembly text from `input` and
 /// writes the class file to `out`; no other command reads anything from it. How the call ended goes to `err` as its last line,
-/// but where the command came to its end. `Ended::status` is that of its cause: 0, 1, or 119 to 127.
+/// but where the command came to its end. `Ended::status` is that of its cause: the argument modulo 256
+/// where the program called `exit`, else 0, 1, or 119 to 127.
 pub fn run_command<F: Folder, S: Source, O: Sink, E: Sink>(
     alloc: Global,
     words: &[String],

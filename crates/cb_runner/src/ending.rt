@@ -43,6 +43,7 @@ pub(crate) fn stop_of(
 {
     match end {
         End::Returned => Stop::Returned,
+        End::Exited(status) => Stop::Exited(status),
         End::Uncaught { class, at } => uncaught(alloc, program, store, class, at),
         End::BudgetSpent => spent(alloc, asked.steps),
         End::HeapFull { live, asked, limit } => full(alloc, live, asked, limit),

@@ -19,13 +19,18 @@ ghost use Rattle.cb_runner.specs.List.{IsListed, LeavesOut};
 ghost use Rattle.cb_runner.specs.Messages.{Reason, MissingClass, Malformed, BadVersion, Unsupported, TooLarge, BadLine};
 ghost use Rattle.cb_runner.specs.Run.{AreNoProgram, AreProgram, AreTyped, AreUntyped, IsRunnable, file_limit, reason_of_linking};
 ghost use Rattle.cb_runner.specs.Running.{EndsRun};
-ghost use Rattle.cb_runner.specs.Words.{Assemble, Command, ListOf, Run, RunIn, SaysNone};
+ghost use Rattle.cb_runner.specs.Words.{Assemble, Command, ListOf, Run, RunIn, Says, SaysNone};
 ghost use Rattle.cb_runner.specs.declared.cause.Cause.TheVariants as causes;
 ghost use Rattle.cb_runner.specs.declared.refusal.Quantity.TheVariants.{ClassFileBytes, AssemblyBytes};
 
 use cb_classfile::one_class;
 use cb_link::one_judgement;
 use cb_load::one_loading;
+
+/// Words say one command at most: one folder or path, and of a run one class, one budget, one limit of frames and one list of arguments.
+pub fn one_command()
+    ensures { (words : List (List ℕ)) (one other : Command) → Says words one → Says words other → one ≡ other }
+{}
 
 /// A call ends as one whose words are no command exactly where its words say none.
 pub fn usage_exactly()

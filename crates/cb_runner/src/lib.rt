@@ -34,6 +34,7 @@ pub use command::run_command;
 pub use ended::{Ended, Tally};
 pub use few::are_few;
 pub use law::{
-    asm_exactly, list_exactly, refused_silently, run_exactly, usage_exactly, whole_exactly,
+    asm_exactly, list_exactly, one_command, refused_silently, run_exactly, usage_exactly,
+    whole_exactly,
 };
 pub use refusal::{Quantity, Refusal};

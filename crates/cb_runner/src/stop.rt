@@ -19,6 +19,8 @@ pub(crate) enum Stop {
     Usage,
     /// What it was to do was refused, with this last line.
     Refused(String),
+    /// The program that it ran called `exit` with this status.
+    Exited(i32),
     /// The program that it ran ended for this cause, with this last line.
     Told(Cause, String),
     /// A call of the folder failed.
@@ -83,6 +85,7 @@ impl Stop {
             Stop::Returned => Cause::Returned,
             Stop::Usage => Cause::Usage,
             Stop::Refused(_) => Cause::Refused,
+            Stop::Exited(status) => Cause::Exited(*status),
             Stop::Told(cause, _) => *cause,
             Stop::FolderFault => Cause::FolderFault,
             Stop::InputFault => Cause::InputFault,
@@ -96,7 +99,7 @@ impl Stop {
         ensures { result.now ≡ line_of self.now }
     {
         match self {
-            Stop::Returned => "",
+            Stop::Returned | Stop::Exited(_) => "",
             Stop::Usage => "cbvm: these words are no command\n",
             Stop::Refused(line) | Stop::Told(_, line) => line.as_str(),
             Stop::FolderFault => "cbvm: folder fault\n",

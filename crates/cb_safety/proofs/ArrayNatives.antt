@@ -170,7 +170,7 @@ module _ (machine : Machine) (state : State) (has : HasNatives machine.program) 
       let kind : ℕ = kind_of_site machine.program sites.made_characters in
       subst (Is (Some (basics.Reference (characters machine.program)))) (sym (ap (option_and_then (gives_new sites.made_characters kind)) own.is))
       (new_typed (characters machine.program) sites.made_characters kind own.words
-      (array_object machine.program (own_kinds ++ Some kind ∷ []) sites.made_characters kind (characters machine.program) basics.Char own.words has.made
+      (array_object machine.program (own_kinds ++ Some kind ∷ []) sites.made_characters kind (characters machine.program) basics.Char own.words has.made refl
       (words_more machine.program own_kinds (Some kind ∷ []) basics.Char own.words (words_held machine.program own_kinds basics.Char own.words own.each)) own.few) has.made.array)
 
   -- the exceptions that were suppressed
@@ -222,7 +222,8 @@ module _ (machine : Machine) (state : State) (has : HasNatives machine.program) 
   suppressed_object : (contents : List Content) → Throwables contents → length contents ≤ most_elements
       → IsObject machine.program (own_kinds ++ Some kind_of_suppressed ∷ []) (object_of sites.suppressed kind_of_suppressed contents)
   suppressed_object contents all few =
-      array_object machine.program (own_kinds ++ Some kind_of_suppressed ∷ []) sites.suppressed kind_of_suppressed (throwables machine.program) (basics.Reference kind_of_throwable) contents has.suppressed
+      array_object machine.program (own_kinds ++ Some kind_of_suppressed ∷ []) sites.suppressed kind_of_suppressed (throwables machine.program)
+      (basics.Reference kind_of_throwable) contents has.suppressed refl
       (words_more machine.program own_kinds (Some kind_of_suppressed ∷ []) (basics.Reference kind_of_throwable) contents all) few
 
   suppressed_given : (place : ℕ) (throwable : Object) → There kind_of_throwable place throwable

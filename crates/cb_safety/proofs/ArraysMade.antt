@@ -9,6 +9,7 @@ use Rattle.std.proofs.lemmas.List.{append-nil, append_assoc, length-map, length-
 use Rattle.std.proofs.lemmas.List.Sums.{fold_push}
 use Rattle.cb_insn.specs.declared.insn.Insn.{Insn}
 use Rattle.cb_kinds.specs.declared.basic.Basic.TheVariants as basics
+use Rattle.cb_link.specs.Having.{site_kinds}
 use Rattle.cb_link.specs.Program.{Linked}
 use Rattle.cb_machine.specs.Arrays.{element_of}
 use Rattle.cb_machine.specs.Creating.{blank_element, makes_arrays, site_number, with_arrays}
@@ -141,6 +142,7 @@ all_reversed P (item ∷ items) all =
 pub record AreArrays (program : Linked) (method pc most : ℕ) (site kind : ℕ → ℕ) : Type 0 where
   pub some : 0 < most
   pub sited : (own : ℕ) → own < most → site_number program method pc own ≡ Some (site own)
+  pub low : (own : ℕ) → own < most → site own < length (site_kinds program)
   pub arrays : (own : ℕ) → own < most → IsArrayKind program (kind own)
   pub nested : (own : ℕ) → own + 1 < most → element_of program (kind own) ≡ Some (basics.Reference (kind (own + 1)))
 
@@ -183,7 +185,8 @@ module _ (machine : Machine) (state : State) (frame : MethodFrame) (below : List
       (leaves_with here (values.Ref (length state.objects + 1) ∷ rest) (record { placed = own.placed; next = own.next; left = state }))
       (ap (option_and_then (leaves_with here (values.Ref (length state.objects + 1) ∷ rest))) own.is)
       (lays_more machine state frame below insn action stage state.roots stage.typed.roots stage.runs own.placed own.next more (own.puts state.objects)
-      (arrays_are machine.program own_site own_kind most are.arrays are.nested state.objects 0 1 (length state.objects + 1) (size ∷ sizes) refl (omega (arith, all)) few)
+      (arrays_are machine.program own_site own_kind most are.low are.arrays are.nested state.objects 0 1 (length state.objects + 1) (size ∷ sizes) refl
+      (omega (arith, all)) few)
       falling (ObjectType (own_kind 0) ∷ types) (values.Ref (length state.objects + 1) ∷ rest) fits
       (IsStack.Upon (ObjectType (own_kind 0)) (values.Ref (length state.objects + 1)) types rest
       (HasType.AReference (own_kind 0) (length state.objects + 1) (Refers.To (length state.objects + 1)

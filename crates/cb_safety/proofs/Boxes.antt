@@ -132,6 +132,8 @@ box_is : (program : Linked) (kinds : Kinds) (site own : ℕ) (basic : Basic) (nu
     → IsObject program kinds (object_of site (kind_of_site program site) (Number number ∷ []))
 box_is program kinds site own basic number boxes has = record {
   kind = kind_low program (kind_of_site program site) own boxes.box;
+  site = boxes.sited site refl;
+  sized = boxes.sized;
   fields = λ class slot declared classed field.
       let is = boxes.fields class slot declared classed field in
       record {

@@ -58,6 +58,8 @@ pub object_set : (program : Linked) (kinds : Kinds) (object : Object) (place : �
     → HasContent program kinds basic content → IsObject program kinds object → IsObject program kinds (with_contents object (slice_set object.contents place content))
 object_set program kinds object place content basic may fits is = record {
   kind = is.kind;
+  site = is.site;
+  sized = λ marks same. is.sized marks same ∙ sym (set_length object.contents place content);
   fields = λ class slot own classed declared.
       holds_set program kinds object.contents place slot content basic own fits
       (λ here. may.fields class own classed (ap (field_basic program class) (sym here) ∙ declared)) (is.fields class slot own classed declared);

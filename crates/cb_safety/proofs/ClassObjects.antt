@@ -52,6 +52,8 @@ class_is : (program : Linked) (has : HasClassObjects program) (kinds : Kinds) (k
     → IsObject program kinds (object_of class_objects (kind_of_site program class_objects) (Number (pos kind) ∷ []))
 class_is program has kinds kind low = record {
   kind = kind_low program (kind_of_site program class_objects) kind_of_class has.objects.class_object;
+  site = has.objects.sited class_objects refl;
+  sized = has.objects.sized;
   fields = λ class slot basic own declared.
       let is = has.objects.fields class slot basic own declared in
       record {

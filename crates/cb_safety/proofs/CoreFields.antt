@@ -1,9 +1,8 @@
 -- The fields of objects of the library's classes that stand right below Object.
-use Rattle.std.proofs.Common.{◌≡◌, ◌∙◌, ◌⊎◌, inl, inr, ap, arith, refl, sym, subst, ℕ, zero, suc, ◌+◌, ◌==◌, ◌&&◌, false, not, List, [], ◌∷◌, ◌++◌, Option, Some, None, option_map, slice_get}
+use Rattle.std.proofs.Common.{◌≡◌, ◌∙◌, ap, arith, refl, sym, subst, ℕ, zero, suc, ◌+◌, ◌<◌, ◌==◌, ◌&&◌, not, List, [], ◌∷◌, ◌++◌, Option, Some, None, option_map, slice_get}
 use Rattle.std.specs.Prelude.{length}
-use Rattle.std.specs.List.{AllByRecursion, AllZip, enumerate_from, flat_map}
+use Rattle.std.specs.List.{AllByRecursion, enumerate_from, flat_map}
 use Rattle.std.proofs.lemmas.Option.{option_and_then_some, same_Some, slice_get-map}
-use Rattle.cb_classfile.specs.Flags.{acc_static}
 use Rattle.cb_classfile.specs.Library.{AreLibrary, IsRecordOf, SaysField}
 use Rattle.cb_classfile.specs.Pool.{text_at}
 use Rattle.cb_classfile.specs.declared.class.ClassFile.{ClassFile}
@@ -17,28 +16,15 @@ use Rattle.cb_library.specs.Names as names
 use Rattle.cb_library.specs.Rows.{CoreClass}
 use Rattle.cb_library.specs.Rows as rows
 use Rattle.cb_link.specs.Having.{IsWhole}
-use Rattle.cb_link.specs.Numbers.{Numbered, fields_of, has_flag, hierarchy, or_none, ranked_field, ranked_fields}
+use Rattle.cb_link.specs.Numbers.{Numbered, fields_of, hierarchy, or_none, ranked_field, ranked_fields}
 use Rattle.cb_link.specs.Program.{Linked, linked_field}
 use Rattle.cb_link.specs.Slots.{basic_of_field, field_basic, object_fields}
 use Rattle.cb_link.specs.declared.linked.LinkedField.{LinkedField}
 use Rattle.cb_text.specs.declared.constant.Constant.{Constant}
 use Rattle.cb_safety.proofs.Assigned.{mapped, never}
-use Rattle.cb_safety.proofs.Exceptions.{HasRow, IsRow, extends_to, file_at, laid, laid_object, row_zipped}
-use Rattle.cb_safety.proofs.OwnFields.{IsKept, IsOfObject, class_fields, fields_in, kept_of}
+use Rattle.cb_safety.proofs.Exceptions.{HasRow, IsRow, extends_to, file_at, laid, laid_object, own_count, rank_low, row_zipped}
+use Rattle.cb_safety.proofs.OwnFields.{IsKept, IsNoStatic, class_fields, fields_in, kept_of, of_object}
 use Rattle.cb_safety.proofs.Lacked.{entry_at}
-
-nothing_at : {P : Type 0} {number : ℕ} (slot : ℕ) → slice_get [] slot ≡ Some number → P
-nothing_at slot is = never is
-
--- none of the fields in a row of the library's table is static
-abbrev pub IsNoStatic : rows.Field → Type 0
-IsNoStatic row = has_flag acc_static row.flags ≡ false
-
-pub of_object : (pool : List Constant) (table : List rows.Field) (fields : List Field) → AllZip (SaysField pool) table fields → AllByRecursion IsNoStatic table → AllByRecursion IsOfObject fields
-of_object pool [] [] are all = tt
-of_object pool [] (field ∷ fields) are all = absurd are
-of_object pool (row ∷ table) [] are all = absurd are
-of_object pool (row ∷ table) (field ∷ fields) are all = (ap (has_flag acc_static) are.0.flags ∙ all.0, of_object pool table fields are.1 all.1)
 
 -- a field of the row at a slot, and what its values are
 pub record SaysBasic (program : Linked) (table : List rows.Field) (slot : ℕ) (basic : Basic) : Type 0 where
@@ -104,12 +90,21 @@ module _ (program : Linked) (library more : List ClassFile) (front : program.cla
       }
 
   module _ (super : row.superclass ≡ Some names.object) where
-    laid_own : (turns : ℕ) → (laid library more are turns place ≡ []) ⊎ (laid library more are turns place ≡ own_fields (ranked_fields (library ++ more)) place)
-    laid_own zero = inl refl
-    laid_own (suc turns) =
-        inr (ap (λ (supers : List ℕ). flat_map (laid library more are turns) supers ++ own_fields (ranked_fields (library ++ more)) place)
+    laid_own : (turns : ℕ) → place < turns → laid library more are turns place ≡ own_fields (ranked_fields (library ++ more)) place
+    laid_own zero low = absurd (omega (arith, low))
+    laid_own (suc turns) low =
+        ap (λ (supers : List ℕ). flat_map (laid library more are turns) supers ++ own_fields (ranked_fields (library ++ more)) place)
         (extends_to library more are place row names.object 0 there super refl)
-        ∙ ap (λ (front : List ℕ). (front ++ []) ++ own_fields (ranked_fields (library ++ more)) place) (laid_object library more are turns))
+        ∙ ap (λ (front : List ℕ). (front ++ []) ++ own_fields (ranked_fields (library ++ more)) place) (laid_object library more are turns)
+
+    fields_own : object_fields (library ++ more) place ≡ own_fields (ranked_fields (library ++ more)) place
+    fields_own = laid_own (length (hierarchy (library ++ more))) (rank_low library more are place row there)
+
+    -- there are so many
+    pub object_count : length (object_fields program.classes place) ≡ length row.fields
+    object_count =
+        ap (λ (classes : List ClassFile). length (object_fields classes place)) front
+        ∙ ap (λ (numbers : List ℕ). length numbers) fields_own ∙ own_count library more are place row there none
 
     -- and these are all of its objects
     pub object_basic : (slot : ℕ) (basic : Basic) → field_basic program place slot ≡ Some basic → SaysBasic program row.fields slot basic
@@ -119,7 +114,4 @@ module _ (program : Linked) (library more : List ClassFile) (front : program.cla
         own_basic slot number basic (own_slot slot number (ap (λ (classes : List ClassFile). slice_get (object_fields classes place) slot) (sym front) ∙ stands)) own)
       where
         own_slot : (slot number : ℕ) → slice_get (object_fields (library ++ more) place) slot ≡ Some number → slice_get (own_fields (ranked_fields (library ++ more)) place) slot ≡ Some number
-        own_slot slot number is = elim (laid_own (length (hierarchy (library ++ more)))) [
-          | inl nothing ↦ nothing_at slot (subst (λ (own : List ℕ). slice_get own slot ≡ Some number) nothing is)
-          | inr own ↦ subst (λ (own : List ℕ). slice_get own slot ≡ Some number) own is
-        ]
+        own_slot slot number is = subst (λ (own : List ℕ). slice_get own slot ≡ Some number) fields_own is

@@ -2,6 +2,7 @@
 use Rattle.std.proofs.Common.{◌≡◌, ◌∙◌, ap, arith, refl, sym, subst, ℕ, zero, suc, ◌<◌, false, true, List, [], ◌∷◌, ◌++◌, length, map, Option, Some, None, option_and_then, slice_get}
 use Rattle.std.specs.Prelude.{codes}
 use Rattle.std.specs.List.{AllByRecursion, flat_map, list_any}
+use Rattle.std.proofs.lemmas.Bool.{false≢true}
 use Rattle.std.proofs.lemmas.Option.{option_and_then_some, same_Some}
 use Rattle.cb_classfile.specs.declared.class.ClassFile.{ClassFile}
 use Rattle.cb_kinds.proofs.Laws.{kind_number_of, text_at}
@@ -29,10 +30,11 @@ use Rattle.cb_verify.specs.Within.{kind_of_class, kind_of_string, kind_of_throwa
 use Rattle.cb_safety.specs.Constants.{AreClassObjects, HasMessage}
 use Rattle.cb_safety.specs.Kinds.{holds_kind}
 use Rattle.cb_safety.specs.Linked.{IsLinked}
+use Rattle.cb_safety.specs.Placed.{IsSized}
 use Rattle.cb_safety.specs.Starting.{AreArguments, AreEmpty}
 use Rattle.cb_safety.specs.Strings.{AreStrings, HoldsCharacters}
 use Rattle.cb_safety.proofs.Assigned.{never}
-use Rattle.cb_safety.proofs.CoreFields.{SaysBasic, object_basic, own_basic}
+use Rattle.cb_safety.proofs.CoreFields.{SaysBasic, object_basic, object_count, own_basic}
 use Rattle.cb_safety.proofs.Exceptions.{RowFits, core_names, fixed_site, kind_class, kind_numbered, row_from, slot_of_throwable}
 use Rattle.cb_safety.proofs.Fielded.{no_component}
 use Rattle.cb_safety.proofs.Kinded.{IsNumbered, numbered_of}
@@ -41,6 +43,7 @@ use Rattle.cb_safety.proofs.Lists.{all_at}
 use Rattle.cb_safety.proofs.Located.{all_parts}
 use Rattle.cb_safety.proofs.Ordered.{number_low}
 use Rattle.cb_safety.proofs.Parts.{no_class_named}
+use Rattle.cb_safety.proofs.Placed.{class_sized, later_sited}
 
 -- a kind of a class of the library
 pub record IsCore (program : Linked) (kind place : ℕ) : Type 0 where
@@ -56,6 +59,7 @@ pub record IsArrayOf (program : Linked) (kind : ℕ) (basic : Basic) : Type 0 wh
   pub own : holds_kind program kind kind ≡ true
   pub no_class : class_of_kind program kind ≡ None
   pub elements : element_of program kind ≡ Some basic
+  pub later : 0 < kind
 
 -- the kinds of the machine's own sites, with those of their elements
 abbrev fixed_names : List (List ℕ)
@@ -90,6 +94,15 @@ module _ (program : Linked) (is : IsLinked program) where
       (all_parts Among named fixed_names
       (subst (λ (texts : List (List ℕ)). AllByRecursion (λ name. list_any (same_text name) texts ≡ true) (named ++ fixed_names)) (sym whole.kinds) (all_named program.classes))).1
 
+  -- the first kind is Object's
+  object_there : slice_get program.kinds 0 ≡ Some (codes "java/lang/Object")
+  object_there = text_at program.kinds (codes "java/lang/Object") 0 (core_number (codes "java/lang/Object") 0 refl)
+
+  array_later : (kind : ℕ) (rest : List ℕ) → slice_get program.kinds kind ≡ Some (bracket ∷ rest) → 0 < kind
+  array_later zero rest there =
+      absurd (false≢true (ap is_array (same_Some (codes "java/lang/Object") (bracket ∷ rest) (sym object_there ∙ there))))
+  array_later (suc kind) rest there = omega arith
+
   pub array_kind : (rest : List ℕ) (place : ℕ) → slice_get fixed_names place ≡ Some (bracket ∷ rest) → IsArrayOf program (kind_number program.kinds (bracket ∷ rest)) (basic_of program.kinds rest)
   array_kind rest place among =
       let numbered : IsNumbered program.kinds (bracket ∷ rest) = numbered_of program.kinds (bracket ∷ rest) (all_at Among fixed_names place (bracket ∷ rest) fixed_among among) in
@@ -100,10 +113,15 @@ module _ (program : Linked) (is : IsLinked program) where
         own = linked_holds_own program is numbered.number numbered.low;
         no_class = ap (option_and_then (class_number program.classes)) there ∙ no_class_named program.classes rest whole.named;
         elements = ap (λ (found : Option (List ℕ)). component_of program.kinds (or_none found)) there;
+        later = array_later numbered.number rest there;
       })
 
   pub site_kind : (site : ℕ) → kind_of_site program site ≡ or_zero (slice_get (map (kind_number program.kinds) fixed_kinds ++ map (λ (site : Site). site.kind) program.sites) site)
   site_kind site = fixed_site program is.library is.more (front program is) is.is_library whole site
+
+  -- an object of a class of the library has so many words as that lays out
+  pub core_sized : (kind place count : ℕ) → IsCore program kind place → length (object_fields program.classes place) ≡ count → IsSized program place count
+  core_sized kind place count core counted = class_sized program place place count core.no_elements core.classed counted
 
   -- ---- strings
 
@@ -142,9 +160,13 @@ module _ (program : Linked) (is : IsLinked program) where
         (object_basic program is.library is.more (front program is) is.is_library whole kind_of_string string_class refl (refl, tt) refl slot basic
         (ap (λ (class : ℕ). field_basic program class slot) (of_class _ kind_of_string class string_kind classed) ∙ declared));
     no_elements = string_kind.no_elements;
+    sited = later_sited program kind_of_string (omega arith);
+    sized = core_sized (kind_number program.kinds string_name) kind_of_string 1 string_kind
+        (object_count program is.library is.more (front program is) is.is_library whole kind_of_string string_class refl (refl, tt) refl);
     low = char_kind.low;
     no_class = char_kind.no_class;
     elements = char_kind.elements;
+    characters_sited = later_sited program characters char_kind.later;
   }
 
   pub strings_at : (strings characters_at : ℕ) → kind_of_site program strings ≡ kind_number program.kinds string_name → kind_of_site program characters_at ≡ characters
@@ -163,18 +185,26 @@ module _ (program : Linked) (is : IsLinked program) where
   are_arguments =
       let array : IsArrayOf program (kind_number program.kinds (codes "[Ljava/lang/String;")) (basic_of program.kinds (codes "Ljava/lang/String;")) = array_kind (codes "Ljava/lang/String;") 0 refl in
       subst (AreArguments program) (sym (site_kind sites.arguments))
-      (record { low = array.low; own = array.own; elements = array.elements ∙ ap {B = Option Basic} Some string_is; no_class = array.no_class })
+      (record {
+        low = array.low;
+        own = array.own;
+        elements = array.elements ∙ ap {B = Option Basic} Some string_is;
+        no_class = array.no_class;
+        sited = later_sited program (kind_number program.kinds (codes "[Ljava/lang/String;")) array.later;
+      })
 
   -- ---- objects without fields
 
-  empty_at : (site place : ℕ) (core : IsCore program (kind_of_site program site) place)
+  empty_at : (site place : ℕ) (core : IsCore program (kind_of_site program site) place) → 0 < place → length (object_fields program.classes place) ≡ 0
       → ((slot : ℕ) (basic : Basic) → ¬ (field_basic program place slot ≡ Some basic)) → AreEmpty program (kind_of_site program site)
-  empty_at site place core none =
+  empty_at site place core later counted none =
       subst (AreEmpty program) (sym core.is)
       (record {
         low = core.low;
         no_fields = λ class slot basic classed declared. none slot basic (ap (λ (class : ℕ). field_basic program class slot) (of_class _ place class core classed) ∙ declared);
         no_elements = core.no_elements;
+        sited = later_sited program place later;
+        sized = core_sized (kind_of_site program site) place 0 core counted;
       })
 
   none_said : (slot : ℕ) (basic : Basic) → SaysBasic program [] slot basic → ⊥
@@ -190,13 +220,15 @@ module _ (program : Linked) (is : IsLinked program) where
 
   pub out_empty : AreEmpty program (kind_of_site program sites.system_out)
   out_empty =
-      empty_at sites.system_out 12 out_kind
+      empty_at sites.system_out 12 out_kind (omega arith)
+      (object_count program is.library is.more (front program is) is.is_library whole 12 print_stream_class refl tt refl)
       (λ slot basic declared. none_said slot basic
       (object_basic program is.library is.more (front program is) is.is_library whole 12 print_stream_class refl tt refl slot basic declared))
 
   pub in_empty : AreEmpty program (kind_of_site program sites.system_in)
   in_empty =
-      empty_at sites.system_in 13 in_kind
+      empty_at sites.system_in 13 in_kind (omega arith)
+      (object_count program is.library is.more (front program is) is.is_library whole 13 input_stream_class refl tt refl)
       (λ slot basic declared. none_said slot basic
       (object_basic program is.library is.more (front program is) is.is_library whole 13 input_stream_class refl tt refl slot basic declared))
 
@@ -218,6 +250,9 @@ module _ (program : Linked) (is : IsLinked program) where
             (object_basic program is.library is.more (front program is) is.is_library whole kind_of_class class_class refl (refl, tt) refl slot basic
             (ap (λ (class : ℕ). field_basic program class slot) (of_class _ kind_of_class class core classed) ∙ declared));
         no_elements = core.no_elements;
+        sited = later_sited program kind_of_class (omega arith);
+        sized = core_sized (kind_number program.kinds (codes "java/lang/Class")) kind_of_class 1 core
+            (object_count program is.library is.more (front program is) is.is_library whole kind_of_class class_class refl (refl, tt) refl);
       })
 
   -- ---- the message of an exception

@@ -43,9 +43,11 @@ module _ (program : Linked) (kinds : Kinds) (kind message : ℕ) (thrown : IsThr
   field_holds class (suc (suc zero)) basic is first = record { content = Reference 0; there = refl; fits = null_fits program kinds basic is.1 }
   field_holds class (suc (suc (suc slot))) basic is first = let low = is.0 in absurd (omega (arith, low))
 
-  told_is : (site : ℕ) → IsObject program kinds (object_of site kind (exception_contents message 0))
-  told_is site = record {
+  told_is : (site : ℕ) → kind_of_site program site ≡ kind → IsObject program kinds (object_of site kind (exception_contents message 0))
+  told_is site own = record {
     kind = kind_low program kind kind_of_throwable thrown.throwable;
+    site = thrown.sited site own;
+    sized = thrown.sized;
     fields = λ class slot basic own declared.
         field_holds class slot basic (thrown.fields class slot basic own declared)
         (λ first. takes class basic own (ap (field_basic program class) (sym first) ∙ declared));
@@ -86,7 +88,8 @@ told_typed machine site message plan good thrown takes refers =
 
     more : IsGood machine.program further
     more = good_one machine.program plan site own (exception_contents message 0) good
-        (told_is machine.program grown own message thrown takes (refers_more machine.program (kinds_of (objects_in plan)) (Some own ∷ []) kind_of_string message refers) site)
+        (told_is machine.program grown own message thrown takes
+        (refers_more machine.program (kinds_of (objects_in plan)) (Some own ∷ []) kind_of_string message refers) site refl)
 
     is : IsOfKind machine.program kinds kind_of_throwable plan.next
     is = record {

@@ -3,12 +3,11 @@ use Rattle.std.proofs.Common.{◌≡◌, ◌∙◌, ◌⊎◌, inl, inr, ap, ap�
 use Rattle.std.specs.Prelude.{codes}
 use Rattle.std.specs.Cmp.Lexicographic.{bytes_decides}
 use Rattle.std.specs.List.{AllByRecursion, AllZip, Contains, enumerate_from, flat_map, list_all, range_with_len}
-use Rattle.std.proofs.lemmas.Bool.{and_from, and_parts, eqb-true, false≢true, leb-true, lt-ltb, ltb-true, ne_eqb, or_cases}
-use Rattle.std.proofs.lemmas.List.{length-append, map-append}
-use Rattle.std.proofs.lemmas.List.Elements.{Contains-append_left, filter-append}
+use Rattle.std.proofs.lemmas.Bool.{and_from, and_parts, eqb-true, false≢true, leb-true, lt-ltb, ltb-true, or_cases}
+use Rattle.std.proofs.lemmas.List.{map-append}
+use Rattle.std.proofs.lemmas.List.Elements.{Contains-append_left}
 use Rattle.std.proofs.lemmas.Option.{option_and_then_some, same_Some, slice_get-map, slice_get_within}
 use Rattle.cb_classfile.specs.declared.class.ClassFile.{ClassFile}
-use Rattle.cb_classfile.specs.declared.field.Field.{Field}
 use Rattle.cb_classfile.specs.Library.{AreLibrary, IsRecordOf, SaysField, SaysSuperclass}
 use Rattle.cb_classfile.specs.Pool.{class_at, text_at}
 use Rattle.cb_hierarchy.specs.Above.{Direct, IsAbove, Through}
@@ -32,13 +31,13 @@ use Rattle.cb_library.specs.Throwables.{throwable_class}
 use Rattle.cb_link.specs.Calls.{class_of_kind}
 use Rattle.cb_link.specs.Having.{IsWhole}
 use Rattle.cb_link.specs.Making.{class_kinds, fixed_kinds}
-use Rattle.cb_link.specs.Numbers.{Numbered, class_number, class_number_at, fields_of, hierarchy, name_of, or_none, ranked, ranked_field, ranked_fields, ranked_methods}
-use Rattle.cb_link.specs.Places.{numbered_in}
+use Rattle.cb_link.specs.Numbers.{class_number, class_number_at, fields_of, hierarchy, name_of, or_none, ranked, ranked_fields, ranked_methods}
 use Rattle.cb_link.specs.Program.{Linked, linked_field}
 use Rattle.cb_link.specs.Slots.{basic_of_field, field_basic, object_fields}
 use Rattle.cb_link.specs.Subtypes.{between, is_instance, names_interface, type_of_kind}
 use Rattle.cb_link.specs.declared.linked.LinkedField.{LinkedField}
 use Rattle.cb_link.specs.declared.linked.Site.{Site}
+use Rattle.cb_machine.specs.Arrays.{element_of}
 use Rattle.cb_machine.specs.Machine.{kind_of_site, or_zero}
 use Rattle.cb_machine.specs.Sites as sites
 use Rattle.cb_names.specs.Signs.{letter_class, semicolon}
@@ -49,8 +48,10 @@ use Rattle.cb_safety.proofs.Assigned.{mapped, never}
 use Rattle.cb_safety.proofs.Fielded.{no_component}
 use Rattle.cb_safety.proofs.Holding.{instance_below}
 use Rattle.cb_safety.proofs.Lists.{all_at}
-use Rattle.cb_safety.proofs.Ordered.{acyclic, named_low, none_zipped}
+use Rattle.cb_safety.proofs.Ordered.{acyclic, named_low}
+use Rattle.cb_safety.proofs.OwnFields.{IsNoStatic, of_object, own_length}
 use Rattle.cb_safety.proofs.Parts.{name_ends}
+use Rattle.cb_safety.proofs.Placed.{class_sized, later_sited}
 use Rattle.cb_safety.proofs.Resolved.{IsDeclared, declared}
 use Rattle.cb_safety.proofs.Searching.{all_each, all_pass, position_here, position_later}
 use Rattle.cb_safety.proofs.Spelled.{in_range}
@@ -216,102 +217,7 @@ zipped_length Is [] (item ∷ items) are = absurd are
 zipped_length Is (row ∷ table) [] are = absurd are
 zipped_length Is (row ∷ table) (item ∷ items) are = ap suc (zipped_length Is table items are.1)
 
--- ---- how many fields a class has
-
-counted_own : {Item : Type 0} (test also : Item → Bool) → ((item : Item) → test item ≡ true → also item ≡ true) → (from : ℕ) (items : List Item)
-    → length (map (λ (entry : ℕ × Item). entry.0) (filter (λ (entry : ℕ × Item). test entry.1) (enumerate_from from items))) ≤ length (filter also items)
-counted_own test also implies from [] = omega arith
-counted_own {Item} test also implies from (first ∷ items) = go (test first) refl (also first) refl (counted_own test also implies (from + 1) items) where
-  go : (one : Bool) → test first ≡ one → (other : Bool) → also first ≡ other
-      → length (map (λ (entry : ℕ × Item). entry.0) (filter (λ (entry : ℕ × Item). test entry.1) (enumerate_from (from + 1) items))) ≤ length (filter also items)
-      → length (map (λ (entry : ℕ × Item). entry.0) (filter (λ (entry : ℕ × Item). test entry.1) (enumerate_from from (first ∷ items)))) ≤ length (filter also (first ∷ items))
-  go true is true too more = rw (is, too) (omega (arith, more))
-  go true is false too more = absurd (false≢true (sym too ∙ implies first is))
-  go false is true too more = rw (is, too) (omega (arith, more))
-  go false is false too more = rw (is, too) more
-
-filter_mapped : {Item Other : Type 0} (change : Item → Other) (test : Other → Bool) (items : List Item) → length (filter test (map change items)) ≡ length (filter (λ (item : Item). test (change item)) items)
-filter_mapped change test [] = refl
-filter_mapped change test (first ∷ items) = go (test (change first)) refl (filter_mapped change test items) where
-  go : (one : Bool) → test (change first) ≡ one → length (filter test (map change items)) ≡ length (filter (λ item. test (change item)) items)
-      → length (filter test (map change (first ∷ items))) ≡ length (filter (λ item. test (change item)) (first ∷ items))
-  go true is more = rw is (ap suc more)
-  go false is more = rw is more
-
-filter_few : {Item : Type 0} (test : Item → Bool) (items : List Item) → length (filter test items) ≤ length items
-filter_few test [] = omega arith
-filter_few test (first ∷ items) = go (test first) refl (filter_few test items) where
-  go : (one : Bool) → test first ≡ one → length (filter test items) ≤ length items → length (filter test (first ∷ items)) ≤ length (first ∷ items)
-  go true is more = rw is (omega (arith, more))
-  go false is more = rw is (omega (arith, more))
-
-numbered_length : (start : ℕ) (class : ClassFile) → length (numbered_in (λ (class : ClassFile). class.fields) (start, class)) ≡ length class.fields
-numbered_length start class = go 0 class.fields where
-  go : (from : ℕ) (fields : List Field)
-      → length (map {B = Numbered Field} (λ (own : ℕ × Field). record { class = start; place = own.0; pool = class.pool; member = own.1 }) (enumerate_from from fields)) ≡ length fields
-  go from [] = refl
-  go from (field ∷ fields) = ap suc (go (from + 1) fields)
-
-none_of : (start number : ℕ) (class : ClassFile) → (start == number) ≡ false → filter (λ (own : Numbered Field). own.class == number) (numbered_in (λ (class : ClassFile). class.fields) (start, class)) ≡ []
-none_of start number class apart = go 0 class.fields where
-  go : (from : ℕ) (fields : List Field)
-      → filter (λ (own : Numbered Field). own.class == number) (map (λ (own : ℕ × Field). record { class = start; place = own.0; pool = class.pool; member = own.1 }) (enumerate_from from fields)) ≡ []
-  go from [] = refl
-  go from (field ∷ fields) = rw apart (go (from + 1) fields)
-
-none_behind : (start number : ℕ) (classes : List ClassFile) → number < start
-    → length (filter (λ (own : Numbered Field). own.class == number) (flat_map (numbered_in (λ (class : ClassFile). class.fields)) (enumerate_from start classes))) ≤ 0
-none_behind start number [] low = omega arith
-none_behind start number (class ∷ classes) low =
-    let own : List (Numbered Field) = numbered_in (λ (class : ClassFile). class.fields) (start, class) in
-    let rest : List (Numbered Field) = flat_map (numbered_in (λ (class : ClassFile). class.fields)) (enumerate_from (start + 1) classes) in
-    let test : Numbered Field → Bool = λ own. own.class == number in
-    let parts : length (filter test (own ++ rest)) ≡ length (filter test own) + length (filter test rest) = ap length (filter-append test own rest) ∙ length-append (filter test own) (filter test rest) in
-    let none : length (filter test own) ≡ 0 = ap length (none_of start number class (ne_eqb start number (λ same. apart start number low same))) in
-    let more : length (filter test rest) ≤ 0 = none_behind (start + 1) number classes (omega (arith, low)) in
-    omega (arith, parts, none, more)
-  where
-    apart : (start number : ℕ) → number < start → start ≡ number → ⊥
-    apart start number low same = omega (arith, low, same)
-
-class_fields_few : (start place : ℕ) (classes : List ClassFile) (file : ClassFile) → slice_get classes place ≡ Some file
-    → length (filter (λ (own : Numbered Field). own.class == (start + place)) (flat_map (numbered_in (λ (class : ClassFile). class.fields)) (enumerate_from start classes))) ≤ length file.fields
-class_fields_few start place [] file there = never there
-class_fields_few start zero (class ∷ classes) file there =
-    let number : ℕ = start + 0 in
-    let own : List (Numbered Field) = numbered_in (λ (class : ClassFile). class.fields) (start, class) in
-    let rest : List (Numbered Field) = flat_map (numbered_in (λ (class : ClassFile). class.fields)) (enumerate_from (start + 1) classes) in
-    let test : Numbered Field → Bool = λ own. own.class == number in
-    let parts : length (filter test (own ++ rest)) ≡ length (filter test own) + length (filter test rest) = ap length (filter-append test own rest) ∙ length-append (filter test own) (filter test rest) in
-    let few : length (filter test own) ≤ length own = filter_few test own in
-    let more : length (filter test rest) ≤ 0 = none_behind (start + 1) number classes (omega arith) in
-    let size : length own ≡ length file.fields = numbered_length start class ∙ ap (λ (class : ClassFile). length class.fields) (same_Some class file there) in
-    omega (arith, parts, few, more, size)
-class_fields_few start (suc place) (class ∷ classes) file there =
-    let number : ℕ = start + suc place in
-    let own : List (Numbered Field) = numbered_in (λ (class : ClassFile). class.fields) (start, class) in
-    let rest : List (Numbered Field) = flat_map (numbered_in (λ (class : ClassFile). class.fields)) (enumerate_from (start + 1) classes) in
-    let test : Numbered Field → Bool = λ own. own.class == number in
-    let parts : length (filter test (own ++ rest)) ≡ length (filter test own) + length (filter test rest) = ap length (filter-append test own rest) ∙ length-append (filter test own) (filter test rest) in
-    let none : length (filter test own) ≡ 0 = ap length (none_of start number class (ne_eqb start number (λ same. apart start place same))) in
-    let later : length (filter (λ (own : Numbered Field). own.class == (start + 1 + place)) rest) ≤ length file.fields = class_fields_few (start + 1) place classes file there in
-    let more : length (filter test rest) ≤ length file.fields =
-    subst (λ (number : ℕ). length (filter (λ (own : Numbered Field). own.class == number) rest) ≤ length file.fields) (let same : start + 1 + place ≡ start + suc place = omega arith in same) later in
-    omega (arith, parts, none, more)
-  where
-    apart : (start place : ℕ) → start ≡ start + suc place → ⊥
-    apart start place same = omega (arith, same)
-
--- the fields of objects that a class declares are no more than its fields
-own_few : (classes : List ClassFile) (class : ℕ) (file : ClassFile) → slice_get classes class ≡ Some file → length (own_fields (ranked_fields classes) class) ≤ length file.fields
-own_few classes class file there =
-    let one = counted_own (λ (field : RankedField). (field.declared.class == class) && not field.is_static) (λ (field : RankedField). field.declared.class == class)
-    (λ field is. (and_parts (field.declared.class == class) (not field.is_static) is).0) 0 (ranked_fields classes) in
-    let two = filter_mapped (ranked_field classes) (λ (field : RankedField). field.declared.class == class) (fields_of classes) in
-    let three : length (filter (λ (own : Numbered Field). own.class == class) (fields_of classes)) ≤ length file.fields =
-    subst (λ (number : ℕ). length (filter (λ (own : Numbered Field). own.class == number) (fields_of classes)) ≤ length file.fields) (let same : 0 + class ≡ class = omega arith in same)
-    (class_fields_few 0 class classes file there) in
-    omega (arith, one, two, three)
+-- ---- lists of numbers
 
 none_left : (numbers : List ℕ) → length numbers ≤ 0 → numbers ≡ []
 none_left [] few = refl
@@ -386,12 +292,24 @@ module _ (library more : List ClassFile) (are : AreLibrary library) where
       let ranked_there : slice_get ranks 0 ≡ Some (ranked classes file.item) = rank_at 0 object_class file in
       rw ranked_there (ap (λ (index : ℕ). listed (class_number_at classes file.item.pool index)) file.is.superclass)
 
+  pub rank_low : (place : ℕ) (row : CoreClass) → slice_get core_classes place ≡ Some row → place < length ranks
+  rank_low place row there =
+      let file : IsRow IsRecordOf classes place row = file_at place row there in
+      slice_get_within ranks place (ranked classes file.item) (rank_at place row file)
+
+  -- the fields of objects that a class declares are those of its row
+  pub own_count : (place : ℕ) (row : CoreClass) → slice_get core_classes place ≡ Some row → AllByRecursion IsNoStatic row.fields
+      → length (own_fields fields place) ≡ length row.fields
+  own_count place row there none =
+      let file : IsRow IsRecordOf classes place row = file_at place row there in
+      own_length classes place file.item file.there (of_object file.item.pool row.fields file.item.fields file.is.fields none)
+      ∙ zipped_length (SaysField file.item.pool) row.fields file.item.fields file.is.fields
+
   pub own_none : (place : ℕ) (row : CoreClass) → slice_get core_classes place ≡ Some row → row.fields ≡ [] → own_fields fields place ≡ []
   own_none place row there none =
-      let file : IsRow IsRecordOf classes place row = file_at place row there in
-      let empty : file.item.fields ≡ [] =
-      none_zipped (SaysField file.item.pool) file.item.fields (subst (λ (table : List rows.Field). AllZip (SaysField file.item.pool) table file.item.fields) none file.is.fields) in
-      none_left (own_fields fields place) (subst (λ (own : List Field). length (own_fields fields place) ≤ length own) empty (own_few classes place file.item file.there))
+      let counted : length (own_fields fields place) ≡ length row.fields = own_count place row there (subst (AllByRecursion IsNoStatic) (sym none) tt) in
+      let empty : length row.fields ≡ 0 = ap length none in
+      none_left (own_fields fields place) (omega (arith, counted, empty))
 
   -- objects of these classes have the fields of Throwable
   abbrev pub laid : ℕ → ℕ → List ℕ
@@ -413,35 +331,35 @@ module _ (library more : List ClassFile) (are : AreLibrary library) where
       (own_none place fits.row fits.there extends.none)
       ∙ append-nil (laid turns extends.number ++ []) ∙ append-nil (laid turns extends.number)
 
-  laid_as : (turns place : ℕ) → RowFits place → place < 50 → (laid turns place ≡ []) ⊎ (laid turns place ≡ own_fields fields kind_of_throwable)
-  laid_as zero place fits low = inl refl
-  laid_as (suc turns) place fits low = elim fits.way [
-    | inl same ↦ inr (subst (λ (place : ℕ). laid (suc turns) place ≡ own_fields fields kind_of_throwable) (sym same) (laid_throwable turns))
-    | inr extends ↦ elim (laid_as turns extends.number (row_from extends.number extends.from (omega (arith, extends.below, low))) (omega (arith, extends.below, low))) [
-      | inl none ↦ inl (laid_below turns place fits extends ∙ none)
-      | inr own ↦ inr (laid_below turns place fits extends ∙ own)
-    ]
+  laid_as : (turns place : ℕ) → RowFits place → place < 50 → place < turns → laid turns place ≡ own_fields fields kind_of_throwable
+  laid_as zero place fits low enough = absurd (omega (arith, enough))
+  laid_as (suc turns) place fits low enough = elim fits.way [
+    | inl same ↦ subst (λ (place : ℕ). laid (suc turns) place ≡ own_fields fields kind_of_throwable) (sym same) (laid_throwable turns)
+    | inr extends ↦ laid_below turns place fits extends
+        ∙ laid_as turns extends.number (row_from extends.number extends.from (omega (arith, extends.below, low))) (omega (arith, extends.below, low))
+        (omega (arith, extends.below, enough))
   ]
 
+  fields_of_throwable : (place : ℕ) → RowFits place → place < 50 → object_fields classes place ≡ own_fields fields kind_of_throwable
+  fields_of_throwable place fits low = laid_as (length ranks) place fits low (rank_low place fits.row fits.there)
+
   pub slot_of_throwable : (place slot number : ℕ) → RowFits place → place < 50 → slice_get (object_fields classes place) slot ≡ Some number → slice_get (own_fields fields kind_of_throwable) slot ≡ Some number
-  slot_of_throwable place slot number fits low is = elim (laid_as (length ranks) place fits low) [
-    | inl none ↦ nothing_at slot (subst (λ (own : List ℕ). slice_get own slot ≡ Some number) none is)
-    | inr own ↦ subst (λ (own : List ℕ). slice_get own slot ≡ Some number) own is
-  ]
-    where
-      nothing_at : {P : Type 0} (slot : ℕ) → slice_get [] slot ≡ Some number → P
-      nothing_at slot is = never is
+  slot_of_throwable place slot number fits low is = subst (λ (own : List ℕ). slice_get own slot ≡ Some number) (fields_of_throwable place fits low) is
 
   pub throwable_file : IsRow IsRecordOf classes kind_of_throwable throwable_class
   throwable_file = file_at kind_of_throwable throwable_class refl
 
+  own_three : length (own_fields fields kind_of_throwable) ≡ 3
+  own_three = own_count kind_of_throwable throwable_class refl (refl, (refl, (refl, tt)))
+
+  three_fields : (place : ℕ) → RowFits place → place < 50 → length (object_fields classes place) ≡ 3
+  three_fields place fits low = ap (λ (numbers : List ℕ). length numbers) (fields_of_throwable place fits low) ∙ own_three
+
   slot_low : (slot number : ℕ) → slice_get (own_fields fields kind_of_throwable) slot ≡ Some number → slot < 3
   slot_low slot number is =
-      let file : IsRow IsRecordOf classes kind_of_throwable throwable_class = throwable_file in
       let within = slice_get_within (own_fields fields kind_of_throwable) slot number is in
-      let few = own_few classes kind_of_throwable file.item file.there in
-      let size : length file.item.fields ≡ 3 = zipped_length (SaysField file.item.pool) throwable_class.fields file.item.fields file.is.fields in
-      omega (arith, within, few, size)
+      let three = own_three in
+      omega (arith, within, three)
 
   -- and these are references
   all_references : (texts : List (List ℕ)) → AllByRecursion (λ (field : rows.Field). is_reference (basic_of texts field.descriptor) ≡ true) throwable_class.fields
@@ -574,12 +492,30 @@ module _ (program : Linked) (library more : List ClassFile) (front : program.cla
   thrown_row place fits small = record {
     throwable = holds_throwable place fits small;
     fields = λ class slot basic classed declared. by class slot basic classed declared;
-    no_elements = ap (λ (found : Option (List ℕ)). component_of program.kinds (or_none found)) (kind_there place fits) ∙ no_component program.kinds fits.row.name fits.plain;
+    no_elements = no_elements;
+    sited = later_sited program place later;
+    sized =
+        class_sized program place place 3 no_elements own_classed
+        (ap (λ (classes : List ClassFile). length (object_fields classes place)) front ∙ three_fields library more are place fits small);
   }
     where
+      no_elements : element_of program place ≡ None
+      no_elements =
+          ap (λ (found : Option (List ℕ)). component_of program.kinds (or_none found)) (kind_there place fits)
+          ∙ no_component program.kinds fits.row.name fits.plain
+
+      later : 0 < place
+      later = elim fits.way [
+        | inl same ↦ omega (arith, same)
+        | inr extends ↦ omega (arith, extends.below)
+      ]
+
+      own_classed : class_of_kind program place ≡ Some place
+      own_classed = ap (option_and_then (class_number program.classes)) (kind_there place fits) ∙ kind_class fits.row.name place fits.numbered
+
       own_class : (class : ℕ) → class_of_kind program place ≡ Some class → place ≡ class
       own_class class classed =
-          same_Some place class (sym (ap (option_and_then (class_number program.classes)) (kind_there place fits) ∙ kind_class fits.row.name place fits.numbered) ∙ classed)
+          same_Some place class (sym own_classed ∙ classed)
 
       by : (class slot : ℕ) (basic : Basic) → class_of_kind program place ≡ Some class → field_basic program class slot ≡ Some basic → (slot < 3) × (is_reference basic ≡ true)
       by class slot basic classed declared =

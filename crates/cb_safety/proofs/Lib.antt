@@ -24,6 +24,7 @@ mod Lettered
 mod Lists
 mod Growing
 mod Throwing
+mod Placed
 mod Enlarged
 mod NewArrays
 mod Makings

@@ -39,14 +39,14 @@ use Rattle.cb_safety.specs.Order.{ExtendsObject}
 use Rattle.cb_safety.specs.Performing.{HaveField}
 use Rattle.cb_safety.specs.Signatures.{builder, characters, enum, throwables}
 use Rattle.cb_safety.proofs.Assigned.{never}
-use Rattle.cb_safety.proofs.CoreFields.{IsNoStatic, SaysBasic, object_basic, of_object, own_basic}
+use Rattle.cb_safety.proofs.CoreFields.{SaysBasic, object_basic, own_basic}
 use Rattle.cb_safety.proofs.CoreKinds.{IsArrayOf, IsCore, array_kind, core_kind, core_number, string_is}
-use Rattle.cb_safety.proofs.Exceptions.{IsRow, core_names, extends_to, file_at, kind_class, laid, laid_object, own_none, zipped_at}
+use Rattle.cb_safety.proofs.Exceptions.{IsRow, core_names, extends_to, file_at, kind_class, laid, laid_object, own_count, own_none, rank_low, zipped_at}
 use Rattle.cb_safety.proofs.Fielded.{bare_object, basic, basic_is, has_field}
 use Rattle.cb_safety.proofs.Lacked.{entry_at}
 use Rattle.cb_safety.proofs.Linking.{front, linked_formed, linked_lacks, linked_whole}
 use Rattle.cb_safety.proofs.Ordered.{IsFronted, acyclic, formed_extends, fronted_by, named_low}
-use Rattle.cb_safety.proofs.OwnFields.{class_fields, fields_in, is_of_class}
+use Rattle.cb_safety.proofs.OwnFields.{IsNoStatic, class_fields, fields_in, is_of_class, of_object}
 use Rattle.cb_safety.proofs.Resolved.{IsResolved, own_slot}
 use Rattle.cb_safety.proofs.Searching.{all_weaker}
 use Rattle.cb_safety.proofs.Subclasses.{ends, own_looked}
@@ -206,27 +206,30 @@ module _ (program : Linked) (is : IsLinked program) where
       (extends_to is.library is.more is.is_library 14 number_class names.object 0 refl refl refl) (own_none is.library is.more is.is_library 14 number_class refl refl)
       ∙ ap (λ (front : List ℕ). (front ++ []) ++ []) (laid_object is.library is.more is.is_library turns)
 
-  number_lays : (place : ℕ) (row : CoreClass) → slice_get core_classes place ≡ Some row → AllByRecursion IsNoStatic row.fields → row.superclass ≡ Some names.number → Lays place row
-  number_lays place row there none super slot basic declared =
-      option_and_then_some (basic_of_field program) (slice_get (object_fields program.classes place) slot) basic declared
-      (λ number stands own.
-      own_basic program is.library is.more (front program is) is.is_library whole place row there none slot number basic
-      (own_slot_of (length (hierarchy (is.library ++ is.more))) number (ap (λ (classes : List ClassFile). slice_get (object_fields classes place) slot) (sym (front program is)) ∙ stands)) own)
-    where
-      abbrev_own : List ℕ
-      abbrev_own = own_fields (ranked_fields (is.library ++ is.more)) place
+  module _ (place : ℕ) (row : CoreClass) (there : slice_get core_classes place ≡ Some row) (none : AllByRecursion IsNoStatic row.fields)
+      (super : row.superclass ≡ Some names.number) where
+    number_laid : (turns : ℕ) → place < turns → laid is.library is.more is.is_library turns place ≡ own_fields (ranked_fields (is.library ++ is.more)) place
+    number_laid zero low = absurd (omega (arith, low))
+    number_laid (suc turns) low =
+        ap (λ (supers : List ℕ). flat_map (laid is.library is.more is.is_library turns) supers ++ own_fields (ranked_fields (is.library ++ is.more)) place)
+        (extends_to is.library is.more is.is_library place row names.number 14 there super refl)
+        ∙ ap (λ (front : List ℕ). (front ++ []) ++ own_fields (ranked_fields (is.library ++ is.more)) place) (laid_number turns)
 
-      laid_own : (turns : ℕ) → laid is.library is.more is.is_library (suc turns) place ≡ abbrev_own
-      laid_own turns =
-          ap (λ (supers : List ℕ). flat_map (laid is.library is.more is.is_library turns) supers ++ abbrev_own)
-          (extends_to is.library is.more is.is_library place row names.number 14 there super refl)
-          ∙ ap (λ (front : List ℕ). (front ++ []) ++ abbrev_own) (laid_number turns)
+    number_fields : object_fields (is.library ++ is.more) place ≡ own_fields (ranked_fields (is.library ++ is.more)) place
+    number_fields = number_laid (length (hierarchy (is.library ++ is.more))) (rank_low is.library is.more is.is_library place row there)
 
-      own_slot_of : (turns number : ℕ) → slice_get (laid is.library is.more is.is_library turns place) slot ≡ Some number → slice_get abbrev_own slot ≡ Some number
-      own_slot_of zero number is = nothing_there slot is where
-        nothing_there : {P : Type 0} (slot : ℕ) → slice_get [] slot ≡ Some number → P
-        nothing_there slot is = never is
-      own_slot_of (suc turns) number is = subst (λ (own : List ℕ). slice_get own slot ≡ Some number) (laid_own turns) is
+    pub number_count : length (object_fields program.classes place) ≡ length row.fields
+    number_count =
+        ap (λ (classes : List ClassFile). length (object_fields classes place)) (front program is)
+        ∙ ap (λ (numbers : List ℕ). length numbers) number_fields ∙ own_count is.library is.more is.is_library place row there none
+
+    number_lays : Lays place row
+    number_lays slot basic declared =
+        option_and_then_some (basic_of_field program) (slice_get (object_fields program.classes place) slot) basic declared
+        (λ number stands own.
+        own_basic program is.library is.more (front program is) is.is_library whole place row there none slot number basic
+        (subst (λ (own : List ℕ). slice_get own slot ≡ Some number) number_fields
+        (ap (λ (classes : List ClassFile). slice_get (object_fields classes place) slot) (sym (front program is)) ∙ stands)) own)
 
   pub strings_have : HaveField program kind_of_string 0 (basics.Reference (characters program))
   strings_have = had_first kind_of_string string_class refl (refl, tt) refl refl (object_lays kind_of_string string_class refl (refl, tt) refl) _ refl

@@ -1,5 +1,5 @@
 -- What natives ask of a program, of which much holds of each that is linked and typed.
-use Rattle.std.proofs.Common.{◌≡◌, ◌∙◌, ◌<◌, ◌≤◌, ap, arith, refl, sym, subst, ℕ, zero, suc, List, Some, map, ◌++◌, true, slice_get, Option}
+use Rattle.std.proofs.Common.{◌≡◌, ◌∙◌, ◌<◌, ◌≤◌, ap, arith, refl, sym, subst, ℕ, zero, suc, length, List, Some, map, ◌++◌, true, slice_get, Option}
 use Rattle.std.specs.Prelude.{codes}
 use Rattle.std.specs.List.{AllByRecursion}
 use Rattle.std.proofs.lemmas.Option.{same_Some}
@@ -24,10 +24,10 @@ use Rattle.cb_kinds.specs.Basics.{component_of, basic_of, kind_number}
 use Rattle.cb_kinds.specs.Texts.{number_of}
 use Rattle.cb_kinds.specs.declared.basic.Basic.{Basic}
 use Rattle.cb_kinds.specs.declared.basic.Basic.TheVariants as basics
-use Rattle.cb_library.specs.Boxes.{boolean_class, character_class}
+use Rattle.cb_library.specs.Boxes.{boolean_class, character_class, integer_class, long_class}
 use Rattle.cb_link.specs.Having.{IsWhole}
 use Rattle.cb_link.specs.Program.{Linked}
-use Rattle.cb_link.specs.Slots.{field_basic}
+use Rattle.cb_link.specs.Slots.{field_basic, object_fields}
 use Rattle.cb_machine.specs.Library as library
 use Rattle.cb_machine.specs.Machine.{kind_of_site}
 use Rattle.cb_machine.specs.Sites as sites
@@ -39,16 +39,17 @@ use Rattle.cb_safety.specs.Signatures.{bytes, characters, throwables}
 use Rattle.cb_safety.specs.Sound.{IsSound}
 use Rattle.cb_safety.specs.Throwing.{IsThrown}
 use Rattle.cb_safety.proofs.Assigned.{never}
-use Rattle.cb_safety.proofs.CoreFields.{SaysBasic, object_basic}
-use Rattle.cb_safety.proofs.CoreKinds.{IsArrayOf, IsCore, array_kind, char_kind, core_kind, of_class, site_kind, strings_at}
+use Rattle.cb_safety.proofs.CoreFields.{SaysBasic, object_basic, object_count}
+use Rattle.cb_safety.proofs.CoreKinds.{IsArrayOf, IsCore, array_kind, char_kind, core_kind, core_sized, of_class, site_kind, strings_at}
 use Rattle.cb_safety.proofs.EnumConstants.{has_enums}
 use Rattle.cb_safety.proofs.Exceptions.{IsRow, core_names, file_at, thrown_at, zipped_at}
 use Rattle.cb_safety.proofs.KindNames.{names_low}
 use Rattle.cb_safety.proofs.LibraryNatives.{have_signatures}
-use Rattle.cb_safety.proofs.LibraryFields.{booleans_have, builders_have, chars_have, classes_have, counts_have, integer_says, integers_have, long_says, longs_have, messages_have, ordinals_have, strings_have, suppressed_have}
+use Rattle.cb_safety.proofs.LibraryFields.{booleans_have, builders_have, chars_have, classes_have, counts_have, integer_says, integers_have, long_says, longs_have, messages_have, number_count, ordinals_have, strings_have, suppressed_have}
 use Rattle.cb_safety.proofs.Kinded.{IsNumbered, numbered_of}
 use Rattle.cb_safety.proofs.Located.{all_part, all_parts}
 use Rattle.cb_safety.proofs.Linking.{front, linked_whole}
+use Rattle.cb_safety.proofs.Placed.{later_sited}
 use Rattle.cb_safety.proofs.Searching.{all_each}
 use Rattle.cb_safety.proofs.Sound.{linked_sound}
 
@@ -109,7 +110,12 @@ module _ (program : Linked) (is : IsLinked program) (typed : IsTyped program) wh
   char_arrays : (site : ℕ) → kind_of_site program site ≡ characters program → AreArrays program (kind_of_site program site) (characters program) basics.Char
   char_arrays site same =
       let array : IsArrayOf program (characters program) basics.Char = char_kind program is in
-      subst (λ (kind : ℕ). AreArrays program kind (characters program) basics.Char) (sym same) (record { array = array.own; no_class = array.no_class; elements = array.elements })
+      subst (λ (kind : ℕ). AreArrays program kind (characters program) basics.Char) (sym same) (record {
+        array = array.own;
+        no_class = array.no_class;
+        elements = array.elements;
+        sited = later_sited program (characters program) array.later;
+      })
 
   throwable_is : basic_of program.kinds (codes "Ljava/lang/Throwable;") ≡ basics.Reference kind_of_throwable
   throwable_is = let core : IsCore program (kind_number program.kinds (codes "java/lang/Throwable")) kind_of_throwable = core_kind program is (codes "java/lang/Throwable") kind_of_throwable refl refl in ap basics.Reference core.is
@@ -120,18 +126,25 @@ module _ (program : Linked) (is : IsLinked program) (typed : IsTyped program) wh
   suppressed_arrays : AreArrays program (kind_of_site program sites.suppressed) (throwables program) (basics.Reference kind_of_throwable)
   suppressed_arrays =
       subst (λ (kind : ℕ). AreArrays program kind (throwables program) (basics.Reference kind_of_throwable)) (sym (site_kind program is sites.suppressed))
-      (record { array = throwable_kind.own; no_class = throwable_kind.no_class; elements = throwable_kind.elements })
+      (record {
+        array = throwable_kind.own;
+        no_class = throwable_kind.no_class;
+        elements = throwable_kind.elements;
+        sited = later_sited program (throwables program) throwable_kind.later;
+      })
 
   -- ---- boxes
 
-  boxes_of : (site place : ℕ) (basic : Basic) → IsCore program (kind_of_site program site) place
+  boxes_of : (site place : ℕ) (basic : Basic) → IsCore program (kind_of_site program site) place → 0 < place → length (object_fields program.classes place) ≡ 1
       → ((slot : ℕ) (own : Basic) → field_basic program place slot ≡ Some own → (slot ≡ 0) × (own ≡ basic)) → AreBoxes program (kind_of_site program site) place basic
-  boxes_of site place basic core each =
+  boxes_of site place basic core later counted each =
       subst (λ (kind : ℕ). AreBoxes program kind place basic) (sym core.is)
       (record {
         box = core.own;
         fields = λ class slot own classed declared. each slot own (ap (λ (class : ℕ). field_basic program class slot) (of_class program is _ place class core classed) ∙ declared);
         no_elements = core.no_elements;
+        sited = later_sited program place later;
+        sized = core_sized program is (kind_of_site program site) place 1 core counted;
       })
 
   char_field : (slot : ℕ) (own : Basic) → SaysBasic program character_class.fields slot own → (slot ≡ 0) × (own ≡ basics.Char)
@@ -149,6 +162,7 @@ module _ (program : Linked) (is : IsLinked program) (typed : IsTyped program) wh
   char_boxes =
       boxes_of sites.characters library.character basics.Char
       (core_at sites.characters library.character (codes "java/lang/Character") (site_kind program is sites.characters) (core_kind program is (codes "java/lang/Character") library.character refl refl))
+      (omega arith) (object_count program is.library is.more (front program is) is.is_library whole library.character character_class refl (refl, tt) refl)
       (λ slot own declared.
       char_field slot own
       (object_basic program is.library is.more (front program is) is.is_library whole library.character character_class refl (refl, tt) refl slot own declared))
@@ -157,6 +171,7 @@ module _ (program : Linked) (is : IsLinked program) (typed : IsTyped program) wh
   boolean_boxes =
       boxes_of sites.booleans library.boolean basics.Boolean
       (core_at sites.booleans library.boolean (codes "java/lang/Boolean") (site_kind program is sites.booleans) (core_kind program is (codes "java/lang/Boolean") library.boolean refl refl))
+      (omega arith) (object_count program is.library is.more (front program is) is.is_library whole library.boolean boolean_class refl (refl, tt) refl)
       (λ slot own declared.
       boolean_field slot own
       (object_basic program is.library is.more (front program is) is.is_library whole library.boolean boolean_class refl (refl, tt) refl slot own declared))
@@ -165,12 +180,14 @@ module _ (program : Linked) (is : IsLinked program) (typed : IsTyped program) wh
   int_boxes =
       boxes_of sites.integers library.integer basics.Int
       (core_at sites.integers library.integer (codes "java/lang/Integer") (site_kind program is sites.integers) (core_kind program is (codes "java/lang/Integer") library.integer refl refl))
+      (omega arith) (number_count program is library.integer integer_class refl (refl, tt) refl)
       (integer_says program is)
 
   long_boxes : AreBoxes program (kind_of_site program sites.longs) library.long basics.Long
   long_boxes =
       boxes_of sites.longs library.long basics.Long
       (core_at sites.longs library.long (codes "java/lang/Long") (site_kind program is sites.longs) (core_kind program is (codes "java/lang/Long") library.long refl refl))
+      (omega arith) (number_count program is library.long long_class refl (refl, tt) refl)
       (long_says program is)
 
   -- ---- arrays of bytes, which InputStream reads

@@ -16,7 +16,7 @@ use Rattle.cb_kinds.specs.Kinds.{array_of, is_array, kinds_of_type}
 use Rattle.cb_kinds.specs.Texts.{number_of}
 use Rattle.cb_kinds.specs.declared.basic.Basic.TheVariants as basics
 use Rattle.cb_kinds.proofs.Laws.{text_at}
-use Rattle.cb_link.specs.Having.{HasOwnName, IsWhole}
+use Rattle.cb_link.specs.Having.{HasOwnName, IsWhole, site_kinds}
 use Rattle.cb_link.specs.Making.{base_array, made_by}
 use Rattle.cb_link.specs.Named.{code_at, insn_in, made_at}
 use Rattle.cb_link.specs.Numbers.{class_number, name_of, or_none}
@@ -95,9 +95,12 @@ module _ (machine : Machine) (whole : IsWhole machine.program) (sites : HasSites
   are_arrays = record {
     some = some;
     sited = λ own low. (has own low).is ∙ ap Some (sym (ap or_zero (has own low).is));
+    low = λ own low. subst (λ (site : ℕ). site < length (site_kinds machine.program)) (sym (ap or_zero (has own low).is)) (has own low).low;
     arrays = λ own low. record {
       low = is_low own low;
       no_class = ap (option_and_then (class_number machine.program.classes)) (there own low) ∙ no_array_class machine.program.classes (nested own low).rest whole.named;
+      element = basic_of machine.program.kinds (nested own low).rest;
+      elements = has_element own low;
       own = holds (kind machine method pc own) (is_low own low);
     };
     nested = λ own next.

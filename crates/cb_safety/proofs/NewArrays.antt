@@ -11,6 +11,7 @@ use Rattle.cb_kinds.specs.Basics.{is_reference}
 use Rattle.cb_kinds.specs.declared.basic.Basic.{Basic}
 use Rattle.cb_kinds.specs.declared.basic.Basic.TheVariants as basics
 use Rattle.cb_link.specs.Calls.{class_of_kind}
+use Rattle.cb_link.specs.Having.{site_kinds}
 use Rattle.cb_link.specs.Program.{Linked}
 use Rattle.cb_machine.specs.Arrays.{element_of}
 use Rattle.cb_machine.specs.Creating.{blank_element}
@@ -23,6 +24,7 @@ use Rattle.cb_safety.specs.Kinds.{IsKnown, Kinds, IsOfKind, Refers, holds_kind, 
 use Rattle.cb_safety.proofs.Known.{all_alike, all_ranged, blank_known}
 use Rattle.cb_safety.proofs.Growing.{kinds_grown, kinds_placed}
 use Rattle.cb_safety.proofs.Lists.{all_both}
+use Rattle.cb_safety.proofs.Placed.{array_sized}
 use Rattle.cb_safety.proofs.Searching.{numbered}
 
 -- ---- lists
@@ -98,6 +100,8 @@ IsShort size = size ≤ most_elements
 pub record IsArrayKind (program : Linked) (kind : ℕ) : Type 0 where
   pub low : kind < length program.kinds
   pub no_class : class_of_kind program kind ≡ None
+  pub element : Basic
+  pub elements : element_of program kind ≡ Some element
   pub own : holds_kind program kind kind ≡ true
 
 module _ (program : Linked) (site kind : ℕ → ℕ) where
@@ -132,13 +136,16 @@ module _ (program : Linked) (site kind : ℕ → ℕ) where
       kind_among objects (level dimension count next size sizes) (arrays_from (dimension + 1) (count * size) (next + count) sizes) (kind dimension) serial place
       (level_kinds dimension count next size sizes) (omega (arith, low, level_length dimension count next size sizes)) is
 
-  module _ (most : ℕ) (arrays : (dimension : ℕ) → dimension < most → IsArrayKind program (kind dimension))
+  module _ (most : ℕ) (sited : (dimension : ℕ) → dimension < most → site dimension < length (site_kinds program))
+      (arrays : (dimension : ℕ) → dimension < most → IsArrayKind program (kind dimension))
       (nested : (dimension : ℕ) → dimension + 1 < most → element_of program (kind dimension) ≡ Some (basics.Reference (kind (dimension + 1)))) where
     -- an array whose elements are blank
     blank_array : (kinds : Kinds) (dimension size : ℕ) → dimension < most → IsShort size
         → IsObject program kinds (object_of (site dimension) (kind dimension) (replicate size (blank_element program (kind dimension))))
     blank_array kinds dimension size low short = record {
       kind = (arrays dimension low).low;
+      site = sited dimension low;
+      sized = array_sized program (kind dimension) (arrays dimension low).element (arrays dimension low).elements;
       fields = λ class slot basic own declared. absurd (none-some class (sym (arrays dimension low).no_class ∙ own));
       elements = λ basic place own within. record {
         content = blank_element program (kind dimension);
@@ -155,6 +162,8 @@ module _ (program : Linked) (site kind : ℕ → ℕ) where
         → IsObject program kinds (row dimension first size turn)
     row_array kinds dimension first size turn low few there = record {
       kind = (arrays dimension (omega (arith, low))).low;
+      site = sited dimension (omega (arith, low));
+      sized = array_sized program (kind dimension) (arrays dimension (omega (arith, low))).element (arrays dimension (omega (arith, low))).elements;
       fields = λ class slot basic own declared. absurd (none-some class (sym (arrays dimension (omega (arith, low))).no_class ∙ own));
       elements = λ basic place own within.
           let short : place < size = omega (arith, within, length-map-range_with_len Reference (first + turn * size) size) in

@@ -1,7 +1,8 @@
 -- new.
-use Rattle.std.proofs.Common.{◌≡◌, ◌∙◌, ap, refl, sym, subst, ℕ, ◌+◌, ◌&&◌, Bool, true, false, not, List, [], ◌∷◌, ◌++◌, map, length, Option, Some, None, option_and_then, option_map, slice_get}
+use Rattle.std.proofs.Common.{◌≡◌, ◌∙◌, ap, refl, sym, subst, ℕ, ◌+◌, ◌<◌, ◌&&◌, Bool, true, false, not, List, [], ◌∷◌, ◌++◌, map, length, Option, Some, None, option_and_then, option_map, slice_get}
 use Rattle.std.specs.List.{AllByRecursion, list_any}
 use Rattle.std.proofs.lemmas.Bool.{and_parts, eqb-true, false≢true}
+use Rattle.std.proofs.lemmas.List.{length-map}
 use Rattle.std.proofs.lemmas.Option.{none-some, slice_get-map, slice_get_within}
 use Rattle.cb_hierarchy.specs.Classes.{listed}
 use Rattle.cb_insn.specs.declared.insn.Insn.{Insn}
@@ -14,7 +15,7 @@ use Rattle.cb_kinds.specs.Texts.{number_of}
 use Rattle.cb_kinds.specs.declared.basic.Basic.{Basic}
 use Rattle.cb_kinds.proofs.Laws.{kind_number_of, text_at}
 use Rattle.cb_link.specs.Calls.{class_of_kind}
-use Rattle.cb_link.specs.Having.{IsWhole}
+use Rattle.cb_link.specs.Having.{IsWhole, site_kinds}
 use Rattle.cb_link.specs.Making.{made_by}
 use Rattle.cb_link.specs.Named.{code_at, insn_in, made_at}
 use Rattle.cb_link.specs.Numbers.{class_number, or_none}
@@ -109,9 +110,11 @@ module _ (program : Linked) (kind : ℕ) (name : List ℕ) (there : slice_get pr
   shape_known kinds (shapes.Fields marks) = all_mapped (IsKnownWord kinds) blank marks (blank_known kinds)
   shape_known kinds (shapes.Elements mark) = tt
 
-  pub blank_object : (kinds : Kinds) (site : ℕ) → IsObject program kinds (object_of site kind (blank_fields program kind))
-  blank_object kinds site = record {
+  pub blank_object : (kinds : Kinds) (site : ℕ) → site < length (site_kinds program) → IsObject program kinds (object_of site kind (blank_fields program kind))
+  blank_object kinds site low = record {
     kind = slice_get_within program.kinds kind name there;
+    site = low;
+    sized = λ marks is. sym (ap (λ (shape : Shape). length (blanks shape)) is ∙ length-map marks blank);
     fields = λ class slot basic is declared.
         record { content = blank (is_reference basic); there = field_there class slot basic is declared; fits = blank_fits program kinds basic };
     elements = λ basic place own low. absurd (none-some basic (sym no_element ∙ own));
@@ -235,7 +238,7 @@ module _ (machine : Machine) (state : State) (frame : MethodFrame) (below : List
       let same = with_stack_is stage.method.body.max_stack (verified.with_locals stage.types (verified.replaced (New frame.pc) Top stage.types.locals)) (New frame.pc ∷ stage.types.stack) stage.after rule.1 in
       goes_more machine state frame below insn (actions.New index) stage state.roots stage.typed.roots stage.runs
       (One site.number own_kind (blank_fields machine.program own_kind) ∷ []) (length state.objects + 1 + 1) (new ∷ []) refl
-      (blank_object machine.program own_kind named.name kind_there no_array grown site.number, tt) refl frame.locals (values.Ref serial ∷ frame.stack)
+      (blank_object machine.program own_kind named.name kind_there no_array grown site.number site.low, tt) refl frame.locals (values.Ref serial ∷ frame.stack)
       (subst (λ (own : verified.Frame). HaveTypes stage.method grown own.locals frame.locals) same
       (replaced_by_top stage.method grown (New frame.pc) stage.types.locals frame.locals
       (have_types_more stage.method (kinds_of state.objects) (kinds_placed (new ∷ [])) stage.types.locals frame.locals stage.locals)))

@@ -1,15 +1,20 @@
--- The fields of objects that a class declares come in the order in which it lists them, where none of them is static.
+-- The fields of objects that a class declares are as many as it lists, and come in that order, where none of them is static.
 use Rattle.std.proofs.Common.{◌≡◌, ◌∙◌, ap, append-nil, arith, refl, sym, subst₂, ℕ, zero, suc, ◌+◌, ◌<◌, ◌==◌, ◌&&◌, Bool, true, false, not, List, [], ◌∷◌, ◌++◌, filter, map, Some, slice_get}
-use Rattle.std.specs.List.{AllByRecursion, enumerate_from, flat_map}
+use Rattle.std.specs.Prelude.{length}
+use Rattle.std.specs.List.{AllByRecursion, AllZip, enumerate_from, flat_map}
 use Rattle.std.proofs.lemmas.Bool.{and_from, eq-eqb, ne_eqb}
 use Rattle.std.proofs.lemmas.List.Elements.{filter-append}
 use Rattle.std.proofs.lemmas.Option.{same_Some}
 use Rattle.cb_classfile.specs.Flags.{acc_static}
+use Rattle.cb_classfile.specs.Library.{SaysField}
 use Rattle.cb_classfile.specs.declared.class.ClassFile.{ClassFile}
 use Rattle.cb_classfile.specs.declared.field.Field.{Field}
+use Rattle.cb_hierarchy.specs.Layout.{own_fields}
 use Rattle.cb_hierarchy.specs.declared.member.Field.{Field as RankedField}
-use Rattle.cb_link.specs.Numbers.{Numbered, has_flag}
+use Rattle.cb_library.specs.Rows as rows
+use Rattle.cb_link.specs.Numbers.{Numbered, fields_of, has_flag, ranked_field, ranked_fields}
 use Rattle.cb_link.specs.Places.{numbered_in}
+use Rattle.cb_text.specs.declared.constant.Constant.{Constant}
 use Rattle.cb_safety.proofs.Assigned.{never}
 
 -- ---- what is kept of a list
@@ -85,6 +90,15 @@ module _ (change : Numbered Field → RankedField) (test : RankedField → Bool)
   kept_of from [] slot number is = never is
   kept_of from (first ∷ items) slot number is = kept_by from first items slot number (test (change first)) refl is (kept_of (from + 1) items)
 
+  -- these are as many
+  numbers_length : (from : ℕ) (items : List (Numbered Field)) → length (numbers from items) ≡ length (filter keeps items)
+  numbers_length from [] = refl
+  numbers_length from (first ∷ items) = go (test (change first)) refl (numbers_length (from + 1) items) where
+    go : (passes : Bool) → test (change first) ≡ passes → length (numbers (from + 1) items) ≡ length (filter keeps items)
+        → length (numbers from (first ∷ items)) ≡ length (filter keeps (first ∷ items))
+    go true passes more = ap length (numbers_here from first items passes) ∙ ap suc more ∙ sym (ap length (filter_here keeps first items passes))
+    go false fails more = ap length (numbers_past from first items fails) ∙ more ∙ sym (ap length (filter_past keeps first items fails))
+
 -- ---- the fields of a class among all
 
 abbrev pub is_of_class : ℕ → Numbered Field → Bool
@@ -144,3 +158,29 @@ class_fields start (suc place) number (class ∷ classes) file is there all =
   where
     apart : (start place number : ℕ) → number ≡ start + suc place → start ≡ number → ⊥
     apart start place number is same = omega (arith, is, same)
+
+fields_length : (number : ℕ) (class : ClassFile) → length (fields_in number class) ≡ length class.fields
+fields_length number class = go 0 class.fields where
+  go : (from : ℕ) (fields : List Field) → length (map (numbered_as number class) (enumerate_from from fields)) ≡ length fields
+  go from [] = refl
+  go from (field ∷ fields) = ap suc (go (from + 1) fields)
+
+pub own_length : (classes : List ClassFile) (place : ℕ) (file : ClassFile) → slice_get classes place ≡ Some file → AllByRecursion IsOfObject file.fields
+    → length (own_fields (ranked_fields classes) place) ≡ length file.fields
+own_length classes place file there all =
+    numbers_length (ranked_field classes) (λ (field : RankedField). (field.declared.class == place) && not field.is_static) 0 (fields_of classes)
+    ∙ ap length (class_fields 0 place place classes file (let zeroth : place ≡ 0 + place = omega arith in zeroth) there all)
+    ∙ fields_length place file
+
+-- ---- those of a row of the library's table
+
+-- none of the fields in a row is static
+abbrev pub IsNoStatic : rows.Field → Type 0
+IsNoStatic row = has_flag acc_static row.flags ≡ false
+
+pub of_object : (pool : List Constant) (table : List rows.Field) (fields : List Field) → AllZip (SaysField pool) table fields → AllByRecursion IsNoStatic table
+    → AllByRecursion IsOfObject fields
+of_object pool [] [] are all = tt
+of_object pool [] (field ∷ fields) are all = absurd are
+of_object pool (row ∷ table) [] are all = absurd are
+of_object pool (row ∷ table) (field ∷ fields) are all = (ap (has_flag acc_static) are.0.flags ∙ all.0, of_object pool table fields are.1 all.1)

@@ -15,6 +15,7 @@ use Rattle.cb_safety.specs.Held.{HasContent}
 use Rattle.cb_safety.specs.Kinds.{Kinds}
 use Rattle.cb_safety.proofs.Known.{words_known}
 use Rattle.cb_safety.proofs.Changed.{with_contents}
+use Rattle.cb_safety.proofs.Placed.{array_sized}
 
 -- ---- what all items of lists are
 
@@ -59,6 +60,8 @@ pub array_is : (program : Linked) (kinds : Kinds) (object : Object) (basic : Bas
     → AllByRecursion (HasContent program kinds basic) contents → length contents ≤ most_elements → IsObject program kinds (with_contents object contents)
 array_is program kinds object basic contents element no_class is all few = record {
   kind = is.kind;
+  site = is.site;
+  sized = array_sized program object.kind basic element;
   fields = λ class slot own classed declared. absurd (no_class class classed);
   elements = λ own place component low.
       subst (Holds program kinds contents place) (same_Some basic own (sym element ∙ component)) (words_hold program kinds basic contents all place low);

@@ -52,6 +52,7 @@ use Rattle.cb_safety.proofs.Grown.{Grows, good_one, grows_first, grows_one}
 use Rattle.cb_safety.proofs.Known.{words_known}
 use Rattle.cb_safety.proofs.Natively.{HasArray, array_elements, builder_array, chars_text, gives_changed, kinds, built_typed, object_answer, object_typed, stops_null, stops_typed, text_typed}
 use Rattle.cb_safety.proofs.Performed.{AreGiven, IsPerformed, given_advances}
+use Rattle.cb_safety.proofs.Placed.{array_sized}
 use Rattle.cb_safety.proofs.Returning.{Answers, no_answer}
 use Rattle.cb_safety.proofs.Rewritten.{all_joined, all_left, all_taken, array_is, words_held, words_hold}
 use Rattle.cb_safety.proofs.StringsMade.{IsGood, objects_in}
@@ -90,9 +91,12 @@ zeros_length (suc count) = let more = zeros_length count in omega (arith, more)
 -- ---- an array that is placed, and an object with another field
 
 pub array_object : (program : Linked) (kinds : Kinds) (site kind own : ℕ) (basic : Basic) (contents : List Content) → AreArrays program kind own basic
-    → AllByRecursion (HasContent program kinds basic) contents → length contents ≤ most_elements → IsObject program kinds (object_of site kind contents)
-array_object program kinds site kind own basic contents arrays all few = record {
+    → kind_of_site program site ≡ kind → AllByRecursion (HasContent program kinds basic) contents → length contents ≤ most_elements
+    → IsObject program kinds (object_of site kind contents)
+array_object program kinds site kind own basic contents arrays same all few = record {
   kind = kind_low program kind own arrays.array;
+  site = arrays.sited site same;
+  sized = array_sized program kind basic arrays.elements;
   fields = λ class slot declared classed field. absurd (none-some class (sym arrays.no_class ∙ classed));
   elements = λ declared place element low.
       subst (λ (basic : Basic). Holds program kinds contents place basic) (same_Some basic declared (sym arrays.elements ∙ element)) (words_hold program kinds basic contents all place low);
@@ -177,7 +181,7 @@ module _ (machine : Machine) (state : State) (has : HasNatives machine.program) 
       (all : Units units) (few : length units ≤ most_elements) (small : room ≤ most_elements) where
     array_good : IsGood machine.program (placed_array site units room)
     array_good = good_one machine.program (leaving state) site (kind_of_site machine.program site) (room_for units room) first_good
-        (array_object machine.program _ site (kind_of_site machine.program site) (characters machine.program) basics.Char (room_for units room) arrays
+        (array_object machine.program _ site (kind_of_site machine.program site) (characters machine.program) basics.Char (room_for units room) arrays refl
         (units_held machine.program _ (units ++ replicate (room - length units) 0)
         (all_joined (λ unit. unit < 2 ^ 16) units (replicate (room - length units) 0) all (zeros_low (room - length units)))) (room_length units room few small))
 

@@ -1,10 +1,11 @@
--- Each object that an instruction makes has a site, which is of its kind.
-use Rattle.std.proofs.Common.{◌≡◌, ◌∙◌, inl, inr, ap, arith, refl, sym, ℕ, zero, suc, ◌+◌, ◌==◌, ◌||◌, ◌&&◌, Bool, true, false, List, [], ◌∷◌, ◌++◌, map, length, Option, Some, None, option_and_then, option_map, slice_get, if◌then◌else◌}
+-- Each object that an instruction makes has a site of the program, which is of its kind.
+use Rattle.std.proofs.Common.{◌≡◌, ◌∙◌, inl, inr, ap, arith, refl, sym, ℕ, zero, suc, ◌+◌, ◌<◌, ◌==◌, ◌||◌, ◌&&◌, Bool, true, false, List, [], ◌∷◌, ◌++◌, map, length, Option, Some, None, option_and_then, option_map, slice_get, if◌then◌else◌}
 use Rattle.std.specs.Cmp.Lexicographic.{bytes_decides}
 use Rattle.std.specs.List.{AllByRecursion, enumerate_from, find, flat_map, list_any, position}
 use Rattle.std.proofs.lemmas.Bool.{eq-eqb, ne_eqb}
+use Rattle.std.proofs.lemmas.List.{length-append, length-map}
 use Rattle.std.proofs.lemmas.List.Folds.{list_any-append}
-use Rattle.std.proofs.lemmas.Option.{slice_get-map}
+use Rattle.std.proofs.lemmas.Option.{slice_get-map, slice_get_within}
 use Rattle.cb_classfile.specs.declared.body.Body.{Body}
 use Rattle.cb_classfile.specs.declared.class.ClassFile.{ClassFile}
 use Rattle.cb_classfile.specs.declared.method.Method.{Method}
@@ -14,7 +15,7 @@ use Rattle.cb_kinds.specs.Basics.{kind_number}
 use Rattle.cb_kinds.specs.Kinds.{kinds_of_name, kinds_of_type, name_in}
 use Rattle.cb_kinds.specs.Texts.{same_text}
 use Rattle.cb_kinds.proofs.Laws.{among_all, entered_firsts, number_among, text_at}
-use Rattle.cb_link.specs.Having.{IsWhole}
+use Rattle.cb_link.specs.Having.{IsWhole, site_kinds}
 use Rattle.cb_link.specs.Making.{Making, body_kinds, class_kinds, descriptor_kinds, field_kinds, fixed_kinds, frame_kinds, handler_kinds, insn_kinds, kinds, made_by, makings, makings_of, member_kinds, method_kinds, named_in, named_kinds}
 use Rattle.cb_link.specs.Named.{insn_in, turn_at}
 use Rattle.cb_link.specs.Numbers.{Numbered, methods_of, name_of}
@@ -249,6 +250,12 @@ module _ (program : Linked) (whole : IsWhole program) (method pc dimension : ℕ
       record {
         number = length program.fixed + place;
         is = ap (option_map (λ (place : ℕ). length program.fixed + place)) first;
+        low =
+            let within : place < length program.sites = slice_get_within program.sites place (linked_site program.kinds making) site in
+            let counted : length (site_kinds program) ≡ length program.fixed + length (map kind_of program.sites) =
+            length-append program.fixed (map kind_of program.sites) in
+            let mapped : length (map kind_of program.sites) ≡ length program.sites = length-map program.sites kind_of in
+            omega (arith, within, counted, mapped);
         kind = ap or_zero (behind_front program.fixed (map kind_of program.sites) place ∙ slice_get-map kind_of program.sites place ∙ ap (option_map kind_of) site);
         there = text_at program.kinds name (kind_number program.kinds name)
             (number_among program.kinds name (ap (list_any (same_text name)) whole.kinds ∙ among));

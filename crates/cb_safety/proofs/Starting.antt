@@ -34,6 +34,7 @@ use Rattle.cb_safety.proofs.Grown.{one_put}
 use Rattle.cb_safety.proofs.Growing.{heap_grown, kind_behind, kinds_grown, kinds_placed}
 use Rattle.cb_safety.proofs.Lists.{all_both}
 use Rattle.cb_safety.proofs.NewArrays.{kinds_parts}
+use Rattle.cb_safety.proofs.Placed.{array_sized}
 use Rattle.cb_safety.proofs.Searching.{all_weaker, numbered}
 use Rattle.cb_safety.proofs.StaticValues.{roots_set}
 use Rattle.cb_safety.proofs.StringsMade.{objects_in, string_is, text_is}
@@ -165,9 +166,12 @@ module _ (machine : Machine) (input : List ℕ) (contents : List Content) (has :
 
   -- ---- with the streams
 
-  empty_is : (kinds : Kinds) (site kind : ℕ) → AreEmpty machine.program kind → IsObject machine.program kinds (object_of site kind [])
-  empty_is kinds site kind empty = record {
+  empty_is : (kinds : Kinds) (site kind : ℕ) → AreEmpty machine.program kind → kind_of_site machine.program site ≡ kind
+      → IsObject machine.program kinds (object_of site kind [])
+  empty_is kinds site kind empty same = record {
     kind = empty.low;
+    site = empty.sited site same;
+    sized = empty.sized;
     fields = λ class slot basic own declared. absurd (empty.no_fields class slot basic own declared);
     elements = λ basic place own low. absurd (none-some basic (sym empty.no_elements ∙ own));
     few = λ basic own. absurd (none-some basic (sym empty.no_elements ∙ own));
@@ -256,8 +260,8 @@ module _ (machine : Machine) (input : List ℕ) (contents : List Content) (has :
         heap_grown machine.program [] whole (record { each = λ serial object is. absurd (none_in serial object is) }) (
           array_is,
           all_more strung.list streams strung.all (
-            empty_is (kinds_placed (array ∷ strung.list) ++ kinds_placed streams) sites.system_out out_kind has.out,
-            (empty_is (kinds_placed (array ∷ strung.list) ++ kinds_placed streams) sites.system_in in_kind has.input, tt),
+            empty_is (kinds_placed (array ∷ strung.list) ++ kinds_placed streams) sites.system_out out_kind has.out refl,
+            (empty_is (kinds_placed (array ∷ strung.list) ++ kinds_placed streams) sites.system_in in_kind has.input refl, tt),
           ),
         )
       where
@@ -301,6 +305,8 @@ array_fits : (program : Linked) (has : HasStart program) (count : ℕ) → count
     → IsObject program kinds (object_of sites.arguments (kind_of_site program sites.arguments) (map string_behind (range_with_len 0 count)))
 array_fits program has count few kinds there = record {
   kind = has.array.low;
+  site = has.array.sited sites.arguments refl;
+  sized = array_sized program (kind_of_site program sites.arguments) (basics.Reference kind_of_string) has.array.elements;
   fields = λ class slot basic own declared. absurd (none-some class (sym has.array.no_class ∙ own));
   elements = λ basic place own within.
       let low : place < count = omega (arith, within, length-map-range_with_len string_behind 0 count) in

@@ -209,6 +209,8 @@ module _ (kinds others : Kinds) (test : ℕ → Bool)
   pub object_stays : (program : Linked) (object : Object) → Pass (flat_map reference_in_word object.contents) → IsObject program kinds object → IsObject program others object
   object_stays program object pass is = record {
     kind = is.kind;
+    site = is.site;
+    sized = is.sized;
     fields = λ class slot basic own declared. holds_stays program object.contents slot basic pass (is.fields class slot basic own declared);
     elements = λ basic place own low. holds_stays program object.contents place basic pass (is.elements basic place own low);
     few = is.few;

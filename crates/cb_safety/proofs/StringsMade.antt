@@ -30,6 +30,7 @@ use Rattle.cb_safety.proofs.Enlarged.{grown_state, grown_typed, put}
 use Rattle.cb_safety.proofs.Extended.{are_covered_more, are_standing_more, are_statics_more, are_tables_more, is_of_kind_more, refers_more}
 use Rattle.cb_safety.proofs.Growing.{kind_behind, kinds_grown, kinds_placed}
 use Rattle.cb_safety.proofs.NewArrays.{kinds_parts}
+use Rattle.cb_safety.proofs.Placed.{array_sized}
 use Rattle.cb_safety.proofs.Throwing.{kind_low}
 
 -- ---- roots
@@ -143,6 +144,8 @@ module _ (program : Linked) (site characters : ℕ) (strings : AreStrings progra
   pub text_is : (kinds : Kinds) (units : List ℕ) → IsText units → IsObject program kinds (text_object units)
   text_is kinds units is = record {
     kind = strings.low;
+    site = strings.characters_sited characters refl;
+    sized = array_sized program (kind_of_site program characters) basics.Char strings.elements;
     fields = λ class slot basic own declared. absurd (none-some class (sym strings.no_class ∙ own));
     elements = λ basic place own low.
         let found = unit_at kinds units place is.each (omega (arith, low, length-map units (λ (unit : ℕ). Number (pos unit)))) in
@@ -167,6 +170,8 @@ module _ (program : Linked) (site characters : ℕ) (strings : AreStrings progra
   pub string_is : (kinds : Kinds) (serial : ℕ) → kind_in kinds serial ≡ Some (kind_of_site program characters) → IsObject program kinds (string_object serial)
   string_is kinds serial there = record {
     kind = kind_low program (kind_of_site program site) kind_of_string strings.string;
+    site = strings.sited site refl;
+    sized = strings.sized;
     fields = λ class slot basic own declared.
         let found = reference_at kinds serial slot basic there (strings.fields class slot basic own declared) in
         record { content = Reference serial; there = found.0; fits = found.1 };

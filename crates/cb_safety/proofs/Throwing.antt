@@ -52,9 +52,12 @@ kind_low program own kind holds =
     let (both, held) = and_parts (nat_lt own (length program.kinds) && nat_lt kind (length program.kinds)) (is_held_as program.classes (type_of_kind program own) (type_of_kind program kind)) holds in
     ltb-true own (length program.kinds) (and_parts (nat_lt own (length program.kinds)) (nat_lt kind (length program.kinds)) both).0
 
-thrown_object : (program : Linked) (kinds : Kinds) (site kind : ℕ) → IsThrown program kind → IsObject program kinds (object_of site kind (exception_contents 0 0))
-thrown_object program kinds site kind thrown = record {
+thrown_object : (program : Linked) (kinds : Kinds) (site kind : ℕ) → IsThrown program kind → kind_of_site program site ≡ kind
+    → IsObject program kinds (object_of site kind (exception_contents 0 0))
+thrown_object program kinds site kind thrown same = record {
   kind = kind_low program kind kind_of_throwable thrown.throwable;
+  site = thrown.sited site same;
+  sized = thrown.sized;
   fields = λ class slot basic own declared.
       let (low, is) = thrown.fields class slot basic own declared in
       record { content = Reference 0; there = null_at slot low; fits = null_fits program kinds basic is };
@@ -68,7 +71,7 @@ thrown_object program kinds site kind thrown = record {
 pub throws_typed : (machine : Machine) (state : State) (site : ℕ) → IsTypedState machine.program state → IsThrown machine.program (kind_of_site machine.program site)
     → IsTypedState machine.program (made (throws machine state site))
 throws_typed machine state site typed thrown = record {
-  heap = heap_grown machine.program state.objects (new ∷ []) typed.heap (thrown_object machine.program grown site own thrown, tt);
+  heap = heap_grown machine.program state.objects (new ∷ []) typed.heap (thrown_object machine.program grown site own thrown refl, tt);
   roots = subst (λ (kinds : Kinds). AreRoots machine.program kinds (made (throws machine state site)).roots) (sym (kinds_grown state.objects (new ∷ []))) rooted;
   input = typed.input;
 }

@@ -42,6 +42,8 @@ wrapped_object : (program : Linked) (kinds : Kinds) (cause : ℕ) → IsThrown p
     → IsObject program kinds (object_of sites.exception_in_initializer (kind_of_site program sites.exception_in_initializer) (exception_contents 0 cause))
 wrapped_object program kinds cause thrown keeps is = record {
   kind = kind_low program (kind_of_site program sites.exception_in_initializer) kind_of_throwable thrown.throwable;
+  site = thrown.sited sites.exception_in_initializer refl;
+  sized = thrown.sized;
   fields = λ class slot basic own declared.
       let (low, reference) = thrown.fields class slot basic own declared in
       kept_at program kinds cause slot basic is low reference

@@ -11,6 +11,7 @@ use Rattle.cb_machine.specs.Machine.{kind_of_site}
 use Rattle.cb_machine.specs.Sites.{arithmetic, class_objects}
 use Rattle.cb_verify.specs.Within.{kind_of_class, kind_of_string}
 use Rattle.cb_safety.specs.Kinds.{holds_kind}
+use Rattle.cb_safety.specs.Placed.{IsSited, IsSized}
 
 -- objects of a kind are class objects: their only field is the first, an int
 pub record AreClassObjects (program : Linked) (kind : ℕ) : Type 0 where
@@ -18,6 +19,8 @@ pub record AreClassObjects (program : Linked) (kind : ℕ) : Type 0 where
   pub fields : (class slot : ℕ) → (basic : Basic) → class_of_kind program kind ≡ Some class → field_basic program class slot ≡ Some basic →
       (slot ≡ 0) × (basic ≡ basics.Int)
   pub no_elements : element_of program kind ≡ None
+  pub sited : IsSited program kind
+  pub sized : IsSized program kind 1
 
 -- those that the machine places hold the numbers of kinds, which ints can say
 pub record HasClassObjects (program : Linked) : Type 0 where

@@ -1,14 +1,16 @@
 -- Objects that are as their kinds say.
-use Rattle.std.specs.Prelude.{◌≡◌, ◌<◌, ◌≤◌, ℕ, List, Option, Some, length, slice_get}
+use Rattle.std.specs.Prelude.{◌≡◌, ◌<◌, ◌≤◌, ℕ, Bool, List, Option, Some, length, slice_get}
 use Rattle.std.specs.List.{AllByRecursion}
 use Rattle.cb_kinds.specs.declared.basic.Basic.{Basic}
 use Rattle.cb_link.specs.Calls.{class_of_kind}
+use Rattle.cb_link.specs.Having.{site_kinds}
 use Rattle.cb_link.specs.Program.{Linked}
-use Rattle.cb_link.specs.Slots.{field_basic}
+use Rattle.cb_link.specs.Slots.{field_basic, shape}
 use Rattle.cb_machine.specs.Arrays.{element_of}
 use Rattle.cb_machine.specs.Performing.{most_elements}
 use Rattle.cb_plain.specs.State.{Content, Number, Object, Reference}
 use Rattle.cb_plain.specs.Updates.{object_in}
+use Rattle.cb_plain.specs.declared.shape.Shape.TheVariants.{Fields}
 use Rattle.cb_plain.specs.declared.value.Value.TheVariants as values
 use Rattle.cb_safety.specs.Held.{HasContent}
 use Rattle.cb_safety.specs.Kinds.{IsKnown, Kinds, kinds_of}
@@ -24,9 +26,12 @@ abbrev pub IsKnownWord : Kinds → Content → Type 0
 IsKnownWord kinds (Number number) = Unit {0}
 IsKnownWord kinds (Reference serial) = IsKnown kinds (values.Ref serial)
 
--- each field of an object of a class, and each element of an array, of which an int says how many there are (JVMS §6.5, newarray)
+-- its site is one of the program's, and an object of a class has a word for each field and no other; each field of an object of a class, and each
+-- element of an array, of which an int says how many there are (JVMS §2.4; §6.5, newarray)
 pub record IsObject (program : Linked) (kinds : Kinds) (object : Object) : Type 0 where
   pub kind : object.kind < length program.kinds
+  pub site : object.site < length (site_kinds program)
+  pub sized : (marks : List Bool) → shape program object.kind ≡ Fields marks → length marks ≡ length object.contents
   pub fields : (class slot : ℕ) → (basic : Basic) → class_of_kind program object.kind ≡ Some class → field_basic program class slot ≡ Some basic →
       Holds program kinds object.contents slot basic
   pub elements : (basic : Basic) → (place : ℕ) → element_of program object.kind ≡ Some basic → place < length object.contents →

@@ -25,6 +25,7 @@ pub mod Sound
 pub mod Natives
 pub mod Signatures
 pub mod Performing
+pub mod Placed
 pub mod Given
 pub mod Room
 pub mod Words

@@ -1,6 +1,7 @@
 -- What a program has to say of the objects that its instructions make (JVMS §6.5, new, newarray, anewarray and multianewarray).
-use Rattle.std.specs.Prelude.{◌≡◌, ℕ, Bool, true, false, List, Some, slice_get}
+use Rattle.std.specs.Prelude.{◌≡◌, ◌<◌, ℕ, Bool, true, false, List, Some, length, slice_get}
 use Rattle.cb_kinds.specs.Basics.{kind_number}
+use Rattle.cb_link.specs.Having.{site_kinds}
 use Rattle.cb_link.specs.Named.{made_at}
 use Rattle.cb_link.specs.Program.{Linked}
 use Rattle.cb_machine.specs.Creating.{site_number}
@@ -15,10 +16,11 @@ is_of_arrays (actions.NewReferences index) = true
 is_of_arrays (actions.NewArrays index dimensions) = true
 is_of_arrays other = false
 
--- an object that an instruction makes has a site, which is of its kind, and this is one of the program's
+-- an object that an instruction makes has a site, which is one of the program's and of its kind, and this is one of the program's too
 pub record HasSite (program : Linked) (method pc dimension : ℕ) (name : List ℕ) : Type 0 where
   pub number : ℕ
   pub is : site_number program method pc dimension ≡ Some number
+  pub low : number < length (site_kinds program)
   pub kind : kind_of_site program number ≡ kind_number program.kinds name
   pub there : slice_get program.kinds (kind_number program.kinds name) ≡ Some name
 

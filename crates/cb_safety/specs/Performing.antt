@@ -24,6 +24,7 @@ use Rattle.cb_safety.specs.Constants.{HasClassObjects}
 use Rattle.cb_safety.specs.Kinds.{holds_kind}
 use Rattle.cb_safety.specs.Naming.{HasField, HoldsElements}
 use Rattle.cb_safety.specs.Natives.{receiver_types}
+use Rattle.cb_safety.specs.Placed.{IsSited, IsSized}
 use Rattle.cb_safety.specs.Signatures.{builder, bytes, characters, enum, gives_of, takes_of, throwables}
 use Rattle.cb_safety.specs.Strings.{AreStrings}
 use Rattle.cb_safety.specs.Throwing.{IsThrown}
@@ -73,12 +74,15 @@ pub record AreBoxes (program : Linked) (kind own : ℕ) (basic : Basic) : Type 0
   pub fields : (class slot : ℕ) → (declared : Basic) → class_of_kind program kind ≡ Some class → field_basic program class slot ≡ Some declared →
       (slot ≡ 0) × (declared ≡ basic)
   pub no_elements : element_of program kind ≡ None
+  pub sited : IsSited program kind
+  pub sized : IsSized program kind 1
 
 -- objects of a kind are arrays of such elements that may be held as another kind
 pub record AreArrays (program : Linked) (kind own : ℕ) (basic : Basic) : Type 0 where
   pub array : holds_kind program kind own ≡ true
   pub no_class : class_of_kind program kind ≡ None
   pub elements : element_of program kind ≡ Some basic
+  pub sited : IsSited program kind
 
 -- a constant of an enum is a static field of a kind whose objects may be held as Enum (JLS §8.9.3)
 pub record IsConstant (program : Linked) (slot : ℕ) : Type 0 where

@@ -12,6 +12,7 @@ use Rattle.cb_machine.specs.Machine.{kind_of_site}
 use Rattle.cb_machine.specs.Sites.{argument_characters, argument_strings, arguments, system_in, system_out}
 use Rattle.cb_verify.specs.Within.{kind_of_string}
 use Rattle.cb_safety.specs.Kinds.{holds_kind}
+use Rattle.cb_safety.specs.Placed.{IsSited, IsSized}
 use Rattle.cb_safety.specs.Strings.{AreStrings}
 
 -- objects of a kind are arrays of strings
@@ -20,12 +21,15 @@ pub record AreArguments (program : Linked) (kind : ℕ) : Type 0 where
   pub own : holds_kind program kind kind ≡ true
   pub elements : element_of program kind ≡ Some (basics.Reference kind_of_string)
   pub no_class : class_of_kind program kind ≡ None
+  pub sited : IsSited program kind
 
 -- objects of a kind have no fields
 pub record AreEmpty (program : Linked) (kind : ℕ) : Type 0 where
   pub low : kind < length program.kinds
   pub no_fields : (class slot : ℕ) → (basic : Basic) → class_of_kind program kind ≡ Some class → ¬ (field_basic program class slot ≡ Some basic)
   pub no_elements : element_of program kind ≡ None
+  pub sited : IsSited program kind
+  pub sized : IsSized program kind 0
 
 -- a static field may hold objects of a kind
 pub record HoldsObjects (program : Linked) (own : ℕ) (basic : Basic) : Type 0 where

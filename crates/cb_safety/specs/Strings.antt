@@ -19,6 +19,7 @@ use Rattle.cb_plain.specs.declared.value.Value.TheVariants as values
 use Rattle.cb_shapes.specs.declared.sort.Sort.TheVariants as sorts
 use Rattle.cb_verify.specs.Within.{kind_of_string}
 use Rattle.cb_safety.specs.Kinds.{holds_kind}
+use Rattle.cb_safety.specs.Placed.{IsSited, IsSized}
 
 -- a field of a string is the first, and may hold its array of characters
 pub record HoldsCharacters (program : Linked) (characters slot : ℕ) (basic : Basic) : Type 0 where
@@ -27,15 +28,18 @@ pub record HoldsCharacters (program : Linked) (characters slot : ℕ) (basic : B
   pub is : basic ≡ basics.Reference kind
   pub goes : holds_kind program characters kind ≡ true
 
--- objects of a kind are strings with arrays of chars of another kind: they have no other fields
+-- objects of a kind are strings with arrays of chars of another kind: that is their only field
 pub record AreStrings (program : Linked) (kind characters : ℕ) : Type 0 where
   pub string : holds_kind program kind kind_of_string ≡ true
   pub fields : (class slot : ℕ) → (basic : Basic) → class_of_kind program kind ≡ Some class → field_basic program class slot ≡ Some basic →
       HoldsCharacters program characters slot basic
   pub no_elements : element_of program kind ≡ None
+  pub sited : IsSited program kind
+  pub sized : IsSized program kind 1
   pub low : characters < length program.kinds
   pub no_class : class_of_kind program characters ≡ None
   pub elements : element_of program characters ≡ Some basics.Char
+  pub characters_sited : IsSited program characters
 
 -- the units of a text, each of two bytes, and no more than an array has elements
 pub record IsText (units : List ℕ) : Type 0 where

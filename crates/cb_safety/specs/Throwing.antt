@@ -11,13 +11,16 @@ use Rattle.cb_machine.specs.Machine.{kind_of_site}
 use Rattle.cb_machine.specs.Sites.{abstract_method, arithmetic, array_index, array_store, class_cast, exception_in_initializer, incompatible_class_change, negative_size, no_class_definition, null_pointer, stack_overflow}
 use Rattle.cb_verify.specs.Within.{kind_of_throwable}
 use Rattle.cb_safety.specs.Kinds.{holds_kind}
+use Rattle.cb_safety.specs.Placed.{IsSited, IsSized}
 
--- objects of a kind are Throwable and no arrays, and have no fields but three references: the message, the cause and what was suppressed
+-- objects of a kind are Throwable and no arrays, and their fields are three references: the message, the cause and what was suppressed
 pub record IsThrown (program : Linked) (kind : ℕ) : Type 0 where
   pub throwable : holds_kind program kind kind_of_throwable ≡ true
   pub fields : (class slot : ℕ) → (basic : Basic) → class_of_kind program kind ≡ Some class → field_basic program class slot ≡ Some basic →
       (slot < 3) × (is_reference basic ≡ true)
   pub no_elements : element_of program kind ≡ None
+  pub sited : IsSited program kind
+  pub sized : IsSized program kind 3
 
 -- the sites of the exceptions that the machine throws itself, and that what it places at each is one
 abbrev pub thrown_sites : List ℕ

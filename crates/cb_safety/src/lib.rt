@@ -3,10 +3,11 @@
 //! `specs/` says in this order: of which kinds objects are, and what a kind holds (`Kinds`, `Order`, `ClassNames`); values and words by the
 //! verifier's types (`Held`); objects (`Heap`); frames (`Frames`); states, with an input of bytes (`States`); what typing says of one
 //! instruction and of a method's beginning (`Flows`, `Beginning`); that a typed state has a next one, which is typed too (`Advancing`); and
-//! what is asked of a program for that: what the exceptions and strings of the machine are (`Throwing`, `Causes`, `Strings`), what
-//! instructions name and make (`Naming`, `Ready`, `Making`, `Calling`), what stands where a native is called, what it takes and gives, and
-//! what it asks of the library (`Natives`, `Signatures`, `Performing`), which method a call runs and what it is given (`Given`), and what the
-//! initialisation of classes runs (`Initialisers`).
+//! what is asked of a program for that: at which sites the objects stand that the machine places, and of how many words they are
+//! (`Placed`), what its exceptions and strings are (`Throwing`, `Causes`, `Strings`), what instructions name and make (`Naming`, `Ready`,
+//! `Making`, `Calling`), what stands where a native is called, what it takes and gives, and what it asks of the library (`Natives`,
+//! `Signatures`, `Performing`), which method a call runs and what it is given (`Given`), and what the initialisation of classes runs
+//! (`Initialisers`).
 //! `Loaded` and `Linked` say what loading and linking ensure of a program, and `Sound` all that then holds of one that is typed. What a
 //! program may ask of a typed state that runs the machine step by step is in `Room` and `Words`.
 //!

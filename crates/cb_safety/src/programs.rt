@@ -122,7 +122,7 @@ pub fn instructions_name_statics()
         → NamesStatics program }
 {}
 
-/// Each object that an instruction of a linked program makes has a site, which is of its kind (JVMS §6.5).
+/// Each object that an instruction of a linked program makes has a site of the program, which is of its kind (JVMS §6.5).
 pub fn whole_has_sites()
     ensures { (program : Linked) → IsWhole program → HasSites program }
 {}

@@ -1,17 +1,18 @@
-use Rattle.std.proofs.Common.{◌≡◌, ◌⊎◌, inl, inr, ℕ, List, refl, sym, ◌∙◌, ap, arith}
+use Rattle.std.proofs.Common.{◌≡◌, ◌⊎◌, inl, inr, ℤ, ℕ, List, refl, sym, ◌∙◌, ap, arith}
 use Rattle.cb_runner.specs.Answer.{IsAnswer}
 use Rattle.cb_runner.specs.Ending.{status_of}
 use Rattle.cb_runner.specs.Outside.{Content, Failures}
-use Rattle.cb_runner.specs.Words.{SaysNone}
+use Rattle.cb_runner.specs.Words.{SaysNone, SaysRun}
 use Rattle.cb_runner.specs.declared.cause.Cause.{Cause}
-use Rattle.cb_runner.specs.declared.cause.Cause.TheVariants.{BudgetSpent, ErrFault, FolderFault, HeapFull, InputFault, NotYet, OutOfMemory, OutputFault, Refused, Returned, Uncaught, Usage}
-use Rattle.cb_runner.proofs.Laws.{none_told, told_none}
+use Rattle.cb_runner.specs.declared.cause.Cause.TheVariants.{BudgetSpent, ErrFault, Exited, FolderFault, HeapFull, InputFault, NotYet, OutOfMemory, OutputFault, Refused, Returned, Uncaught, Usage}
+use Rattle.cb_runner.proofs.Laws.{none_told, told_none, told_run}
 use Rattle.cb_main.proofs.run_few.Goals as goal
 
--- the status of words that are no command is theirs alone
-usage_alone : (cause : Cause) → status_of cause ≡ 120 → cause ≡ Usage
-usage_alone Usage is = refl
+-- the status of words that are no command is theirs, or that of a program that called `exit` with it
+usage_alone : (cause : Cause) → status_of cause ≡ 120 → (cause ≡ Usage) ⊎ ((status : ℤ) × (cause ≡ Exited status))
+usage_alone Usage is = inl refl
 usage_alone Returned is = absurd (omega (arith, is))
+usage_alone (Exited status) is = inr (status, refl)
 usage_alone (Uncaught class) is = absurd (omega (arith, is))
 usage_alone BudgetSpent is = absurd (omega (arith, is))
 usage_alone HeapFull is = absurd (omega (arith, is))
@@ -34,10 +35,16 @@ none_said words before now failed fails cause answer is = told_none words before
 said_none : (words : List (List ℕ)) (before now : Content) (failed fails : Failures) (cause : Cause) → IsAnswer words before now failed fails cause → SaysNone words → (cause ≡ Usage) ⊎ (cause ≡ ErrFault)
 said_none words before now failed fails cause answer none = none_told words before.files before.left before.err now.err answer.ending cause answer.ends answer.err none
 
+said_so : (words : List (List ℕ)) (before now : Content) (failed fails : Failures) (cause : Cause) → IsAnswer words before now failed fails cause
+    → (cause ≡ Usage) ⊎ ((status : ℤ) × (cause ≡ Exited status)) → SaysNone words ⊎ SaysRun words
+said_so words before now failed fails cause answer (inl usage) = inl (none_said words before now failed fails cause answer usage)
+said_so words before now failed fails cause answer (inr (status, exits)) =
+    inr (told_run words before.files before.left before.err now.err answer.ending cause status answer.ends answer.err exits)
+
 pub returns-clause-usage : goal.returns-clause-usage
 returns-clause-usage c = λ is.
     let (cause, status, answer) = c.exit_code.ensures.answer in
-    none_said _ _ _ _ _ cause answer (usage_alone cause (sym status ∙ is))
+    said_so _ _ _ _ _ cause answer (usage_alone cause (sym status ∙ is))
 
 pub returns-clause-none : goal.returns-clause-none
 returns-clause-none c = λ none.

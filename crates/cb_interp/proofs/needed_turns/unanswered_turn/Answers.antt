@@ -1,9 +1,7 @@
-use Rattle.std.proofs.Common.{rules}
 use Rattle.cb_heap.specs.Reading.{seen}
-use Rattle.cb_act.specs.Turning.{machine_of, state_of}
-use Rattle.cb_interp.proofs.LeavingNatives.{none_performed}
+use Rattle.cb_act.specs.Turning.{machine_of}
 use Rattle.cb_interp.proofs.RunCounts.{counts_as, counts_none}
-use Rattle.cb_interp.proofs.RunTurns.{never_output, never_refused, silent_made}
+use Rattle.cb_interp.proofs.RunTurns.{never_output, silent_made}
 use Rattle.cb_interp.proofs.TurnsNativeSaid.{native_low}
 use Rattle.cb_interp.proofs.needed_turns.unanswered_turn.Goals as goal
 
@@ -11,18 +9,6 @@ pub making-requires : goal.making-requires
 making-requires g c =
     native_low c.args.program.now (g.S.Store.index c.args.store.now) (g.S.Store.kept c.args.store.now) c.args.roots.now.limit c.args.roots.now.roots g.outside c.args.decoded.now c.args.method
     c.requires.1.1.1.1.0 c.requires.1.1.1.1.1.0
-
-pub native_turn-requires : goal.native_turn-requires
-native_turn-requires g c κs within = (
-  search rules,
-  (
-    search rules,
-    (
-      c.requires.1.1.0,
-      (c.requires.1.1.1.1.0, (c.requires.1.1.1.1.1.0, none_performed c.args.program.now c.args.method c.requires.1.1.1.1.1.1 c.in-None.ensures.other)),
-    ),
-  ),
-)
 
 pub returns-in-Some-clause-made : goal.returns-in-Some-clause-made
 returns-in-Some-clause-made g c =
@@ -39,10 +25,3 @@ returns-in-Some-clause-output g c =
     (seen (g.S.Store.index c.perform_turn.new.store) (g.S.Store.kept c.perform_turn.new.store) c.perform_turn.new.roots.roots)
     (g.S.Store.facts c.args.store.now) (g.S.Store.facts c.perform_turn.new.store) (g.O.Sink.taken c.args.out.now) c.perform_turn.result c.perform_turn.ensures.stopped)
     (counts_none (g.O.Sink.faults c.args.out.now))
-
-pub returns-in-None-clause-counted : goal.returns-in-None-clause-counted
-returns-in-None-clause-counted g c =
-    counts_as (g.S.Store.faults c.args.store.now) (g.S.Store.faults c.args.store.now) (λ never. absurd never)
-    (never_refused (machine_of c.args.program.now c.args.roots.now.limit)
-    (state_of (seen (g.S.Store.index c.args.store.now) (g.S.Store.kept c.args.store.now) c.args.roots.now.roots) g.outside) c.native_turn.result c.native_turn.ensures.only)
-    (counts_none (g.S.Store.faults c.args.store.now))

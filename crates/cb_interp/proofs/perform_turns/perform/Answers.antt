@@ -4,6 +4,7 @@ use Rattle.cb_frames.specs.Tops.{top_stack}
 use Rattle.cb_heap.specs.Reading.{read_roots, read_value, seen}
 use Rattle.cb_natives.specs.Given.{AreGiven, have_sorts, roles, sorts_of}
 use Rattle.cb_natives.specs.Making.{Asks, Performs, given_back}
+use Rattle.cb_natives.specs.MakingArrays.{AreLaid}
 use Rattle.cb_plain.specs.declared.value.Value.{Value}
 use Rattle.cb_interp.specs.Answering.{argument_count, behind_answer}
 use Rattle.cb_interp.specs.Performing.{made_values}
@@ -25,8 +26,11 @@ run_native-made-requires g c κs within =
             (
               subst (λ (held : List Value). AreGiven (g.S.Store.kept c.args.store.now) (roles c.args.native) (map (read_value (g.S.Store.index c.args.store.now)) held)) (sym same) behind.1.1.0,
               (
-                subst (λ (held : List Value). Asks c.args.program.now view c.args.native (map (read_value (g.S.Store.index c.args.store.now)) held) g.asked.1) (sym same) behind.1.1.1.0,
-                behind.1.1.1.1,
+                subst (λ (held : List Value). AreLaid c.args.program.now (g.S.Store.kept c.args.store.now) c.args.native (map (read_value (g.S.Store.index c.args.store.now)) held)) (sym same) behind.1.1.1.0,
+                (
+                  subst (λ (held : List Value). Asks c.args.program.now view c.args.native (map (read_value (g.S.Store.index c.args.store.now)) held) g.asked.1) (sym same) behind.1.1.1.1.0,
+                  behind.1.1.1.1.1,
+                ),
               ),
             ),
           ),

@@ -5,12 +5,13 @@ use Rattle.cb_machine.specs.Machine.{kind_of_site}
 use Rattle.cb_machine.specs.Throwing.{throws}
 use Rattle.cb_natives.specs.Given.{AreGiven, have_sorts, roles, sorts_of}
 use Rattle.cb_natives.specs.Making.{Asks, Throws}
+use Rattle.cb_natives.specs.MakingArrays.{AreLaid}
 use Rattle.cb_plain.specs.declared.value.Value.{Value}
 use Rattle.cb_safety.specs.Throwing.{IsThrown}
 use Rattle.cb_act.specs.Turning.{machine_of, moment_of, state_of}
 use Rattle.cb_interp.specs.Running.{StopsBy}
 use Rattle.cb_interp.proofs.NativesAnswered.{enough, few_there, given_there, low_site, sorts_there, standing_size, taken_there, thrown_site}
-use Rattle.cb_interp.proofs.NativesMade.{kinds_there, throws_so}
+use Rattle.cb_interp.proofs.NativesMade.{kinds_there, laid_there, throws_so}
 use Rattle.cb_interp.proofs.TurnsNeed.{counts_as, stops_as}
 use Rattle.cb_interp.proofs.perform_turns.perform_turn.Goals as goal
 
@@ -54,6 +55,18 @@ plan_native-requires-clause-given g c =
     (given_there c.args.program.now (g.S.Store.index c.args.store.now) (g.S.Store.kept c.args.store.now) c.args.roots.now.limit c.args.roots.now.roots g.outside c.args.decoded.now c.args.method
     c.requires.1.1.1.0 c.requires.1.1.1.1.0 c.args.native c.requires.1.1.1.1.1.0 c.requires.1.0.linked c.requires.1.0.fits c.requires.1.0.typed
     (c.linked_has_natives.ensures c.args.program.now c.requires.1.0.linked c.requires.1.0.fits))
+
+pub plan_native-requires-clause-known : goal.plan_native-requires-clause-known
+plan_native-requires-clause-known g c =
+    (c.linked_makes.ensures.makes c.args.program.now (g.S.Store.shapes c.args.store.now) c.requires.1.0.linked c.requires.1.0.fits c.requires.1.0.shaped).sites
+
+pub plan_native-requires-clause-laid : goal.plan_native-requires-clause-laid
+plan_native-requires-clause-laid g c =
+    subst (λ (held : List Value). AreLaid c.args.program.now (g.S.Store.kept c.args.store.now) c.args.native (map (read_value (g.S.Store.index c.args.store.now)) held)) (sym (c.arguments_on-arguments.ensures ∙ ap (λ (count : ℕ). reverse (take count (top_stack c.args.roots.now.roots))) c.argument_count-count.ensures))
+    (laid_there c.args.program.now (g.S.Store.index c.args.store.now) (g.S.Store.kept c.args.store.now) c.args.roots.now.limit c.args.roots.now.roots g.outside c.args.decoded.now c.args.method
+    c.requires.1.1.1.0 c.requires.1.1.1.1.0 c.args.native c.requires.1.1.1.1.1.0 c.requires.1.0.linked c.requires.1.0.fits c.requires.1.0.typed
+    (c.linked_has_natives.ensures c.args.program.now c.requires.1.0.linked c.requires.1.0.fits) (c.linked_programs.ensures.whole c.args.program.now c.requires.1.0.linked)
+    (g.S.Store.shapes c.args.store.now) c.requires.1.0.shaped)
 
 pub plan_native-requires-clause-kinds : goal.plan_native-requires-clause-kinds
 plan_native-requires-clause-kinds g c = kinds_there c.args.program.now (seen (g.S.Store.index c.args.store.now) (g.S.Store.kept c.args.store.now) c.args.roots.now.roots) g.outside c.requires.1.0.typed

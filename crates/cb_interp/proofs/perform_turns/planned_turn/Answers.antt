@@ -8,12 +8,13 @@ use Rattle.cb_link.specs.Having.{site_kinds}
 use Rattle.cb_link.specs.Named.{IsThere}
 use Rattle.cb_link.specs.declared.decoded.Decoded.{Decoded}
 use Rattle.cb_natives.specs.Making.{Asks, HasRoom, MayMake}
+use Rattle.cb_natives.specs.MakingArrays.{MayHold}
 use Rattle.cb_plain.specs.declared.want.Want.{Want}
 use Rattle.cb_safety.proofs.Laws.{typed_states_are_closed}
 use Rattle.cb_act.specs.Turning.{TurnRefused, machine_of, moment_of, state_of}
 use Rattle.cb_interp.specs.Performing.{arguments_at}
 use Rattle.cb_interp.proofs.NativesAnswered.{few_there}
-use Rattle.cb_interp.proofs.NativesMade.{asked_header, asks_again, enough_still, given_still, goes_on, kinds_there, known_sites, refused_so, some_still, sorts_still, tables_there, turn_so, typed_still}
+use Rattle.cb_interp.proofs.NativesMade.{asked_header, asks_again, enough_still, given_still, goes_on, kinds_there, known_sites, laid_still, refused_so, some_still, sorts_still, tables_there, turn_so, typed_still}
 use Rattle.cb_interp.proofs.TurnsMaking.{handed_on}
 use Rattle.cb_interp.proofs.TurnsNeed.{steps_on}
 use Rattle.cb_interp.proofs.perform_turns.planned_turn.Goals as goal
@@ -27,13 +28,12 @@ unreachable-requires g c =
 
 pub room_for-requires : goal.room_for-requires
 room_for-requires g c κs within =
-    let may = c.linked_makes.ensures c.args.program.now (g.S.Store.shapes c.args.store.now) c.requires.1.0.linked c.requires.1.0.fits c.requires.1.0.shaped in
     let own = c.requires.1.1.1.1.1.1.1.0 c.args.roots.now.limit [] [] in (
       search rules,
       (
         typed_states_are_closed c.args.program.now (state_of (seen (g.S.Store.index c.args.store.now) (g.S.Store.kept c.args.store.now) c.args.roots.now.roots) g.given.0) c.requires.1.0.typed,
         (
-          known_sites (g.S.Store.knows c.args.store.now) (length (site_kinds c.args.program.now)) c.args.request.now may.sites c.requires.1.0.sites c.requires.1.1.1.1.1.1.1.1.1,
+          known_sites (g.S.Store.knows c.args.store.now) (length (site_kinds c.args.program.now)) c.args.request.now c.requires.1.0.sites c.requires.1.1.1.1.1.1.1.1.1,
           (c.requires.1.1.0, subst (AllByRecursion (λ (want : Want). 3 ≤ want.words)) own.asks (asked_header own.own)),
         ),
       ),
@@ -56,6 +56,8 @@ perform-requires g c κs within =
     let fits = c.requires.1.0.fits in
     let typed = c.requires.1.0.typed in
     let has = c.linked_has_natives.ensures program linked fits in
+    let whole = c.linked_programs.ensures.whole program linked in
+    let shapes = g.S.Store.shapes c.args.store.now in
     let middle = seen (g.S.Store.index c.room_for.new.store) (g.S.Store.kept c.room_for.new.store) c.room_for.new.roots.roots in
     let typed_middle = typed_still c.args.program.now (g.S.Store.index c.args.store.now) (g.S.Store.kept c.args.store.now) c.args.roots.now.limit c.args.roots.now.roots g.given.0 c.args.decoded.now c.args.method
     c.requires.1.1.1.0 c.requires.1.1.1.1.0 c.args.native c.requires.1.1.1.1.1.0
@@ -90,23 +92,32 @@ perform-requires g c κs within =
                             c.requires.1.1.1.0 c.requires.1.1.1.1.0 c.args.native c.requires.1.1.1.1.1.0
                             (g.S.Store.index c.room_for.new.store) (g.S.Store.kept c.room_for.new.store) c.room_for.new.roots.roots c.in_ok-room_for.ensures.collected linked fits typed has,
                         (
-                          subst (Asks program middle c.args.native (map (read_value (g.S.Store.index c.room_for.new.store)) (arguments_at program c.args.decoded.now c.room_for.new.roots.roots)))
-                              c.requires.1.1.1.1.1.1.1.1.0
-                              (asks_again c.args.program.now (g.S.Store.index c.args.store.now) (g.S.Store.kept c.args.store.now) c.args.roots.now.limit c.args.roots.now.roots g.given.0 c.args.decoded.now c.args.method
+                          laid_still c.args.program.now (g.S.Store.index c.args.store.now) (g.S.Store.kept c.args.store.now) c.args.roots.now.limit c.args.roots.now.roots g.given.0 c.args.decoded.now c.args.method
                               c.requires.1.1.1.0 c.requires.1.1.1.1.0 c.args.native c.requires.1.1.1.1.1.0
-                              (g.S.Store.index c.room_for.new.store) (g.S.Store.kept c.room_for.new.store) c.room_for.new.roots.roots c.in_ok-room_for.ensures.collected c.requires.1.1.1.1.1.1.1.0),
+                              (g.S.Store.index c.room_for.new.store) (g.S.Store.kept c.room_for.new.store) c.room_for.new.roots.roots c.in_ok-room_for.ensures.collected linked fits typed has
+                              whole shapes c.requires.1.0.shaped,
                           (
-                            subst (λ (wants : List Want). (wants ≡ [] → ⊥) → HasRoom (g.S.Store.kept c.room_for.new.store) wants (g.S.Store.granted c.room_for.new.store)) c.requires.1.1.1.1.1.1.1.1.0
-                                c.in_ok-room_for.ensures.room,
+                            subst (Asks program middle c.args.native (map (read_value (g.S.Store.index c.room_for.new.store)) (arguments_at program c.args.decoded.now c.room_for.new.roots.roots)))
+                                c.requires.1.1.1.1.1.1.1.1.0
+                                (asks_again c.args.program.now (g.S.Store.index c.args.store.now) (g.S.Store.kept c.args.store.now) c.args.roots.now.limit c.args.roots.now.roots g.given.0 c.args.decoded.now c.args.method
+                                c.requires.1.1.1.0 c.requires.1.1.1.1.0 c.args.native c.requires.1.1.1.1.1.0
+                                (g.S.Store.index c.room_for.new.store) (g.S.Store.kept c.room_for.new.store) c.room_for.new.roots.roots c.in_ok-room_for.ensures.collected c.requires.1.1.1.1.1.1.1.0),
                             (
-                              subst (MayMake program) (sym c.room_for.ensures.shapes) (c.linked_makes.ensures program (g.S.Store.shapes c.args.store.now) linked fits c.requires.1.0.shaped),
+                              subst (λ (wants : List Want). (wants ≡ [] → ⊥) → HasRoom (g.S.Store.kept c.room_for.new.store) wants (g.S.Store.granted c.room_for.new.store)) c.requires.1.1.1.1.1.1.1.1.0
+                                  c.in_ok-room_for.ensures.room,
                               (
-                                λ one other. ap (λ (allows : ℕ → ℕ → Bool). allows one other) c.room_for.ensures.allows ∙ c.requires.1.0.pairs one other,
+                                subst (MayMake program) (sym c.room_for.ensures.shapes) (c.linked_makes.ensures.makes program shapes linked fits c.requires.1.0.shaped),
                                 (
-                                  c.in_ok-room_for.ensures.collected.closed,
+                                  subst (MayHold program) (sym c.room_for.ensures.shapes) (c.linked_makes.ensures.holds program shapes linked fits c.requires.1.0.shaped),
                                   (
-                                    tables_there program (g.S.Store.index c.room_for.new.store) (g.S.Store.kept c.room_for.new.store) c.room_for.new.roots.roots g.given.0 typed_middle,
-                                    kinds_there program middle g.given.0 typed_middle,
+                                    λ one other. ap (λ (allows : ℕ → ℕ → Bool). allows one other) c.room_for.ensures.allows ∙ c.requires.1.0.pairs one other,
+                                    (
+                                      c.in_ok-room_for.ensures.collected.closed,
+                                      (
+                                        tables_there program (g.S.Store.index c.room_for.new.store) (g.S.Store.kept c.room_for.new.store) c.room_for.new.roots.roots g.given.0 typed_middle,
+                                        kinds_there program middle g.given.0 typed_middle,
+                                      ),
+                                    ),
                                   ),
                                 ),
                               ),

@@ -86,6 +86,8 @@ returns-in-Err-clause-ended g c =
     ends_at g.S.Store.rules machine g.full c.args.steps c.loop-made.made first view later (g.S.Store.facts c.loop-made.store) (g.S.Store.facts c.turns.new.store)
     (g.O.Sink.taken c.args.out.now) (g.O.Sink.taken c.loop-made.out) (g.O.Sink.taken c.turns.new.out) now.ran c.in-Err.stop c.stopped.result now.low
     (λ turn. omega (arith, c.loop-made-test.true))
+    (λ own is. made_closed machine c.requires.1.1.0.linked c.requires.1.1.0.fits (after machine c.loop-made.made g.full) own
+    (after_typed machine c.requires.1.1.0.linked c.requires.1.1.0.fits c.loop-made.made g.full c.requires.1.1.1.0) is)
     (subst (λ (limit : ℕ). TurnStops g.S.Store.rules (machine_of c.args.program.now limit) c.in-Err.stop
     (moment_of view (outside_of (after (machine_of c.args.program.now limit) c.loop-made.made g.full)) (g.S.Store.facts c.loop-made.store))
     (moment_of later (outside_of (after (machine_of c.args.program.now limit) c.loop-made.made g.full)) (g.S.Store.facts c.turns.new.store))) now.limit c.in-Err.ensures.stopped)
@@ -157,7 +159,10 @@ returns-in-Some-clause-ended g c =
     c.loop-made.roots.roots c.in-Some.stop (sym c.ended.ensures ∙ c.in-Some.is) in
     ends_at g.S.Store.rules machine g.full c.args.steps c.loop-made.made first view view (g.S.Store.facts c.loop-made.store) (g.S.Store.facts c.loop-made.store)
     (g.O.Sink.taken c.args.out.now) (g.O.Sink.taken c.loop-made.out) (g.O.Sink.taken c.loop-made.out) now.ran c.in-Some.stop c.stopped-in-Some.result now.low
-    (λ turn. absurd (ended.1 turn)) (stops_turn g.S.Store.rules machine c.in-Some.stop before ended.0)
+    (λ turn. absurd (ended.1 turn))
+    (λ own is. made_closed machine c.requires.1.1.0.linked c.requires.1.1.0.fits (after machine c.loop-made.made g.full) own
+    (after_typed machine c.requires.1.1.0.linked c.requires.1.1.0.fits c.loop-made.made g.full c.requires.1.1.1.0) is)
+    (stops_turn g.S.Store.rules machine c.in-Some.stop before ended.0)
     (stays_silent machine before.state c.in-Some.stop (g.O.Sink.taken c.loop-made.out) ended.1) c.stopped-in-Some.ensures.is
 
 pub returns-in-Some-clause-counted : goal.returns-in-Some-clause-counted

@@ -9,7 +9,7 @@ returns-then-makes_kept-clause-frames g c =
     ap (map (read_frame (g.S.Store.index c.run_kept.new.store))) c.run_kept.ensures.frames
     ∙ ap (λ (roots : Roots). roots.frames)
     (c.closes_again.ensures.reads (g.S.Store.kept c.args.store.now) (g.S.Store.index c.args.store.now) (g.S.Store.index c.run_kept.new.store) c.run_kept.ensures.places c.args.roots.now.roots
-    c.requires.1.1.1.1.1.1.1.1.1.0.roots)
+    c.requires.1.1.1.1.1.1.1.1.1.1.1.0.roots)
 
 pub returns-else-makes_kept-clause-made : goal.returns-else-makes_kept-clause-made
 returns-else-makes_kept-clause-made g c =
@@ -18,11 +18,11 @@ returns-else-makes_kept-clause-made g c =
     (g.S.Store.facts c.args.store.now) (record { roots = roots; objects = g.S.Store.kept c.run_beside.new.store }) (g.S.Store.facts c.run_beside.new.store)
     (given_back (g.S.Store.index c.run_beside.new.store) c.run_beside.result))
     (sym (c.closes_again.ensures.reads (g.S.Store.kept c.args.store.now) (g.S.Store.index c.args.store.now) (g.S.Store.index c.run_beside.new.store) c.run_beside.ensures.places c.args.roots.now.roots
-    c.requires.1.1.1.1.1.1.1.1.1.0.roots))
+    c.requires.1.1.1.1.1.1.1.1.1.1.1.0.roots))
     (c.run_beside.ensures.made view.roots)
 
 pub returns-else-makes_kept-clause-frames : goal.returns-else-makes_kept-clause-frames
 returns-else-makes_kept-clause-frames g c =
     ap (λ (roots : Roots). roots.frames)
     (c.closes_again.ensures.reads (g.S.Store.kept c.args.store.now) (g.S.Store.index c.args.store.now) (g.S.Store.index c.run_beside.new.store) c.run_beside.ensures.places c.args.roots.now.roots
-    c.requires.1.1.1.1.1.1.1.1.1.0.roots)
+    c.requires.1.1.1.1.1.1.1.1.1.1.1.0.roots)

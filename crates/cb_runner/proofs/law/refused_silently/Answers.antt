@@ -1,13 +1,13 @@
-use Rattle.std.proofs.Common.{◌≡◌, ◌⊎◌, inl, inr, ℕ, List, [], Option, Some, None, refl, sym, ◌∙◌, ap}
+use Rattle.std.proofs.Common.{◌≡◌, ◌⊎◌, inl, inr, ℤ, ℕ, List, [], Option, Some, None, refl, sym, ◌∙◌, ap}
 use Rattle.cb_io.specs.Folder.{Files}
 use Rattle.cb_link.specs.Program.{Linked}
-use Rattle.cb_runner.specs.declared.cause.Cause.TheVariants.{BudgetSpent, HeapFull, NotYet, Refused, Returned, Uncaught}
+use Rattle.cb_runner.specs.declared.cause.Cause.TheVariants.{BudgetSpent, Exited, HeapFull, NotYet, Refused, Returned, Uncaught}
 use Rattle.cb_runner.specs.Answer.{EndsIn}
 use Rattle.cb_runner.specs.Asm.{AssemblesText, TooLong, Assembled, Bad}
 use Rattle.cb_runner.specs.Ending.{Ending}
 use Rattle.cb_runner.specs.List.{ListsBytes, ListsFile, OfVersion, OfNoClass, OfItem, Listed}
 use Rattle.cb_runner.specs.Run.{RunsClass, Stopped, Typed, Untyped}
-use Rattle.cb_runner.specs.Running.{EndsBegun, EndsRun, Returns, Throws, Spends, Fills, LeavesOut}
+use Rattle.cb_runner.specs.Running.{EndsBegun, EndsRun, Exits, Returns, Throws, Spends, Fills, LeavesOut}
 use Rattle.cb_runner.specs.Words.{Command, Run, RunIn, ListOf, Assemble}
 use Rattle.cb_runner.proofs.Laws.{cause_whole, cut_cause, cut_whole}
 use Rattle.cb_runner.proofs.law.refused_silently.Goals as goal
@@ -19,6 +19,9 @@ unrefused ending other is returned refused = let no : Returned ≡ Refused = sym
 -- nor is a run of a program
 other_cause : (ending other : Ending) → ending ≡ other → ending.cause ≡ Refused → other.cause ≡ Refused
 other_cause ending other is refused = sym (ap (λ e. e.cause) is) ∙ refused
+
+exited_apart : (status : ℤ) → Exited status ≡ Refused → ⊥
+exited_apart status is = cc
 
 uncaught_apart : (class : ℕ) → Uncaught class ≡ Refused → ⊥
 uncaught_apart class is = cc
@@ -34,6 +37,7 @@ undone_apart is = cc
 
 begun_unrefused : (run : Run) (program : Linked) (ending : Ending) → EndsBegun run program ending → ending.cause ≡ Refused → ⊥
 begun_unrefused run program ending (Returns count within had returns is) refused = unrefused ending _ is refl refused
+begun_unrefused run program ending (Exits count status within had exits is) refused = exited_apart status (other_cause ending _ is refused)
 begun_unrefused run program ending (Throws count serial object units within had throws there tells is) refused = uncaught_apart object.kind (other_cause ending _ is refused)
 begun_unrefused run program ending (Spends had runs is) refused = spent_apart (other_cause ending _ is refused)
 begun_unrefused run program ending (Fills count below had fills is) refused = full_apart (other_cause ending _ is refused)

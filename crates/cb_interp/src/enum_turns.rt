@@ -1,0 +1,110 @@
+// Turns of a run in which `Enum.valueOf` is performed (Java SE 8 API, java.lang.Enum).
+ghost use Rattle.std.specs.Prelude.{◌≡◌, ◌<◌, ◌≤◌, [], ◌∷◌, false, length, true, IfErr, IsErrOf, OnOk, Some};
+ghost use Rattle.cb_act.specs.Acting.{Asks, acted};
+ghost use Rattle.cb_act.specs.Here.{Here};
+ghost use Rattle.cb_act.specs.Turning.{Outside, TurnMade, machine_of, moment_of, state_of};
+ghost use Rattle.cb_act.specs.declared.need.Need.TheVariants as needs;
+ghost use Rattle.cb_frames.specs.Limited.{with_roots};
+ghost use Rattle.cb_frames.specs.Tops.{top_stack};
+ghost use Rattle.cb_heap.specs.Reading.{seen};
+ghost use Rattle.cb_heap.specs.declared.no_room.NoRoom.TheVariants as rooms;
+ghost use Rattle.cb_io.specs.Faults.{CountsFaults};
+ghost use Rattle.cb_library.specs.declared.native.Native.TheVariants as natives;
+ghost use Rattle.cb_machine.specs.Natives.{native_of};
+ghost use Rattle.cb_natives.specs.Enums.{finds};
+ghost use Rattle.cb_interp.specs.Answering.{behind_answer};
+ghost use Rattle.cb_interp.specs.Printing.{IsNoneOf};
+ghost use Rattle.cb_interp.specs.Running.{MayRun, StopsBy};
+ghost use Rattle.cb_interp.specs.declared.stop.Stop.TheVariants as stops;
+
+use crate::Stop;
+use crate::answer_turns::{argument_count, arguments_on};
+use crate::frame_turns::begins_class;
+use crate::linked::{linked_constants, linked_programs_fit};
+use crate::need_turns::throw_of;
+use cb_act::give_for;
+use cb_frames::Roots;
+use cb_heap::Store;
+use cb_library::Native;
+use cb_link::{Decoded, Program};
+use cb_natives::{EnumAnswer, find_constant, native_of};
+use cb_plain::{Request, Value};
+use cb_safety::linked_has_natives;
+
+/// Whether a method is the native that finds a constant of an enum by its name.
+pub(crate) fn finding(program: &Program, method: u32) -> bool
+    requires { method < length program.now.methods }
+    ensures is { result ≡ true → native_of program.now method ≡ Some natives.EnumValueOf }
+    ensures other { result ≡ false → IsNoneOf finds program.now method }
+{
+    matches!(native_of(program, method), Some(Native::EnumValueOf))
+}
+
+/// A turn in which this native is performed, for which the instruction at the topmost frame's place asks: the constant stands on the stack in
+/// place of the arguments, or an exception is thrown, or the class of the enum begins to be initialised, and behind that the call is made
+/// again. Takes time in the names of the enum's constants.
+pub(crate) fn enum_turn<S: Store>(
+    program: &Program,
+    store: &mut S,
+    roots: &mut Roots,
+    request: &mut Request,
+    decoded: &Decoded,
+    method: u32,
+) -> Result<(), Stop>
+    ghost outside: { Outside }
+    requires runs { MayRun program.now (S.shapes store.old) (S.knows store.old)
+        (S.allows store.old) (state_of (seen (S.index store.old)
+        (S.kept store.old) roots.old.roots) outside) }
+    requires open { S.FIXED ≡ false }
+    requires here { Here (machine_of program.now roots.old.limit) (state_of (seen
+        (S.index store.old) (S.kept store.old) roots.old.roots) outside) decoded.now }
+    requires asked { acted program.now roots.old.limit decoded.now (seen (S.index store.old)
+        (S.kept store.old) roots.old.roots) ≡ Some (Asks (needs.Performs method)) }
+    requires native { native_of program.now method ≡ Some natives.EnumValueOf }
+    ensures made { OnOk result (TurnMade S.rules (machine_of program.now roots.old.limit) (moment_of
+        (seen (S.index store.old) (S.kept store.old) roots.old.roots) outside (S.facts store.old))
+        (moment_of (seen (S.index store.new) (S.kept store.new) roots.new.roots) outside
+        (S.facts store.new))) }
+    ensures stopped { IfErr result (λ stop. StopsBy S.rules
+        (machine_of program.now roots.old.limit) stop (moment_of (seen (S.index store.old)
+        (S.kept store.old) roots.old.roots) outside (S.facts store.old)) (moment_of (seen
+        (S.index store.new) (S.kept store.new) roots.new.roots) outside (S.facts store.new))) }
+    ensures counted { CountsFaults (S.faults store.old) (S.faults store.new) (IsErrOf result
+        (stops.NoRoom rooms.ReportFault)) }
+    ensures limit { roots.new.limit ≡ roots.old.limit }
+    ensures knows { S.knows store.new ≡ S.knows store.old }
+    ensures allows { S.allows store.new ≡ S.allows store.old }
+    ensures shapes { S.shapes store.new ≡ S.shapes store.old }
+{
+    linked_programs_fit();
+    linked_constants();
+    linked_has_natives();
+    let _ = method;
+    let count = argument_count(program, decoded);
+    let arguments = arguments_on(roots, count);
+    match find_constant(program, store, roots, &arguments[..count as usize]) {
+        EnumAnswer::Gives(value) => {
+            let Some(next) = decoded.next else {
+                unreachable!()
+            };
+            leave_value(roots, count, value, next);
+            Ok(())
+        }
+        EnumAnswer::Throws(exception) => {
+            throw_of(program, store, roots, request, exception.site())
+        }
+        EnumAnswer::Begins(class) => begins_class(program, store, roots, request, class),
+    }
+}
+
+/// Lays a value on the stack in place of so many arguments, and goes on at a place.
+fn leave_value(roots: &mut Roots, count: u32, value: Value, next: u32)
+    requires some { 0 < count }
+    requires few { count ≤ 5 }
+    requires there { count ≤ length (top_stack roots.old.roots) }
+    ensures { roots.new ≡ with_roots roots.old (behind_answer count (value ∷ []) next
+        roots.old.roots) }
+{
+    give_for(roots, count - 1, value);
+    roots.set_place(next);
+}
