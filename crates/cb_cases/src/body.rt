@@ -102,6 +102,5 @@ fn was_run(cause: Cause) -> bool {
             | Cause::Uncaught(_)
             | Cause::BudgetSpent
             | Cause::HeapFull
-            | Cause::NotYet
     )
 }

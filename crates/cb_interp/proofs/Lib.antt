@@ -1,9 +1,6 @@
 mod EnumTurns
 mod FieldsFew
 mod Grown
-mod LeavingAsks
-mod LeavingCalls
-mod LeavingNatives
 mod LinkedConstants
 mod LinkedFew
 mod LinkedFit
@@ -13,11 +10,15 @@ mod MadeActions
 mod MadeNames
 mod MakingSteps
 mod NativesAnswered
+mod NativesAsked
+mod NativesCalled
 mod NativesCopied
 mod NativesGiven
 mod NativesLaid
 mod NativesLeft
 mod NativesMade
+mod NativesPrinting
+mod NativesRead
 mod QuickPlaces
 mod QuickPlain
 mod QuickSteps
@@ -26,6 +27,8 @@ mod RunCounts
 mod RunHere
 mod RunLoop
 mod RunQuick
+mod RunReads
+mod RunStrays
 mod RunTurns
 mod RunTyped
 mod SuitedCalls
@@ -48,6 +51,7 @@ mod TurnsNative
 mod TurnsNativeExit
 mod TurnsNativeGc
 mod TurnsNativePrint
+mod TurnsNativeRead
 mod TurnsNativeSaid
 mod TurnsNativeString
 mod TurnsNativeText

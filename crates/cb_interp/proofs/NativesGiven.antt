@@ -13,7 +13,7 @@ use Rattle.cb_link.specs.Program.{Linked}
 use Rattle.cb_machine.specs.Library as library
 use Rattle.cb_machine.specs.Machine.{Machine}
 use Rattle.cb_machine.specs.Performing.{reference_at}
-use Rattle.cb_natives.specs.Given.{AClass, AConstant, ABox, ABuilder, ALong, ALongBox, AText, AThrowable, AnInt, AnObject, AreGiven, Bytes, Characters, HasCore, HasText, HoldsInt, HoldsUnits, IsGiven, IsReference, IsThere, IsUnit, Role, has_sort, have_sorts, referred_word, roles, sort_of_role, sorts_of}
+use Rattle.cb_natives.specs.Given.{AClass, AConstant, ABox, ABuilder, ALong, ALongBox, AText, AThrowable, AnInt, AnObject, AreGiven, Bytes, Characters, HasCore, HasText, HoldsBytes, HoldsInt, HoldsUnits, IsGiven, IsReference, IsThere, IsUnit, Role, has_sort, have_sorts, referred_word, roles, sort_of_role, sorts_of}
 use Rattle.cb_plain.specs.State.{Content, Number, Object, Reference, State}
 use Rattle.cb_plain.specs.Updates.{object_in}
 use Rattle.cb_plain.specs.declared.value.Value.{Value}
@@ -309,6 +309,23 @@ module _ (machine : Machine) (state : State) (has : HasNatives machine.program) 
       kept_held zero kept = refl
       kept_held (suc place) kept = kept
 
+  -- ---- bytes
+
+  byte_words : (serial : ℕ) (array : Object) → object_in state.objects serial ≡ Some array → holds_kind program array.kind (bytes program) ≡ true
+      → IsObject program kinds array → HoldsBytes state.objects serial
+  byte_words serial array there goes is =
+      let element = array_elements machine state has typed runs (bytes program) basics.Byte array refl has.core.byte_elements goes in
+      let contents = contents_there state.objects serial array there in
+      let few = is.few basics.Byte element in
+      record {
+        there = kept_there state.objects serial array there;
+        numbers = λ place low.
+            let own : Holds program kinds array.contents place basics.Byte = is.elements basics.Byte place element (subst (λ (contents : List Content). place < length contents) contents low) in
+            let one = is_number_of program kinds basics.Byte own.content refl own.fits in
+            ap is_number (ap (λ (contents : List Content). slice_get contents place) contents ∙ own.there ∙ ap (λ (content : Content). Some content) one.1);
+        few = omega (arith, few, ap (λ (contents : List Content). length contents) contents);
+      }
+
   text_so : (serial : ℕ) (own : Object) → object_in state.objects serial ≡ Some own → HasArray program state own → HasText state.objects serial
   text_so serial own there array = by array where
     word : (other : ℕ) → reference_at own 0 ≡ Some other → content_at state.objects serial 0 ≡ Some (Reference other)
@@ -385,7 +402,7 @@ module _ (machine : Machine) (state : State) (has : HasNatives machine.program) 
     role_given role type value Fits.Chars (HasType.AReference same serial refers) =
         refers_so (characters program) serial Characters (as_own (characters program) serial refers) (λ it there is goes. array_units serial it there goes is)
     role_given role type value Fits.ByteArrays (HasType.AReference same serial refers) =
-        refers_so (bytes program) serial Bytes (as_own (bytes program) serial refers) (λ it there is goes. kept_there state.objects serial it there)
+        refers_so (bytes program) serial Bytes (as_own (bytes program) serial refers) (λ it there is goes. byte_words serial it there goes is)
     role_given role type value Fits.IntBoxes (HasType.AReference same serial refers) =
         refers_so library.integer serial (ABox basics.Int) (as_own library.integer serial refers)
         (λ it there is goes. int_so library.integer 0 serial basics.Int it has.core.integers int_short refl there is goes)

@@ -49,8 +49,8 @@ report_ends view stops.Uncaught end is same = absurd (cc same)
 report_ends view (stops.NoRoom (rooms.Full live asked limit)) end is same = absurd (cc same)
 report_ends view (stops.NoRoom rooms.ReportFault) end is same = is
 report_ends view (stops.NoRoom rooms.OutOfMemory) end is same = absurd (cc same)
+report_ends view stops.InputFault end is same = absurd (cc same)
 report_ends view stops.OutputFault end is same = absurd (cc same)
-report_ends view stops.NotYet end is same = absurd (cc same)
 
 pub report_stops : (view : View) (stop : Stop) (end : End) → IsEndOf view stop end → end ≡ ends.ReportFault → stop ≡ stops.NoRoom rooms.ReportFault
 report_stops view stops.Returned end is same = absurd (cc (is, same))
@@ -59,16 +59,16 @@ report_stops view stops.Uncaught end (class, at, is, kind) same = absurd (cc (is
 report_stops view (stops.NoRoom (rooms.Full live asked limit)) end is same = absurd (cc (is, same))
 report_stops view (stops.NoRoom rooms.ReportFault) end is same = refl
 report_stops view (stops.NoRoom rooms.OutOfMemory) end is same = absurd (cc (is, same))
+report_stops view stops.InputFault end is same = absurd (cc (is, same))
 report_stops view stops.OutputFault end is same = absurd (cc (is, same))
-report_stops view stops.NotYet end is same = absurd (cc (is, same))
 
 pub output_ends : (view : View) (stop : Stop) (end : End) → IsEndOf view stop end → stop ≡ stops.OutputFault → end ≡ ends.OutputFault
 output_ends view stops.Returned end is same = absurd (cc same)
 output_ends view (stops.Exited status) end is same = absurd (cc same)
 output_ends view stops.Uncaught end is same = absurd (cc same)
 output_ends view (stops.NoRoom reason) end is same = absurd (cc same)
+output_ends view stops.InputFault end is same = absurd (cc same)
 output_ends view stops.OutputFault end is same = is
-output_ends view stops.NotYet end is same = absurd (cc same)
 
 pub output_stops : (view : View) (stop : Stop) (end : End) → IsEndOf view stop end → end ≡ ends.OutputFault → stop ≡ stops.OutputFault
 output_stops view stops.Returned end is same = absurd (cc (is, same))
@@ -77,5 +77,34 @@ output_stops view stops.Uncaught end (class, at, is, kind) same = absurd (cc (is
 output_stops view (stops.NoRoom (rooms.Full live asked limit)) end is same = absurd (cc (is, same))
 output_stops view (stops.NoRoom rooms.ReportFault) end is same = absurd (cc (is, same))
 output_stops view (stops.NoRoom rooms.OutOfMemory) end is same = absurd (cc (is, same))
+output_stops view stops.InputFault end is same = absurd (cc (is, same))
 output_stops view stops.OutputFault end is same = refl
-output_stops view stops.NotYet end is same = absurd (cc (is, same))
+
+-- and for what is read
+pub input_ends : (view : View) (stop : Stop) (end : End) → IsEndOf view stop end → stop ≡ stops.InputFault → end ≡ ends.InputFault
+input_ends view stops.Returned end is same = absurd (cc same)
+input_ends view (stops.Exited status) end is same = absurd (cc same)
+input_ends view stops.Uncaught end is same = absurd (cc same)
+input_ends view (stops.NoRoom reason) end is same = absurd (cc same)
+input_ends view stops.OutputFault end is same = absurd (cc same)
+input_ends view stops.InputFault end is same = is
+
+pub input_stops : (view : View) (stop : Stop) (end : End) → IsEndOf view stop end → end ≡ ends.InputFault → stop ≡ stops.InputFault
+input_stops view stops.Returned end is same = absurd (cc (is, same))
+input_stops view (stops.Exited status) end is same = absurd (cc (is, same))
+input_stops view stops.Uncaught end (class, at, is, kind) same = absurd (cc (is, same))
+input_stops view (stops.NoRoom (rooms.Full live asked limit)) end is same = absurd (cc (is, same))
+input_stops view (stops.NoRoom rooms.ReportFault) end is same = absurd (cc (is, same))
+input_stops view (stops.NoRoom rooms.OutOfMemory) end is same = absurd (cc (is, same))
+input_stops view stops.OutputFault end is same = absurd (cc (is, same))
+input_stops view stops.InputFault end is same = refl
+
+pub uncaught_stops : (view : View) (stop : Stop) (end : End) (class at : ℕ) → IsEndOf view stop end → end ≡ ends.Uncaught class at → stop ≡ stops.Uncaught
+uncaught_stops view stops.Uncaught end class at is same = refl
+uncaught_stops view (stops.NoRoom (rooms.Full live asked limit)) end class at is same = absurd (cc (is, same))
+uncaught_stops view (stops.NoRoom rooms.ReportFault) end class at is same = absurd (cc (is, same))
+uncaught_stops view (stops.NoRoom rooms.OutOfMemory) end class at is same = absurd (cc (is, same))
+uncaught_stops view stops.Returned end class at is same = absurd (cc (is, same))
+uncaught_stops view (stops.Exited status) end class at is same = absurd (cc (is, same))
+uncaught_stops view stops.InputFault end class at is same = absurd (cc (is, same))
+uncaught_stops view stops.OutputFault end class at is same = absurd (cc (is, same))

@@ -1,7 +1,8 @@
 -- Runs that have made so many turns, and how they end.
-use Rattle.std.proofs.Common.{◌≡◌, ◌∙◌, ◌++◌, ◌<◌, ◌≤◌, ap, append_assoc, append-nil, arith, refl, sym, subst, ℤ, ℕ, ◌==◌, if◌then◌else◌, IsTrue, List, [], ◌∷◌, Option, Some, None, zero, suc}
+use Rattle.std.proofs.Common.{◌≡◌, ◌∙◌, ◌++◌, ◌<◌, ◌≤◌, ap, append_assoc, append-nil, arith, refl, sym, subst, ℤ, ℕ, ◌==◌, if◌then◌else◌, Bool, true, false, IfSome, IsTrue, List, [], ◌∷◌, Option, Some, None, zero, suc}
 use Rattle.std.proofs.lemmas.Option.{same_Some}
-use Rattle.std.specs.Io.KnownBytes.{Appends}
+use Rattle.std.specs.Io.KnownBytes.{Appends, Consumes, Keeps}
+use Rattle.std.proofs.KnownBytes.{Keeps-refl}
 use Rattle.std.specs.Prelude.{option_map}
 use Rattle.cb_heap.proofs.Laws.{same_object}
 use Rattle.cb_heap.specs.Closed.{IsClosed}
@@ -15,8 +16,10 @@ use Rattle.cb_machine.specs.Runs.{after, next, outcome}
 use Rattle.cb_machine.specs.Steps.{plan}
 use Rattle.cb_machine.specs.declared.outcome.Outcome.TheVariants as outcomes
 use Rattle.cb_plain.specs.State.{Frame, Object, Roots, State}
-use Rattle.cb_plain.specs.Updates.{object_at, object_in}
-use Rattle.cb_interp.specs.Running.{Ended, EndsBy, IsEndOf, Prints, SaysBy, StopsBy, TurnStops, Turned, WentOut, exited, has_ended, last_of, outside_of}
+use Rattle.cb_plain.specs.Updates.{object_at, object_in, with_input}
+use Rattle.cb_natives.specs.Input.{Loses}
+use Rattle.cb_interp.specs.Reading.{LosesBy, TakesInput, are_bytes, as_bytes}
+use Rattle.cb_interp.specs.Running.{Ended, EndsBy, IsEndOf, LeavesAt, Prints, SaysBy, StopsBy, TurnStops, WentOut, exited, has_ended, last_of, outside_of}
 use Rattle.cb_act.specs.Steps.{view_of}
 use Rattle.cb_act.specs.Turning.{Moment, Outside, StandsAt, TurnMade, Turns, moment_of}
 use Rattle.cb_interp.specs.declared.end.End.{End}
@@ -33,9 +36,28 @@ appends_more (Some bytes) None third front back one other = absurd one
 appends_more (Some bytes) (Some more) None front back one other = absurd other
 appends_more (Some bytes) (Some more) (Some most) front back one other = other ∙ ap (λ more. more ++ back) one ∙ append_assoc bytes front back
 
+-- an input that tells its bytes has those of the machine
+told_first : (input : List ℕ) (left : Option (List ℕ)) → IfSome (as_bytes left) (λ bytes. input ≡ bytes) → IfSome (as_bytes left) (λ bytes. left ≡ Some input)
+told_first input None told = tt
+told_first input (Some left) told = go (are_bytes left) told where
+  go : (test : Bool) → IfSome (if test then Some left else None) (λ bytes. input ≡ bytes) → IfSome (if test then Some left else None) (λ bytes. ◌≡◌ {A = Option (List ℕ)} (Some left) (Some input))
+  go true told = ap (λ (input : List ℕ). Some input) (sym told)
+  go false told = tt
+
 pub same_outside : (outside : Outside) (state : State) → outside.input ≡ state.input → outside.printed ≡ state.printed → outside ≡ outside_of state
 same_outside outside state input printed =
     ap (λ input. record { input = input; printed = outside.printed }) input ∙ ap (λ printed. record { input = state.input; printed = printed }) printed
+
+kept_known : (leave : Option (List ℕ)) (input : List ℕ) → Keeps (Some input) leave → leave ≡ Some input
+kept_known None input keeps = absurd keeps
+kept_known (Some bytes) input keeps = ap (λ (bytes : List ℕ). Some bytes) keeps
+
+part_known : (leave : Option (List ℕ)) (input front : List ℕ) → Consumes (Some input) leave front → LeavesAt ends.InputFault input leave
+part_known None input front consumes = absurd consumes
+part_known (Some bytes) input front consumes = (front, bytes, consumes, refl)
+
+pub told_on : (known leaves : Option (List ℕ)) (one other : List ℕ) → one ≡ other → IfSome known (λ bytes. leaves ≡ Some one) → IfSome known (λ bytes. leaves ≡ Some other)
+told_on known leaves one other same told = subst (λ (input : List ℕ). IfSome known (λ bytes. leaves ≡ Some input)) same told
 
 -- a stop that comes where another turn would be made
 abbrev pub takes_turn : Stop → Type 0
@@ -49,37 +71,20 @@ module _ {Facts : Type 0} (rules : Rules Facts) (machine : Machine) (full : Stat
   moment_at number view facts = moment_of view (outside_of (after machine number full)) facts
 
   -- so many turns were made, and what their steps print went out
-  pub record Ran (number : ℕ) (first : Moment Facts) (view : View) (facts : Facts) (taken takes : Option (List ℕ)) : Type 0 where
+  pub record Ran (number : ℕ) (first : Moment Facts) (view : View) (facts : Facts) (taken takes left leaves : Option (List ℕ)) : Type 0 where
     pub turns : Turns rules machine number first (moment_at number view facts)
     pub stands : StandsAt (moment_at number view facts) (after machine number full)
     pub said : List ℕ
     pub grows : (after machine number full).printed ≡ full.printed ++ said
     pub appends : Appends taken takes said
+    pub told : IfSome (as_bytes left) (λ bytes. leaves ≡ Some (after machine number full).input)
+    pub read : List ℕ
+    pub whole : full.input ≡ read ++ (after machine number full).input
 
-  pub ran_none : (view : View) (facts : Facts) (taken : Option (List ℕ)) → StandsAt (moment_of view (outside_of full) facts) full
-      → Ran 0 (moment_of view (outside_of full) facts) view facts taken taken
-  ran_none view facts taken stands = record { turns = refl; stands = stands; said = []; grows = sym (append-nil full.printed); appends = appends_none taken }
-
-  pub ran_more : (number : ℕ) (first : Moment Facts) (view later : View) (facts now : Facts) (taken takes took : Option (List ℕ))
-      → Ran number first view facts taken takes → Turned rules machine (outside_of (after machine number full)) view later facts now takes took
-      → ((own : Plan) → plan machine (after machine number full) ≡ Some own → IsClosed (view_of (made own)))
-      → Ran (suc number) first later now taken took
-  ran_more number first view later facts now taken takes took ran turned closed =
-      let here : State = after machine number full in
-      let came : after machine (suc number) full ≡ next machine here = after_one_more rules machine number full in
-      let stands : StandsAt (moment_of later turned.next now) (after machine (suc number) full) =
-      subst (StandsAt (moment_of later turned.next now)) (sym came)
-      (turn_stands rules machine (moment_at number view facts) (moment_of later turned.next now) here turned.made ran.stands closed) in
-      let outside : turned.next ≡ outside_of (after machine (suc number) full) =
-      same_outside turned.next (after machine (suc number) full) (ap (λ (state : State). state.input) stands.same) (ap (λ (state : State). state.printed) stands.same) in
-      record {
-        turns = (moment_at number view facts, ran.turns, subst (λ next. TurnMade rules machine (moment_at number view facts) (moment_of later next now)) outside turned.made);
-        stands = subst (λ next. StandsAt (moment_of later next now) (after machine (suc number) full)) outside stands;
-        said = ran.said ++ turned.said;
-        grows = sym (ap (λ (outside : Outside). outside.printed) outside) ∙ turned.grows ∙ ap (λ printed. printed ++ turned.said) ran.grows
-            ∙ append_assoc full.printed ran.said turned.said;
-        appends = appends_more taken takes took ran.said turned.said ran.appends turned.appends;
-      }
+  pub ran_none : (view : View) (facts : Facts) (taken left : Option (List ℕ)) → StandsAt (moment_of view (outside_of full) facts) full → IfSome (as_bytes left) (λ bytes. full.input ≡ bytes)
+      → Ran 0 (moment_of view (outside_of full) facts) view facts taken taken left left
+  ran_none view facts taken left stands told =
+      record { turns = refl; stands = stands; said = []; grows = sym (append-nil full.printed); appends = appends_none taken; told = told_first full.input left told; read = []; whole = refl }
 
   -- while a run goes on, `exit` wasn't called
   pub never_exited : (number : ℕ) (view : View) (facts : Facts) → StandsAt (moment_at number view facts) (after machine number full) → (after machine number full).exit ≡ None
@@ -94,17 +99,18 @@ module _ {Facts : Type 0} (rules : Rules Facts) (machine : Machine) (full : Stat
       }) (never_exited number view facts stands)
 
   -- one turn more was made, and its step called it
-  pub exits_at : (budget number : ℕ) (status : ℤ) (first : Moment Facts) (view later : View) (facts now : Facts) (taken takes : Option (List ℕ))
-      → Ran number first view facts taken takes → number < budget → TurnMade rules machine (moment_at number view facts) (exited status (moment_at number later now))
+  pub exits_at : (budget number : ℕ) (status : ℤ) (first : Moment Facts) (view later : View) (facts now : Facts) (taken takes left leaves leave : Option (List ℕ))
+      → Ran number first view facts taken takes left leaves → IfSome (as_bytes left) (λ bytes. leave ≡ Some (after machine number full).input) → number < budget → TurnMade rules machine (moment_at number view facts) (exited status (moment_at number later now))
       → ((own : Plan) → plan machine (after machine number full) ≡ Some own → IsClosed (view_of (made own)))
-      → Ended rules machine budget (ends.Exited status) full first later now taken takes
-  exits_at budget number status first view later facts now taken takes ran low made closed =
+      → Ended rules machine budget (ends.Exited status) full first later now taken takes left leave
+  exits_at budget number status first view later facts now taken takes left leaves leave ran told low made closed =
       let here : State = after machine number full in
       let there : State = after machine (suc number) full in
       let last : Moment Facts = exited status (moment_at number later now) in
       let stands : StandsAt last there =
       subst (StandsAt last) (sym (after_one_more rules machine number full)) (turn_stands rules machine (moment_at number view facts) last here made ran.stands closed) in
       let printed : here.printed ≡ there.printed = ap (λ (state : State). state.printed) stands.same in
+      let input : here.input ≡ there.input = ap (λ (state : State). state.input) stands.same in
       let is : last_of later there now ≡ last =
       sym (ap (λ (state : State). record { state = record { roots = later.roots; objects = later.objects; input = state.input; printed = state.printed; exit = state.exit }; facts = now }) stands.same) in
       record {
@@ -117,6 +123,9 @@ module _ {Facts : Type 0} (rules : Rules Facts) (machine : Machine) (full : Stat
         said = ran.said;
         grows = sym printed ∙ ran.grows;
         out = ran.appends;
+        read = ran.read;
+        whole = ran.whole ∙ ap (λ (input : List ℕ). ran.read ++ input) input;
+        remains = told_on (as_bytes left) leave here.input there.input input told;
       }
 
   -- a step of what is kept prints what the step prints
@@ -132,6 +141,26 @@ module _ {Facts : Type 0} (rules : Rules Facts) (machine : Machine) (full : Stat
           steps = ap (option_map made) there;
           grows = ap (λ (plan : Plan). (made plan).printed) (sym same) ∙ ap (λ (state : State). state.printed) next ∙ prints.grows
               ∙ ap (λ (state : State). state.printed ++ more) stands.same;
+        }
+
+  -- and asks the input where it does
+  pub takes_whole : (moment : Moment Facts) (state : State) → StandsAt moment state → TakesInput machine moment.state → TakesInput machine state
+  takes_whole moment state stands takes = go (plan machine (with_input moment.state (0 ∷ []))) refl where
+    given : Moment Facts
+    given = record { state = with_input moment.state (0 ∷ []); facts = moment.facts }
+
+    stands_given : StandsAt given (with_input state (0 ∷ []))
+    stands_given = record { kept = stands.kept; same = ap (λ (state : State). with_input state (0 ∷ [])) stands.same; marks = stands.marks; keeping = record { count = stands.keeping.count; closed = stands.keeping.closed } }
+
+    go : (found : Option Plan) → plan machine (with_input moment.state (0 ∷ [])) ≡ found → TakesInput machine state
+    go None is = absurd (cc (sym (ap (option_map made) is) ∙ takes.steps))
+    go (Some own) is =
+        let (whole, there, same) = planned rules machine given (with_input state (0 ∷ [])) own stands_given is in
+        let next : made own ≡ takes.next = same_Some (made own) takes.next (sym (ap (option_map made) is) ∙ takes.steps) in
+        record {
+          next = made whole;
+          steps = ap (option_map made) there;
+          taken = ap (λ (plan : Plan). (made plan).input) (sym same) ∙ ap (λ (state : State). state.input) next ∙ takes.taken;
         }
 
   -- an object that is kept is that of the whole state
@@ -157,8 +186,8 @@ module _ {Facts : Type 0} (rules : Rules Facts) (machine : Machine) (full : Stat
   outcome_whole : (moment : Moment Facts) (state : State) → StandsAt moment state → outcome state ≡ outcome moment.state
   outcome_whole moment state stands = sym (ap outcome stands.same)
 
-  module _ (budget number : ℕ) (first : Moment Facts) (view later : View) (facts now : Facts) (taken takes took : Option (List ℕ))
-      (ran : Ran number first view facts taken takes) where
+  module _ (budget number : ℕ) (first : Moment Facts) (view later : View) (facts now : Facts) (taken takes took left leaves leave : Option (List ℕ))
+      (ran : Ran number first view facts taken takes left leaves) where
     abbrev pub here : State
     here = after machine number full
 
@@ -169,9 +198,23 @@ module _ {Facts : Type 0} (rules : Rules Facts) (machine : Machine) (full : Stat
     after_it = moment_at number later now
 
     ending : (end : End) → number ≤ budget → EndsBy rules machine budget number end here before after_it → WentOut machine end here ran.said taken took
-        → Ended rules machine budget end full first later now taken took
-    ending end within ends out =
-        record { count = number; within = within; before = before; turns = ran.turns; stands = ran.stands; ends = subst (EndsBy rules machine budget number end here before) (sym (last_at number view later facts now ran.stands)) ends; said = ran.said; grows = ran.grows; out = out }
+        → IfSome (as_bytes left) (λ bytes. LeavesAt end here.input leave) → Ended rules machine budget end full first later now taken took left leave
+    ending end within ends out remains =
+        record { count = number; within = within; before = before; turns = ran.turns; stands = ran.stands; ends = subst (EndsBy rules machine budget number end here before) (sym (last_at number view later facts now ran.stands)) ends; said = ran.said; grows = ran.grows; out = out; read = ran.read; whole = ran.whole; remains = remains }
+
+    -- what was told is left where no call of the input failed
+    remain : Keeps leaves leave → IfSome (as_bytes left) (λ bytes. leave ≡ Some here.input)
+    remain keeps = go (as_bytes left) ran.told where
+      go : (known : Option (List ℕ)) → IfSome known (λ bytes. leaves ≡ Some here.input) → IfSome known (λ bytes. leave ≡ Some here.input)
+      go None told = tt
+      go (Some bytes) told = kept_known leave here.input (subst (λ leaves. Keeps leaves leave) told keeps)
+
+    -- and else a part of it
+    remain_part : Loses leaves leave → IfSome (as_bytes left) (λ bytes. LeavesAt ends.InputFault here.input leave)
+    remain_part (front, consumes) = go (as_bytes left) ran.told where
+      go : (known : Option (List ℕ)) → IfSome known (λ bytes. leaves ≡ Some here.input) → IfSome known (λ bytes. LeavesAt ends.InputFault here.input leave)
+      go None told = tt
+      go (Some bytes) told = part_known leave here.input front (subst (λ leaves. Consumes leaves leave front) told consumes)
 
     same_out : took ≡ takes → Appends taken took ran.said
     same_out same = subst (λ took. Appends taken took ran.said) (sym same) ran.appends
@@ -182,40 +225,41 @@ module _ {Facts : Type 0} (rules : Rules Facts) (machine : Machine) (full : Stat
 
     pub ends_at : (stop : Stop) (end : End) → number ≤ budget → (takes_turn stop → number < budget)
         → ((own : Plan) → plan machine here ≡ Some own → IsClosed (view_of (made own))) → TurnStops rules machine stop before after_it
-        → SaysBy machine before.state stop takes took → IsEndOf later stop end → Ended rules machine budget end full first later now taken took
-    ends_at stops.Returned end within low closed (same, is) says is_end =
-        subst (λ end. Ended rules machine budget end full first later now taken took) (sym is_end)
-        (ending ends.Returned within (outcome_whole before here ran.stands ∙ is, same) (same_out says))
-    ends_at stops.Uncaught end within low closed (same, is) says (class, at, is_end, kind) =
-        subst (λ end. Ended rules machine budget end full first later now taken took) (sym is_end)
+        → SaysBy machine before.state stop takes took → LosesBy stop leaves leave → IsEndOf later stop end → Ended rules machine budget end full first later now taken took left leave
+    ends_at stops.Returned end within low closed (same, is) says lost is_end =
+        subst (λ end. Ended rules machine budget end full first later now taken took left leave) (sym is_end)
+        (ending ends.Returned within (outcome_whole before here ran.stands ∙ is, same) (same_out says) (remain lost))
+    ends_at stops.Uncaught end within low closed (same, is) says lost (class, at, is_end, kind) =
+        subst (λ end. Ended rules machine budget end full first later now taken took left leave) (sym is_end)
         (ending (ends.Uncaught class at) within (
           (outcome_whole before here ran.stands ∙ is ∙ ap (λ (state : State). outcomes.Uncaught state.roots.pending) ran.stands.same, same),
           whole_kind before here class ran.stands (subst (λ (moment : Moment Facts). option_map (λ (object : Object). object.kind) (object_in moment.state.objects moment.state.roots.pending) ≡ Some class) same kind),
         )
-        (same_out says))
-    ends_at (stops.NoRoom (rooms.Full live asked limit)) end within low closed refused says is_end =
-        subst (λ end. Ended rules machine budget end full first later now taken took) (sym is_end)
-        (ending (ends.HeapFull live asked limit) within (low tt, refused) (same_out says))
-    ends_at (stops.NoRoom rooms.ReportFault) end within low closed refused says is_end =
-        subst (λ end. Ended rules machine budget end full first later now taken took) (sym is_end)
-        (ending ends.ReportFault within (low tt, refused) (same_out says))
-    ends_at (stops.NoRoom rooms.OutOfMemory) end within low closed refused says is_end =
-        subst (λ end. Ended rules machine budget end full first later now taken took) (sym is_end)
-        (ending ends.OutOfMemory within (low tt, refused) (same_out says))
-    ends_at stops.OutputFault end within low closed same says is_end =
-        subst (λ end. Ended rules machine budget end full first later now taken took) (sym is_end)
-        (ending ends.OutputFault within (low tt, same) (cut_out says))
-    ends_at (stops.Exited status) end within low closed made says is_end =
-        subst (λ end. Ended rules machine budget end full first later now taken took) (sym is_end)
-        (subst (λ took. Ended rules machine budget (ends.Exited status) full first later now taken took) (sym says)
-        (exits_at budget number status first view later facts now taken takes ran (low tt) made closed))
-    ends_at stops.NotYet end within low closed (same, leaves) says is_end =
-        subst (λ end. Ended rules machine budget end full first later now taken took) (sym is_end)
-        (ending ends.NotYet within (low tt, same, leaves) (same_out says))
+        (same_out says) (remain lost))
+    ends_at (stops.NoRoom (rooms.Full live asked limit)) end within low closed refused says lost is_end =
+        subst (λ end. Ended rules machine budget end full first later now taken took left leave) (sym is_end)
+        (ending (ends.HeapFull live asked limit) within (low tt, refused) (same_out says) (remain lost))
+    ends_at (stops.NoRoom rooms.ReportFault) end within low closed refused says lost is_end =
+        subst (λ end. Ended rules machine budget end full first later now taken took left leave) (sym is_end)
+        (ending ends.ReportFault within (low tt, refused) (same_out says) (remain lost))
+    ends_at (stops.NoRoom rooms.OutOfMemory) end within low closed refused says lost is_end =
+        subst (λ end. Ended rules machine budget end full first later now taken took left leave) (sym is_end)
+        (ending ends.OutOfMemory within (low tt, refused) (same_out says) (remain lost))
+    ends_at stops.InputFault end within low closed takes says lost is_end =
+        subst (λ end. Ended rules machine budget end full first later now taken took left leave) (sym is_end)
+        (ending ends.InputFault within (low tt, takes_whole before here ran.stands takes) (same_out says) (remain_part lost))
+    ends_at stops.OutputFault end within low closed same says lost is_end =
+        subst (λ end. Ended rules machine budget end full first later now taken took left leave) (sym is_end)
+        (ending ends.OutputFault within (low tt, same) (cut_out says) (remain lost))
+    ends_at (stops.Exited status) end within low closed made says lost is_end =
+        subst (λ end. Ended rules machine budget end full first later now taken took left leave) (sym is_end)
+        (subst (λ took. Ended rules machine budget (ends.Exited status) full first later now taken took left leave) (sym says)
+        (exits_at budget number status first view later facts now taken takes left leaves leave ran (remain lost) (low tt) made closed))
 
-    pub ends_spent : number ≡ budget → outcome before.state ≡ outcomes.Running → after_it ≡ before → took ≡ takes → Ended rules machine budget ends.BudgetSpent full first later now taken took
-    ends_spent end goes same says =
-        ending ends.BudgetSpent (omega (arith, end)) ((outcome_whole before here ran.stands ∙ goes, same), end) (same_out says)
+    pub ends_spent : number ≡ budget → outcome before.state ≡ outcomes.Running → after_it ≡ before → took ≡ takes → Keeps leaves leave
+        → Ended rules machine budget ends.BudgetSpent full first later now taken took left leave
+    ends_spent end goes same says keeps =
+        ending ends.BudgetSpent (omega (arith, end)) ((outcome_whole before here ran.stands ∙ goes, same), end) (same_out says) (remain keeps)
 
 -- whether it has ended is told by the roots
 module _ {Facts : Type 0} (rules : Rules Facts) (machine : Machine) (index : ℕ → ℕ) (objects : List (Option Object)) (outside : Outside) (facts : Facts) where
@@ -270,13 +314,17 @@ stops_turn rules machine stops.Returned moment is = is
 stops_turn rules machine stops.Uncaught moment is = is
 stops_turn rules machine (stops.Exited status) moment is = absurd is
 stops_turn rules machine (stops.NoRoom reason) moment is = is
+stops_turn rules machine stops.InputFault moment is = absurd is
 stops_turn rules machine stops.OutputFault moment is = refl
-stops_turn rules machine stops.NotYet moment is = absurd is
 
 pub stays_silent : (machine : Machine) (state : State) (stop : Stop) (taken : Option (List ℕ)) → (takes_turn stop → ⊥) → SaysBy machine state stop taken taken
 stays_silent machine state stops.Returned taken never = refl
 stays_silent machine state stops.Uncaught taken never = refl
 stays_silent machine state (stops.Exited status) taken never = refl
 stays_silent machine state (stops.NoRoom reason) taken never = refl
+stays_silent machine state stops.InputFault taken never = refl
 stays_silent machine state stops.OutputFault taken never = absurd (never tt)
-stays_silent machine state stops.NotYet taken never = refl
+
+pub stays_kept : (stop : Stop) (left : Option (List ℕ)) → (takes_turn stop → ⊥) → LosesBy stop left left
+stays_kept stops.InputFault left never = absurd (never tt)
+stays_kept other left never = Keeps-refl left

@@ -31,7 +31,7 @@ use Rattle.cb_safety.specs.States.{IsTypedState}
 use Rattle.cb_shapes.specs.declared.sort.Sort.TheVariants as sorts
 use Rattle.cb_verify.specs.Typed.{IsTyped}
 use Rattle.cb_interp.specs.Answering.{argument_count, behind_answer}
-use Rattle.cb_interp.specs.Leaving.{exits}
+use Rattle.cb_interp.specs.Performed.{exits}
 use Rattle.cb_interp.specs.Running.{exited}
 use Rattle.cb_interp.proofs.NativesAnswered.{behind_read, count_there, enough, sorts_there, standing}
 use Rattle.cb_interp.proofs.NativesLeft.{left_goes, left_plan}

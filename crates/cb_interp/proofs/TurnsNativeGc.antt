@@ -25,7 +25,7 @@ use Rattle.cb_safety.specs.Performing.{HasNatives}
 use Rattle.cb_safety.specs.States.{IsTypedState}
 use Rattle.cb_verify.specs.Typed.{IsTyped}
 use Rattle.cb_interp.specs.Answering.{argument_count, behind_answer}
-use Rattle.cb_interp.specs.Leaving.{collects}
+use Rattle.cb_interp.specs.Performed.{collects}
 use Rattle.cb_interp.proofs.NativesAnswered.{answered_turn, count_there, goes_on, sorts_there, standing}
 use Rattle.cb_interp.proofs.TurnsNeed.{steps_on}
 

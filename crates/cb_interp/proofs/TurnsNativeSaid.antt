@@ -205,6 +205,7 @@ module _ (program : Linked) (index : ℕ → ℕ) (objects : List (Option Object
         made = quiet_turn rules machine (moment_of (seen index objects held) outside facts) (moment_of (seen index objects after) beyond facts)
             (leaving (printed_as printer.count (printer.text (top_stack state.roots)) pc state)) (printing.plans pc next) refl
             (ap (λ (roots : Roots). state_of (record { roots = roots; objects = objects }) beyond) (ap (read_roots index) left ∙ behind_read index printer.count pc held)) refl;
+        unread = refl;
         grows = refl;
         appends = subst (λ (units : List ℕ). Appends taken takes (utf8 units)) (sym same) appends;
       }

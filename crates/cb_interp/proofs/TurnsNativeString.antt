@@ -41,7 +41,7 @@ use Rattle.cb_interp.specs.Running.{MayRun, SaysBy, Turned}
 use Rattle.cb_act.specs.Turning.{Outside, machine_of, state_of}
 use Rattle.cb_act.specs.declared.need.Need.TheVariants as needs
 use Rattle.cb_interp.specs.declared.stop.Stop.TheVariants as stops
-use Rattle.cb_interp.proofs.LeavingCalls.{string_given}
+use Rattle.cb_interp.proofs.NativesCalled.{string_given}
 use Rattle.cb_interp.proofs.TurnsNativeSaid.{Printer, Printing, Said, Says, printed_part, printed_turn, printing, prints_so}
 
 -- ---- the array of a string's chars

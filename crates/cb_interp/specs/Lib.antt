@@ -3,14 +3,15 @@ pub mod Arguments
 pub mod Dividing
 pub mod Fit
 pub mod Initials
-pub mod Leaving
 pub mod Loading
 pub mod Making
 pub mod Needing
 pub mod Nested
+pub mod Performed
 pub mod Performing
 pub mod Printing
 pub mod Quick
+pub mod Reading
 pub mod Running
 pub mod Starting
 pub mod TextStatics

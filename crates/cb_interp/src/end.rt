@@ -27,10 +27,10 @@ pub enum End {
     },
     /// The report on a collection couldn't be written.
     ReportFault,
+    /// A call of the input failed.
+    InputFault,
     /// A write of what a step prints failed.
     OutputFault,
     /// Memory was not to be had.
     OutOfMemory,
-    /// The next step performs a native that isn't done yet.
-    NotYet,
 }

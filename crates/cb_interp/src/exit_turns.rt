@@ -12,7 +12,7 @@ ghost use Rattle.cb_library.specs.declared.native.Native.TheVariants as natives;
 ghost use Rattle.cb_machine.specs.Natives.{native_of};
 ghost use Rattle.cb_plain.specs.declared.value.Value.TheVariants as values;
 ghost use Rattle.cb_shapes.specs.declared.sort.Sort.TheVariants as sorts;
-ghost use Rattle.cb_interp.specs.Leaving.{exits};
+ghost use Rattle.cb_interp.specs.Performed.{exits};
 ghost use Rattle.cb_interp.specs.Printing.{IsNoneOf, behind_taken};
 ghost use Rattle.cb_interp.specs.Running.{MayRun, exited};
 

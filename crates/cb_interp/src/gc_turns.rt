@@ -7,7 +7,7 @@ ghost use Rattle.cb_act.specs.declared.need.Need.TheVariants as needs;
 ghost use Rattle.cb_heap.specs.Reading.{seen};
 ghost use Rattle.cb_library.specs.declared.native.Native.TheVariants as natives;
 ghost use Rattle.cb_machine.specs.Natives.{native_of};
-ghost use Rattle.cb_interp.specs.Leaving.{collects};
+ghost use Rattle.cb_interp.specs.Performed.{collects};
 ghost use Rattle.cb_interp.specs.Printing.{IsNoneOf};
 ghost use Rattle.cb_interp.specs.Running.{MayRun};
 

@@ -7,7 +7,7 @@
 //! they place.
 //!
 //! `start` makes of new roots and an empty store what is kept of the start of the machine (`Starting`), and `run` makes a turn for each step
-//! until the program ends, its steps are spent, room is refused, a write fails, or a native comes that isn't done yet (`Running`, `Leaving`).
+//! until the program ends, its steps are spent, room is refused, or a call of the input or a write fails (`Running`, `Reading`).
 #![tactic(auto)]
 
 mod answer_turns;
@@ -40,6 +40,7 @@ mod parent_turns;
 mod perform_turns;
 mod printing;
 mod quick_turns;
+mod read_turns;
 mod running;
 mod starting;
 mod stop;

@@ -6,7 +6,7 @@ ghost use Rattle.cb_heap.specs.Reading.{seen};
 ghost use Rattle.cb_io.specs.Faults.{CountsFaults};
 ghost use Rattle.cb_act.specs.Acting.{Asks, acted};
 ghost use Rattle.cb_act.specs.Here.{Here};
-ghost use Rattle.cb_interp.specs.Leaving.{NativeStops, is_performed};
+ghost use Rattle.cb_interp.specs.Performed.{is_performed};
 ghost use Rattle.cb_interp.specs.Printing.{IsNoneOf, behind_taken, prints_value, taken_by};
 ghost use Rattle.cb_interp.specs.Running.{MayRun, SaysBy, Turned};
 ghost use Rattle.cb_act.specs.Turning.{Outside, machine_of, state_of};
@@ -22,9 +22,9 @@ use cb_heap::Store;
 use cb_io::Sink;
 use cb_link::{Decoded, Program};
 
-/// A turn in which the native for which the instruction at the topmost frame's place asks is performed, where it gives no number. Done are
-/// those that print a boolean, a char, an int, a long, a string or a newline; any other is `NotYet` (Java SE 8 API, java.io.PrintStream). What is printed is written
-/// before anything is changed, so an `OutputFault` leaves the roots as they were. Takes constant time, and for a string time in its units.
+/// A turn in which the native for which the instruction at the topmost frame's place asks is performed, where it prints: a boolean, a char,
+/// an int, a long, a string or a newline (Java SE 8 API, java.io.PrintStream). What is printed is written before anything is changed, so an
+/// `OutputFault` leaves the roots as they were. Takes constant time, and for a string time in its units.
 pub(crate) fn native_turn<S: Store, O: Sink>(
     program: &Program,
     store: &S,
@@ -50,8 +50,7 @@ pub(crate) fn native_turn<S: Store, O: Sink>(
     ensures left { IfErr result (λ stop. SaysBy (machine_of program.now roots.old.limit) (state_of
         (seen (S.index store.now) (S.kept store.now) roots.old.roots) outside) stop
         (O.taken out.old) (O.taken out.new)) }
-    ensures only { IfErr result (λ stop. NativeStops (machine_of program.now roots.old.limit)
-        (state_of (seen (S.index store.now) (S.kept store.now) roots.old.roots) outside) stop) }
+    ensures only { IfErr result (λ stop. stop ≡ stops.OutputFault) }
     ensures output { CountsFaults (O.faults out.old) (O.faults out.new)
         (IsErrOf result stops.OutputFault) }
     ensures limit { roots.new.limit ≡ roots.old.limit }
@@ -69,8 +68,8 @@ pub(crate) fn native_turn<S: Store, O: Sink>(
     Ok(())
 }
 
-/// A turn in which the native for which the instruction at the topmost frame's place asks is performed, where it prints a string. Any other
-/// is `NotYet`. Takes time in the units of the string.
+/// A turn in which the native for which the instruction at the topmost frame's place asks is performed, where it prints a string. Takes time
+/// in the units of the string.
 fn string_turn<S: Store, O: Sink>(
     program: &Program,
     store: &S,
@@ -97,14 +96,13 @@ fn string_turn<S: Store, O: Sink>(
     ensures left { IfErr result (λ stop. SaysBy (machine_of program.now roots.old.limit) (state_of
         (seen (S.index store.now) (S.kept store.now) roots.old.roots) outside) stop
         (O.taken out.old) (O.taken out.new)) }
-    ensures only { IfErr result (λ stop. NativeStops (machine_of program.now roots.old.limit)
-        (state_of (seen (S.index store.now) (S.kept store.now) roots.old.roots) outside) stop) }
+    ensures only { IfErr result (λ stop. stop ≡ stops.OutputFault) }
     ensures output { CountsFaults (O.faults out.old) (O.faults out.new)
         (IsErrOf result stops.OutputFault) }
     ensures limit { roots.new.limit ≡ roots.old.limit }
 {
     let Some(line) = line_of(program, method) else {
-        return Err(Stop::NotYet);
+        unreachable!()
     };
     let Some(next) = decoded.next else {
         unreachable!()

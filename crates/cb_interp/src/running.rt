@@ -1,11 +1,13 @@
 // Runs over a store.
-ghost use Rattle.std.specs.Prelude.{◌≡◌, ℕ, false, IsTrue};
+ghost use Rattle.std.specs.Prelude.{◌≡◌, ◌⊎◌, ℕ, false, IfSome, IsTrue, List};
 ghost use Rattle.cb_heap.specs.Kept.{is_kept};
 ghost use Rattle.cb_heap.specs.Reading.{seen, serial_of};
 ghost use Rattle.cb_io.specs.Faults.{CountsFaults};
 ghost use Rattle.cb_plain.specs.State.{State};
 ghost use Rattle.cb_safety.specs.States.{IsTypedState};
-ghost use Rattle.cb_interp.specs.Running.{Ended, IsEndOf, IsUncaught, MayRun, outside_of};
+ghost use Rattle.std.specs.Io.KnownBytes.{Appends};
+ghost use Rattle.cb_interp.specs.Reading.{as_bytes};
+ghost use Rattle.cb_interp.specs.Running.{Ended, IsEndOf, IsThrownAt, IsUncaught, MayRun, Strays, outside_of};
 ghost use Rattle.cb_act.specs.Turning.{StandsAt, machine_of, moment_of, state_of};
 ghost use Rattle.cb_interp.specs.declared.end.End.TheVariants as ends;
 ghost use Rattle.cb_interp.specs.declared.stop.Stop.TheVariants as stops;
@@ -15,16 +17,17 @@ use crate::turns::turns;
 use crate::{End, Stop};
 use cb_frames::Roots;
 use cb_heap::{NoRoom, Store};
-use cb_io::Sink;
+use cb_io::{Sink, Source};
 use cb_link::Program;
 use cb_plain::Request;
 
 /// Runs a program from where roots and store stand, for at most so many steps. Each is a turn: room is made for what the step places, and
-/// the step is made. `full` is the state of the machine that never frees for which they stand. Takes no memory but what the store takes.
-pub fn run<S: Store, O: Sink>(
+/// the step is made. `full` is the state of the machine that never frees for which they stand; where the input tells its bytes, it has these. Takes no memory but what the store takes.
+pub fn run<S: Store, I: Source, O: Sink>(
     program: &Program,
     store: &mut S,
     roots: &mut Roots,
+    input: &mut I,
     out: &mut O,
     steps: u64,
 ) -> End
@@ -33,17 +36,32 @@ pub fn run<S: Store, O: Sink>(
     requires whole { IsTypedState program.now full }
     requires stands { StandsAt (moment_of (seen (S.index store.old) (S.kept store.old) roots.old.roots) (outside_of full) (S.facts store.old)) full }
     requires open { S.FIXED ≡ false }
+    requires told { IfSome (as_bytes (I.left input.old)) (λ left. full.input ≡ left) }
     ensures ended { Ended S.rules (machine_of program.now roots.old.limit) steps result full
         (moment_of (seen (S.index store.old) (S.kept store.old) roots.old.roots) (outside_of full) (S.facts store.old))
-        (seen (S.index store.new) (S.kept store.new) roots.new.roots) (S.facts store.new) (O.taken out.old) (O.taken out.new) }
+        (seen (S.index store.new) (S.kept store.new) roots.new.roots) (S.facts store.new) (O.taken out.old) (O.taken out.new) (I.left input.old) (I.left input.new)
+        ⊎ Strays S.rules (machine_of program.now roots.old.limit) steps full
+        (moment_of (seen (S.index store.old) (S.kept store.old) roots.old.roots) (outside_of full) (S.facts store.old)) (I.left input.old) }
     ensures place { (class at : ℕ) → result ≡ ends.Uncaught class at → at ≡ roots.new.roots.pending }
+    ensures thrown { (class at : ℕ) → result ≡ ends.Uncaught class at → IsThrownAt program.now (S.kept store.new) (serial_of (S.index store.new) at) }
+    ensures appends { (said : List ℕ) × Appends (O.taken out.old) (O.taken out.new) said }
     ensures counted { CountsFaults (S.faults store.old) (S.faults store.new) (result ≡ ends.ReportFault) }
     ensures output { CountsFaults (O.faults out.old) (O.faults out.new) (result ≡ ends.OutputFault) }
+    ensures read { CountsFaults (I.faults input.old) (I.faults input.new) (result ≡ ends.InputFault) }
 {
     let mut request = Request::new();
     let mut made: u64 = 0;
     while made < steps {
-        match turns(program, store, roots, &mut request, out, steps - made, made) {
+        match turns(
+            program,
+            store,
+            roots,
+            &mut request,
+            input,
+            out,
+            steps - made,
+            made,
+        ) {
             Ok(more) => made += more,
             Err(stop) => return stopped(store, roots, stop),
         }
@@ -67,8 +85,8 @@ fn stopped<S: Store>(store: &S, roots: &Roots, stop: Stop) -> End
         Stop::NoRoom(NoRoom::Full { live, asked, limit }) => End::HeapFull { live, asked, limit },
         Stop::NoRoom(NoRoom::ReportFault) => End::ReportFault,
         Stop::NoRoom(NoRoom::OutOfMemory) => End::OutOfMemory,
+        Stop::InputFault => End::InputFault,
         Stop::OutputFault => End::OutputFault,
-        Stop::NotYet => End::NotYet,
     }
 }
 

@@ -12,8 +12,8 @@ pub enum Stop {
     Exited(i32),
     /// There is no room for what the step places.
     NoRoom(NoRoom),
+    /// A call of the input failed.
+    InputFault,
     /// A write of what the step prints failed.
     OutputFault,
-    /// The step performs a native that isn't done yet.
-    NotYet,
 }

@@ -8,7 +8,10 @@ mod CopyRuns
 mod EnumLaws
 mod Filling
 mod HexLaws
+mod InputLaws
+mod Inputs
 mod KeptMade
+pub mod Laws
 mod MakingLaws
 mod MakingSites
 mod NativesNamed

@@ -1,23 +1,18 @@
 -- Words that are copied one by one, the first first, and words up to the first that doesn't fit.
 use Rattle.std.proofs.Common.{◌≡◌, ◌∙◌, ap, arith, refl, subst, sym, ℕ, pos, zero, suc, ◌+◌, ◌<◌, ◌≤◌, Bool, true, false, cond, List, [], ◌∷◌, ◌++◌, Option, Some, drop, get_or, length, slice_get, slice_set, take}
-use Rattle.std.proofs.lemmas.List.{append-nil, append_assoc, drop_all, drop_more, get_or-drop, get_or-take, length-drop, length-take, take-take, take_more}
+use Rattle.std.proofs.lemmas.List.{append-nil, append_assoc, drop_more, get_or-drop, get_or-take, length-drop, length-take, take-take, take_more}
 use Rattle.cb_heap.specs.Kept.{content_at, contents_at, is_held, with_content}
 use Rattle.cb_heap.specs.Reading.{serial_of}
-use Rattle.cb_kinds.specs.Basics.{is_reference}
 use Rattle.cb_kinds.specs.declared.basic.Basic.{Basic}
 use Rattle.cb_kinds.specs.declared.basic.Basic.TheVariants as basics
-use Rattle.cb_link.specs.Program.{Linked}
-use Rattle.cb_machine.specs.Copying.{fits, fitting, overwritten}
+use Rattle.cb_machine.specs.Copying.{fits, fitting}
 use Rattle.cb_machine.specs.Performing.{Call}
 use Rattle.cb_plain.specs.State.{Content, Number, Object}
 use Rattle.cb_plain.specs.Updates.{with_contents_in}
 use Rattle.cb_plain.specs.declared.shape.Shape.{Shape}
-use Rattle.cb_plain.specs.declared.shape.Shape.TheVariants.{Elements}
 use Rattle.cb_natives.specs.Copies.{MayCopy, RefersHeld, copied, holds, refers_at, word_of, words_from}
-use Rattle.cb_natives.specs.MakingKept.{HasKinds}
-use Rattle.cb_natives.specs.RangeCopies.{MayFit}
 use Rattle.cb_natives.proofs.Changes.{contents_other, contents_with, held_changed, same_or, with_same, with_twice}
-use Rattle.cb_natives.proofs.CopyLaws.{new_length, refers_still, word_read}
+use Rattle.cb_natives.proofs.CopyLaws.{refers_still, word_read}
 use Rattle.cb_natives.proofs.Overwriting.{over, over_first, over_length, over_none, over_over, over_past, over_set}
 
 -- ---- behind what was written
@@ -165,11 +160,6 @@ fits_last call element words place low so none =
     ∙ ap (λ fit. take place words ++ cond fit (word ∷ fitting call element rest) []) none
     ∙ append-nil (take place words)
 
-pub fits_all : (call : Call) (element : Option Basic) (words : List Content) (place : ℕ) → length words ≤ place
-    → fitting call element words ≡ take place words ++ fitting call element (drop place words) → fitting call element words ≡ take place words
-fits_all call element words place end so =
-    so ∙ ap (λ behind. take place words ++ fitting call element behind) (drop_all place words end) ∙ append-nil (take place words)
-
 module _ (objects : List (Option Object)) (source start count : ℕ) (within : start + count ≤ length (contents_at objects source)) where
   pub range_length : length (words_from objects source start count) ≡ count
   range_length = omega (arith, within, length-take count (drop start (contents_at objects source)), length-drop start (contents_at objects source))
@@ -198,38 +188,3 @@ numbers_fit call element (word ∷ words) none =
 
 pub words_all : (objects : List (Option Object)) (source start count : ℕ) → take count (words_from objects source start count) ≡ words_from objects source start count
 words_all objects source start count = take-take count count (drop start (contents_at objects source)) (omega arith)
-
-module _ (objects : List (Option Object)) (shape : Shape) (source start to at count fit : ℕ) (may : MayCopy objects shape source start to at count) (few : fit ≤ count) where
-  pub fewer : MayCopy objects shape source start to at fit
-  fewer = record {
-    there = may.there;
-    marked = λ place low. may.marked place (omega (arith, low, few));
-    read = λ place low. may.read place (omega (arith, low, few));
-    held = λ place low. may.held place (omega (arith, low, few));
-    put = λ place low. may.put place (omega (arith, low, few));
-    within = omega (arith, may.within, few);
-    room = omega (arith, may.room, few);
-    few = omega (arith, may.few, few);
-    short = omega (arith, may.short, few);
-  }
-
-  module _ (words : List Content) (is : words ≡ take fit (words_from objects source start count)) where
-    words_fewer : words ≡ words_from objects source start fit
-    words_fewer = is ∙ take-take fit count (drop start (contents_at objects source)) few
-
-    pub copied_fewer : copied objects source start to at fit ≡ with_contents_in objects to (overwritten (contents_at objects to) at words)
-    copied_fewer = sym (ap (λ words. with_contents_in objects to (overwritten (contents_at objects to) at words)) words_fewer)
-
-    pub fewer_length : fit ≡ length words
-    fewer_length = sym (ap length words_fewer ∙ new_length objects shape source start to at fit fewer)
-
--- the words of an array of references that may be copied may be looked at
-pub may_fit : (program : Linked) (objects : List (Option Object)) (source start to at count : ℕ) (element : Basic) → HasKinds program objects
-    → MayCopy objects (Elements (is_reference element)) source start to at count → is_reference element ≡ true → MayFit program objects source start count
-may_fit program objects source start to at count element kinds may refers = record {
-  kinds = kinds;
-  read = λ place low. ap (λ mark. holds mark (content_at objects source (start + place))) (sym refers) ∙ may.read place low;
-  held = may.held;
-  within = may.within;
-  few = may.few;
-}

@@ -1,8 +1,8 @@
 -- Which ranges a call of `System.arraycopy` means, and what it throws where it means none.
-use Rattle.std.proofs.Common.{◌≡◌, ◌∙◌, ap, refl, sym, subst, ℕ, ℤ, pos, negsuc, zero, suc, ◌+◌, ◌<◌, ◌≤◌, ◌^◌, ◌==◌, ◌&&◌, nat_le, Bool, true, false, IsTrue, List, [], ◌∷◌, length, drop, take, Option, Some, None, option_and_then, option_map, slice_get, if◌then◌else◌, arith}
+use Rattle.std.proofs.Common.{◌≡◌, ◌∙◌, ap, refl, sym, subst, ℕ, ℤ, pos, negsuc, ◌+◌, ◌<◌, ◌≤◌, ◌^◌, ◌==◌, ◌&&◌, nat_le, Bool, true, false, IsTrue, List, [], length, drop, take, Option, Some, None, option_map, slice_get, if◌then◌else◌, arith}
 use Rattle.std.proofs.lemmas.Bool.{false≢true, leb-true}
 use Rattle.std.proofs.lemmas.Option.{same_Some}
-use Rattle.cb_heap.specs.Kept.{content_at, contents_at, is_kept}
+use Rattle.cb_heap.specs.Kept.{contents_at, is_kept}
 use Rattle.cb_heap.specs.Reading.{serial_of}
 use Rattle.cb_kinds.specs.Basics.{is_reference}
 use Rattle.cb_kinds.specs.declared.basic.Basic.{Basic}
@@ -23,8 +23,7 @@ use Rattle.cb_plain.specs.declared.shape.Shape.{Shape}
 use Rattle.cb_plain.specs.declared.shape.Shape.TheVariants.{Elements}
 use Rattle.std.specs.declared.result.Result.TheVariants.{Err, Ok}
 use Rattle.cb_natives.specs.Answers.{Beside}
-use Rattle.cb_natives.specs.ArrayRanges.{DecidesRanges, MayCopyRanges, common_elements, elements_at, on_ranges}
-use Rattle.cb_natives.specs.Copies.{RefersHeld, holds, refers_at}
+use Rattle.cb_natives.specs.ArrayRanges.{MayCopyRanges, common_elements, elements_at, on_ranges}
 use Rattle.cb_natives.specs.MakingArrays.{IsLaid, IsOfKind}
 use Rattle.cb_natives.specs.MakingOwn.{call_of, range_in}
 use Rattle.cb_natives.specs.declared.answers.Exception.TheVariants as exceptions

@@ -37,6 +37,12 @@ pub record HoldsUnits (objects : List (Option Object)) (array : ℕ) : Type 0 wh
   pub each : (place : ℕ) → place < length (contents_at objects array) → IsUnit (content_at objects array place)
   pub few : length (contents_at objects array) < 2 ^ 31
 
+-- an array of bytes is there: each word of it holds a number, and an int counts them
+pub record HoldsBytes (objects : List (Option Object)) (array : ℕ) : Type 0 where
+  pub there : IsTrue (is_kept objects array)
+  pub numbers : (place : ℕ) → place < length (contents_at objects array) → is_number (content_at objects array place) ≡ true
+  pub few : length (contents_at objects array) < 2 ^ 31
+
 -- the first word of a string or a builder refers to such an array
 pub record HasText (objects : List (Option Object)) (serial : ℕ) : Type 0 where
   pub refers : is_reference (content_at objects serial 0) ≡ true
@@ -74,6 +80,7 @@ abbrev pub IsThere : List (Option Object) → Role → ℕ → Type 0
 IsThere objects AText serial = HasText objects serial
 IsThere objects ABuilder serial = IsBuilder objects serial
 IsThere objects Characters serial = HoldsUnits objects serial
+IsThere objects Bytes serial = HoldsBytes objects serial
 IsThere objects (ABox basic) serial = HoldsInt objects serial 0 basic
 IsThere objects ALongBox serial = is_number (content_at objects serial 0) ≡ true
 IsThere objects AConstant serial = HoldsInt objects serial 1 basics.Int

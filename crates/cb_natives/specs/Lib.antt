@@ -5,6 +5,7 @@ pub mod Enums
 pub mod Equal
 pub mod Exceptions
 pub mod Given
+pub mod Input
 pub mod Makers
 pub mod Making
 pub mod MakingArrays

@@ -3,6 +3,7 @@
 //! `answer` does those that give a number or nothing. Those that place objects or change them are done in two calls, `plan_native`, which
 //! tells the room that they ask for, and `run_native`, once that room was made. `find_constant` does `Enum.valueOf`, which also asks for a
 //! class to be initialised. `plan_copy` tells what `System.arraycopy` copies and throws, and `copy_planned` copies it.
+//! `read_byte` does `InputStream.read()`; `range_to_read` tells the range of `read(byte[], int, int)`, and `read_into` reads into it.
 //!
 //! `specs/` says what is known of the arguments of each (`Given`), what one answers that places nothing but an exception (`Answers`), and
 //! what the others ask for and perform (`Making`, and by group the files that begin so). No call takes memory but the store's.
@@ -23,6 +24,8 @@ mod copying;
 mod enums;
 mod gives;
 mod held;
+mod input;
+mod input_natives;
 mod kept_entries;
 mod kept_objects;
 mod low_bits;
@@ -66,5 +69,6 @@ pub use array_ranges::Ranges;
 pub use copy_plans::{CopyPlan, copy_planned, plan_copy};
 pub use enums::{EnumAnswer, find_constant};
 pub use gives::gives_answer;
+pub use input_natives::{ArrayRange, range_to_read, read_byte, read_into};
 pub use making::{makes, plan_native, run_native};
 pub use methods::native_of;

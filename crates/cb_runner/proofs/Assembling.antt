@@ -4,6 +4,7 @@ use Rattle.std.specs.declared.alloc.Global.{Global}
 use Rattle.std.specs.Io.KnownBytes.{Appends, Consumes}
 use Rattle.std.proofs.KnownBytes.{Consumes-whole}
 use Rattle.std.proofs.Math.Seq.{drop-append_seam}
+use Rattle.cb_interp.specs.Reading.{as_bytes}
 use Rattle.cb_io.specs.Folder.{Files}
 use Rattle.cb_runner.specs.declared.input.Input.TheVariants.{Whole, TooLong}
 use Rattle.cb_runner.specs.declared.refusal.Quantity.TheVariants.{AssemblyBytes}
@@ -15,13 +16,16 @@ use Rattle.cb_runner.specs.Ending.{Ending}
 use Rattle.cb_runner.specs.Inner.{HasRead, IsCarriedOut, IsRefusal, Makes, PrintsMade, Reads, TellsWhole, ending_of}
 use Rattle.cb_runner.specs.Messages.{TooLarge}
 use Rattle.cb_runner.specs.Words.{Assemble}
-use Rattle.cb_runner.proofs.Endings.{ends_by, printed_so, refused_so, unmade}
+use Rattle.cb_runner.proofs.Endings.{ends_by, printed_so, refused_so, said_bytes, unmade}
 
 -- a front of what is left was read
-consumed : (before now : Option (List ℕ)) (front : List ℕ) → Consumes before now front → IfSome before (λ left. now ≡ Some (drop (length front) left))
-consumed None now front moved = tt
-consumed (Some left) None front moved = absurd moved
-consumed (Some left) (Some rest) front is = ap Some (sym (ap (drop (length front)) is ∙ drop-append_seam front rest))
+front_taken : (before now : Option (List ℕ)) (front : List ℕ) → Consumes before now front → IfSome before (λ left. now ≡ Some (drop (length front) left))
+front_taken None now front moved = tt
+front_taken (Some left) None front moved = absurd moved
+front_taken (Some left) (Some rest) front is = ap Some (sym (ap (drop (length front)) is ∙ drop-append_seam front rest))
+
+consumed : (before now : Option (List ℕ)) (front : List ℕ) → Consumes before now front → IfSome (as_bytes before) (λ left. now ≡ Some (drop (length front) left))
+consumed before now front moved = said_bytes before (λ left. now ≡ Some (drop (length front) left)) (front_taken before now front moved)
 
 may_read : (before now : Option (List ℕ)) (front : List ℕ) (most : ℕ) → Consumes before now front → length front ≤ most → MayRead before most (length front)
 may_read None now front most moved short = (short, tt)
@@ -56,7 +60,7 @@ long_input before now known stop nothing (front, moved, size, most) refusal =
       printed = [];
       read = text_limit + 1;
       appends = nothing;
-      left = subst (λ read. IfSome before (λ left. now ≡ Some (drop read left))) size (consumed before now front moved);
+      left = subst (λ read. IfSome (as_bytes before) (λ left. now ≡ Some (drop read left))) size (consumed before now front moved);
       ends = λ files. ends_by Assemble files before (AssemblesText text) (text_limit + 1) stop [] (λ ending assembles. (text, is_text, assembles)) (text_limit + 1, subst (λ read. MayRead before (text_limit + 1) read) size may, refl) (λ whole assembles front prefix. (whole, assembles, front, prefix, refl)) (unmade (AssemblesText text) (text_limit + 1) stop refused);
     }
 
@@ -66,7 +70,7 @@ unread before now known stop most read nothing (front, moved, size, few) ends = 
   printed = [];
   read = read;
   appends = nothing;
-  left = subst (λ read. IfSome before (λ left. now ≡ Some (drop read left))) size (consumed before now front moved);
+  left = subst (λ read. IfSome (as_bytes before) (λ left. now ≡ Some (drop read left))) size (consumed before now front moved);
   ends = λ files. ends files (subst (λ read. MayRead before most read) size (may_read before now front most moved (omega (arith, size, few))));
 }
 

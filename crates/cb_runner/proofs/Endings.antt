@@ -1,5 +1,5 @@
 -- How commands end.
-use Rattle.std.proofs.Common.{ap, ◌≡◌, inl, inr, ◌↔◌, ℕ, ◌<◌, List, [], length, drop, Option, Some, None, IfSome, IfErr, Ok, Err, refl, sym, subst, arith, replicate}
+use Rattle.std.proofs.Common.{ap, ◌≡◌, inl, inr, ◌↔◌, if◌then◌else◌, Bool, true, false, ℕ, ◌<◌, List, [], length, drop, Option, Some, None, IfSome, IfErr, Ok, Err, refl, sym, subst, ◌∙◌, arith, replicate}
 use Rattle.std.specs.Prelude.{◌+◌, Result, String, Vec}
 use Rattle.std.specs.declared.alloc.Global.{Global}
 use Rattle.std.specs.FinMap.{get}
@@ -11,11 +11,12 @@ use Rattle.cb_io.specs.Folder.{Files, Finds, FindsAt, IsWithin}
 use Rattle.cb_io.specs.Sink.{IsProperPrefix}
 use Rattle.cb_io.specs.declared.folder.Found.{Found}
 use Rattle.cb_io.specs.declared.folder.Found.TheVariants.{Bytes, Absent, TooLong}
+use Rattle.cb_interp.specs.Reading.{are_bytes, as_bytes}
 use Rattle.cb_link.specs.Program.{Linked}
 use Rattle.cb_runner.specs.declared.cause.Cause.TheVariants as causes
 use Rattle.cb_runner.specs.declared.stop.Stop.{Stop}
 use Rattle.cb_runner.specs.declared.stop.Stop.TheVariants.{Exited, Returned, Usage, Refused, Told, FolderFault, InputFault, OutputFault, OutOfMemory}
-use Rattle.cb_runner.specs.Answer.{Answers, Ends, EndsIn, IsCutShort, MayStandAt, OfMemory, OfFolder, OfOutput}
+use Rattle.cb_runner.specs.Answer.{Answers, Ends, EndsIn, IsCutShort, MayStandAt, OfMemory, OfFolder, OfInput, OfOutput}
 use Rattle.cb_runner.specs.Ending.{Ending, out_of_memory, output_fault, refused, returned}
 use Rattle.cb_runner.specs.Inner.{IsCarriedOut, IsRefusal, IsUnfound, Makes, PrintsMade, RunsTo, StopsAtOnce, StopsBy, TellsWhole, cause_of, ending_of}
 use Rattle.cb_runner.specs.List.{ListsFile}
@@ -29,10 +30,21 @@ pub Appends-nothing : (known : Option (List ℕ)) → Appends known known []
 Appends-nothing None = tt
 Appends-nothing (Some bytes) = sym (append-nil bytes)
 
+-- what is said of what is left is said of it where it is bytes
+pub said_bytes : (before : Option (List ℕ)) (Said : List ℕ → Type 0) → IfSome before Said → IfSome (as_bytes before) Said
+said_bytes None Said said = tt
+said_bytes (Some bytes) Said said = go (are_bytes bytes) where
+  go : (test : Bool) → IfSome (if test then Some bytes else None) Said
+  go true = said
+  go false = tt
+
 -- nothing was read
-pub nothing_read : (left : Option (List ℕ)) → IfSome left (λ bytes. left ≡ Some (drop 0 bytes))
-nothing_read None = tt
-nothing_read (Some bytes) = refl
+nothing_left : (left : Option (List ℕ)) → IfSome left (λ bytes. left ≡ Some (drop 0 bytes))
+nothing_left None = tt
+nothing_left (Some bytes) = refl
+
+pub nothing_read : (left : Option (List ℕ)) → IfSome (as_bytes left) (λ bytes. left ≡ Some (drop 0 bytes))
+nothing_read left = said_bytes left (λ bytes. left ≡ Some (drop 0 bytes)) (nothing_left left)
 
 -- there is some file that was found so
 told_file : (files : Option Files) (path : List ℕ) (found : Found) → IfSome files (λ told. Finds told path file_limit found) → (file : Option (List ℕ)) → FindsAt file file_limit found → (file : Option (List ℕ)) × MayStandAt files path file × FindsAt file file_limit found
@@ -110,24 +122,30 @@ list_unfound path files OutOfMemory is = λ left. inr (OfMemory, refl)
 list_unfound path files stop is = absurd is
 
 -- a run of a class whose program isn't run, and of one whose program is
-pub run_at_once : (folder : List ℕ) (run : Run) (files : Option Files) (stop : Stop) → StopsAtOnce (RunsClass files folder run) stop → (left : Option (List ℕ)) → EndsIn (RunIn folder run) files left (ending_of stop [] 0)
-run_at_once folder run files (Refused text) stops = λ left. inl stops
-run_at_once folder run files FolderFault stops = λ left. inr (OfFolder, refl)
-run_at_once folder run files OutOfMemory stops = λ left. inr (OfMemory, inl refl)
-run_at_once folder run files stop stops = absurd stops
+pub run_at_once : (folder : List ℕ) (run : Run) (files : Option Files) (left : Option (List ℕ)) (stop : Stop) → StopsAtOnce (RunsClass files left folder run) stop → EndsIn (RunIn folder run) files left (ending_of stop [] 0)
+run_at_once folder run files left (Refused text) stops = inl stops
+run_at_once folder run files left FolderFault stops = inr (OfFolder, refl)
+run_at_once folder run files left OutOfMemory stops = inr (OfMemory, inl refl)
+run_at_once folder run files left stop stops = absurd stops
 
-pub run_ends : (folder : List ℕ) (run : Run) (files : Option Files) (program : Linked) (stop : Stop) (out : List ℕ) → IsRunnable files folder run.main program → RunsTo run program stop out → (left : Option (List ℕ)) → EndsIn (RunIn folder run) files left (ending_of stop out 0)
-run_ends folder run files program OutOfMemory out runnable (inl nothing) = λ left. inr (OfMemory, inl (ap (λ out. ending_of OutOfMemory out 0) nothing))
-run_ends folder run files program OutOfMemory out runnable (inr cuts) = λ left. inr (OfMemory, inr (program, runnable, cuts))
-run_ends folder run files program OutputFault out runnable runs = λ left. inr (OfOutput, (program, runnable, runs))
-run_ends folder run files program Returned out runnable runs = λ left. inl (Typed program runnable runs)
-run_ends folder run files program (Exited status) out runnable runs = λ left. inl (Typed program runnable runs)
-run_ends folder run files program (Told cause text) out runnable runs = λ left. inl (Typed program runnable runs)
-run_ends folder run files program stop out runnable runs = absurd runs
+-- of which no call of input or output ended the one
+pub at_once_quietly : (MayEnd : Ending → Type 0) (stop : Stop) → StopsAtOnce MayEnd stop → (stop ≡ InputFault → ⊥) × (stop ≡ OutputFault → ⊥)
+at_once_quietly MayEnd stop stops = (λ is. subst (StopsAtOnce MayEnd) is stops, λ is. subst (StopsAtOnce MayEnd) is stops)
 
--- which no call of the folder ended
-pub runs_quietly : (run : Run) (program : Linked) (stop : Stop) (out : List ℕ) → RunsTo run program stop out → stop ≡ FolderFault → ⊥
-runs_quietly run program stop out runs is = subst (λ stop. RunsTo run program stop out) is runs
+pub run_ends : (folder : List ℕ) (run : Run) (files : Option Files) (left : Option (List ℕ)) (program : Linked) (stop : Stop) (out : List ℕ) (read : ℕ) → IsRunnable files folder run.main program → RunsTo run program left stop out read → EndsIn (RunIn folder run) files left (ending_of stop out read)
+run_ends folder run files left program OutOfMemory out read runnable (inl (nothing, unread)) =
+    inr (OfMemory, inl (ap (λ out. ending_of OutOfMemory out read) nothing ∙ ap (ending_of OutOfMemory []) unread))
+run_ends folder run files left program OutOfMemory out read runnable (inr cuts) = inr (OfMemory, inr (program, runnable, cuts))
+run_ends folder run files left program InputFault out read runnable runs = inr (OfInput, (program, runnable, runs))
+run_ends folder run files left program OutputFault out read runnable runs = inr (OfOutput, (program, runnable, runs))
+run_ends folder run files left program Returned out read runnable runs = inl (Typed program runnable runs)
+run_ends folder run files left program (Exited status) out read runnable runs = inl (Typed program runnable runs)
+run_ends folder run files left program (Told cause text) out read runnable runs = inl (Typed program runnable runs)
+run_ends folder run files left program stop out read runnable runs = absurd runs
+
+-- and no call of the folder the other
+pub runs_quietly : (run : Run) (program : Linked) (left : Option (List ℕ)) (stop : Stop) (out : List ℕ) (read : ℕ) → RunsTo run program left stop out read → stop ≡ FolderFault → ⊥
+runs_quietly run program left stop out read runs is = subst (λ stop. RunsTo run program left stop out read) is runs
 
 -- what a command tells as the cause of a run is none of those that have a stop of their own
 pub refusal_tells : (reason : Reason) (stop : Stop) → IsRefusal reason stop → TellsWhole stop
@@ -146,9 +164,9 @@ pub at_once_tells : (MayEnd : Ending → Type 0) (stop : Stop) → StopsAtOnce M
 at_once_tells MayEnd (Told cause text) stops = absurd stops
 at_once_tells MayEnd stop stops = tt
 
-pub runs_tell : (run : Run) (program : Linked) (stop : Stop) (out : List ℕ) → RunsTo run program stop out → TellsWhole stop
-runs_tell run program (Told cause text) out runs = ends_run_whole run program (ending_of (Told cause text) out 0) runs
-runs_tell run program stop out runs = tt
+pub runs_tell : (run : Run) (program : Linked) (left : Option (List ℕ)) (stop : Stop) (out : List ℕ) (read : ℕ) → RunsTo run program left stop out read → TellsWhole stop
+runs_tell run program left (Told cause text) out read runs = ends_run_whole run program left (ending_of (Told cause text) out read) runs
+runs_tell run program left stop out read runs = tt
 
 -- a count says the same of what comes to the same
 same_count : {One Other : Type 0} (before now : ℕ) → (One ↔ Other) → CountsFaults before now One → CountsFaults before now Other
@@ -223,7 +241,12 @@ input_counts stop before now whole = same_count before now (input_cause stop who
 pub output_counts : (stop : Stop) (before now : ℕ) → TellsWhole stop → CountsFaults before now (stop ≡ OutputFault) → CountsFaults before now (cause_of stop ≡ causes.OutputFault)
 output_counts stop before now whole = same_count before now (output_cause stop whole)
 
--- a command that asks no input is carried out
+-- a command that says what it reads is carried out, and one that asks no input
+pub done_so : (words : List (List ℕ)) (files : Option Files) (before now known taken : Option (List ℕ)) (command : Command) (stop : Stop) → Says words command → IsCarriedOut (EndsIn command files before) before now known taken stop
+    → IsCarriedOut (Ends words files before) before now known taken stop
+done_so words files before now known taken command stop says done =
+    record { printed = done.printed; read = done.read; appends = done.appends; left = done.left; ends = inr (command, says, done.ends) }
+
 pub carried : (words : List (List ℕ)) (files : Option Files) (before known taken : Option (List ℕ)) (command : Command) (stop : Stop) (printed : List ℕ) → Says words command → Appends known taken printed → ((left : Option (List ℕ)) → EndsIn command files left (ending_of stop printed 0)) → IsCarriedOut (Ends words files before) before before known taken stop
 carried words files before known taken command stop printed says appends ends = record {
   printed = printed;

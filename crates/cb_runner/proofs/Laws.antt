@@ -4,13 +4,13 @@ use Rattle.std.proofs.lemmas.Bool.{false≢true}
 use Rattle.cb_io.specs.Folder.{Files}
 use Rattle.cb_link.specs.Program.{Linked}
 use Rattle.cb_runner.specs.declared.cause.Cause.{Cause}
-use Rattle.cb_runner.specs.declared.cause.Cause.TheVariants.{Exited, Refused, Returned, Usage, FolderFault, InputFault, OutputFault, ErrFault, OutOfMemory}
+use Rattle.cb_runner.specs.declared.cause.Cause.TheVariants.{BudgetSpent, Exited, HeapFull, Refused, Returned, Uncaught, Usage, FolderFault, InputFault, OutputFault, ErrFault, OutOfMemory}
 use Rattle.cb_runner.specs.Answer.{Answers, Ends, EndsIn, Fault, IsCutShort, IsTold, IsWhole, OfMemory, OfFolder, OfInput, OfOutput, ends_whole}
 use Rattle.cb_runner.specs.Asm.{AssemblesText, TooLong, Assembled, Bad}
 use Rattle.cb_runner.specs.Ending.{Ending}
 use Rattle.cb_runner.specs.List.{ListsBytes, ListsFile, OfVersion, OfNoClass, OfItem, Listed}
 use Rattle.cb_runner.specs.Run.{RunsClass, Stopped, Typed, Untyped}
-use Rattle.cb_runner.specs.Running.{EndsBegun, EndsRun, Exits, Returns, Throws, Spends, Fills, LeavesOut}
+use Rattle.cb_runner.specs.Running.{EndsBegun, EndsRun, Exits, Returns, Throws, Spends, Fills, ends_begun}
 use Rattle.cb_runner.specs.Words.{Command, Run, RunIn, ListOf, Assemble, Says, SaysNone, SaysRun}
 
 -- whether an end is whole, its cause says
@@ -21,22 +21,36 @@ pub cause_whole : (one other : Cause) → one ≡ other → IsTrue (ends_whole o
 cause_whole one other is whole = subst (λ cause. IsTrue (ends_whole cause)) is whole
 
 -- a command that nothing cuts short returns or is refused, or the program that it runs ends in another way
-ends_begun_whole : (run : Run) (program : Linked) (ending : Ending) → EndsBegun run program ending → IsWhole ending
-ends_begun_whole run program ending (Returns count within had returns is) = whole_by ending _ is refl
-ends_begun_whole run program ending (Exits count status within had exits is) = whole_by ending _ is refl
-ends_begun_whole run program ending (Throws count serial object units within had throws there tells is) = whole_by ending _ is refl
-ends_begun_whole run program ending (Spends had runs is) = whole_by ending _ is refl
-ends_begun_whole run program ending (Fills count below had fills is) = whole_by ending _ is refl
-ends_begun_whole run program ending (LeavesOut count below had leaves is) = whole_by ending _ is refl
+ends_begun_whole : (run : Run) (program : Linked) (input : List ℕ) (ending : Ending) → EndsBegun run program input ending → IsWhole ending
+ends_begun_whole run program input ending (Returns count within had returns is) = whole_by ending _ is refl
+ends_begun_whole run program input ending (Exits count status within had exits is) = whole_by ending _ is refl
+ends_begun_whole run program input ending (Throws count serial object units within had throws there tells is) = whole_by ending _ is refl
+ends_begun_whole run program input ending (Spends had runs is) = whole_by ending _ is refl
+ends_begun_whole run program input ending (Fills count below had fills is) = whole_by ending _ is refl
 
-pub ends_run_whole : (run : Run) (program : Linked) (ending : Ending) → EndsRun run program ending → IsWhole ending
-ends_run_whole run program ending (inl (fills, is)) = whole_by ending _ is refl
-ends_run_whole run program ending (inr (begins, ends)) = ends_begun_whole run program ending ends
+cause_begun : (cause : Cause) → IsTrue (ends_begun cause) → IsTrue (ends_whole cause)
+cause_begun Returned begun = refl
+cause_begun (Exited status) begun = refl
+cause_begun (Uncaught class) begun = refl
+cause_begun BudgetSpent begun = refl
+cause_begun HeapFull begun = refl
+cause_begun Usage begun = absurd (false≢true begun)
+cause_begun Refused begun = absurd (false≢true begun)
+cause_begun FolderFault begun = absurd (false≢true begun)
+cause_begun InputFault begun = absurd (false≢true begun)
+cause_begun OutputFault begun = absurd (false≢true begun)
+cause_begun ErrFault begun = absurd (false≢true begun)
+cause_begun OutOfMemory begun = absurd (false≢true begun)
 
-runs_class_whole : (files : Option Files) (folder : List ℕ) (run : Run) (ending : Ending) → RunsClass files folder run ending → IsWhole ending
-runs_class_whole files folder run ending (Stopped library refusal reason known stops says is) = whole_by ending _ is refl
-runs_class_whole files folder run ending (Untyped library classes method reason known loaded good untyped is) = whole_by ending _ is refl
-runs_class_whole files folder run ending (Typed program runnable runs) = ends_run_whole run program ending runs
+pub ends_run_whole : (run : Run) (program : Linked) (left : Option (List ℕ)) (ending : Ending) → EndsRun run program left ending → IsWhole ending
+ends_run_whole run program left ending (inl (fills, is)) = whole_by ending _ is refl
+ends_run_whole run program left ending (inr (begins, inl (input, may, ends))) = ends_begun_whole run program input ending ends
+ends_run_whole run program left ending (inr (begins, inr (strays, begun))) = cause_begun ending.cause begun
+
+runs_class_whole : (files : Option Files) (left : Option (List ℕ)) (folder : List ℕ) (run : Run) (ending : Ending) → RunsClass files left folder run ending → IsWhole ending
+runs_class_whole files left folder run ending (Stopped library refusal reason known stops says is) = whole_by ending _ is refl
+runs_class_whole files left folder run ending (Untyped library classes method reason known loaded good untyped is) = whole_by ending _ is refl
+runs_class_whole files left folder run ending (Typed program runnable runs) = ends_run_whole run program left ending runs
 
 lists_bytes_whole : (path bytes : List ℕ) (ending : Ending) → ListsBytes path bytes ending → IsWhole ending
 lists_bytes_whole path bytes ending (Listed class listed is) = whole_by ending _ is refl
@@ -55,7 +69,7 @@ assembles_whole text ending (Assembled short class text_of is) = whole_by ending
 assembles_whole text ending (Bad short line stops is) = whole_by ending _ is refl
 
 pub answers_whole : (command : Command) (files : Option Files) (left : Option (List ℕ)) (ending : Ending) → Answers command files left ending → IsWhole ending
-answers_whole (RunIn folder run) files left ending runs = runs_class_whole files folder run ending runs
+answers_whole (RunIn folder run) files left ending runs = runs_class_whole files left folder run ending runs
 answers_whole (ListOf path) files left ending (file, may, lists) = lists_whole path file ending lists
 answers_whole Assemble files left ending (text, may, assembles) = assembles_whole text ending assembles
 
@@ -69,16 +83,19 @@ fault_cause OfOutput = OutputFault
 pub cut_cause : (fault : Fault) (command : Command) (files : Option Files) (left : Option (List ℕ)) (ending : Ending) → IsCutShort fault command files left ending → ending.cause ≡ fault_cause fault
 unfolding fault_cause
 cut_cause OfMemory (RunIn folder run) files left ending (inl is) = ap (λ e. e.cause) is
-cut_cause OfMemory (RunIn folder run) files left ending (inr (program, runnable, (count, within, had, is))) = ap (λ e. e.cause) is
+cut_cause OfMemory (RunIn folder run) files left ending (inr (program, runnable, inl (input, may, count, within, had, is))) = ap (λ e. e.cause) is
+cut_cause OfMemory (RunIn folder run) files left ending (inr (program, runnable, inr (strays, is))) = is
 cut_cause OfMemory (ListOf path) files left ending is = ap (λ e. e.cause) is
 cut_cause OfMemory Assemble files left ending (read, may, is) = ap (λ e. e.cause) is
 cut_cause OfFolder (RunIn folder run) files left ending is = ap (λ e. e.cause) is
 cut_cause OfFolder (ListOf path) files left ending is = ap (λ e. e.cause) is
 cut_cause OfFolder Assemble files left ending is = absurd is
-cut_cause OfInput (RunIn folder run) files left ending is = absurd is
+cut_cause OfInput (RunIn folder run) files left ending (program, runnable, inl (input, may, count, more, below, had, takes, low, is)) = ap (λ e. e.cause) is
+cut_cause OfInput (RunIn folder run) files left ending (program, runnable, inr (strays, is)) = is
 cut_cause OfInput (ListOf path) files left ending is = absurd is
 cut_cause OfInput Assemble files left ending (read, may, is) = ap (λ e. e.cause) is
-cut_cause OfOutput (RunIn folder run) files left ending (program, runnable, (count, more, front, below, had, prints, prefix, is)) = ap (λ e. e.cause) is
+cut_cause OfOutput (RunIn folder run) files left ending (program, runnable, inl (input, may, count, more, front, below, had, prints, prefix, is)) = ap (λ e. e.cause) is
+cut_cause OfOutput (RunIn folder run) files left ending (program, runnable, inr (strays, is)) = is
 cut_cause OfOutput (ListOf path) files left ending (whole, answers, front, prefix, is) = ap (λ e. e.cause) is
 cut_cause OfOutput Assemble files left ending (whole, answers, front, prefix, is) = ap (λ e. e.cause) is
 
@@ -118,16 +135,14 @@ none_told words files left before now ending cause ends (inr (fails, appends)) n
 none_told words files left before now ending cause (inl (says_none, is)) (inl (same, appends)) none = inl (same ∙ ap (λ e. e.cause) is)
 none_told words files left before now ending cause (inr (command, says, more)) (inl (same, appends)) none = absurd (none command says)
 
--- `asm` alone asks the input, and it doesn't ask the folder
-pub asks_input : (command : Command) (files : Option Files) (left : Option (List ℕ)) (ending : Ending) → EndsIn command files left ending → ending.cause ≡ InputFault → command ≡ Assemble
+-- a listing doesn't ask the input, and `asm` doesn't ask the folder
+pub asks_input : (path : List ℕ) (files : Option Files) (left : Option (List ℕ)) (ending : Ending) → EndsIn (ListOf path) files left ending → ending.cause ≡ InputFault → ⊥
 unfolding fault_cause
-asks_input command files left ending (inl answers) is = absurd (false≢true (cause_whole ending.cause InputFault is (answers_whole command files left ending answers)))
-asks_input Assemble files left ending (inr (fault, cut)) is = refl
-asks_input (RunIn folder run) files left ending (inr (OfInput, cut)) is = absurd cut
-asks_input (ListOf path) files left ending (inr (OfInput, cut)) is = absurd cut
-asks_input command files left ending (inr (OfMemory, cut)) is = let no : OutOfMemory ≡ InputFault = sym (cut_cause OfMemory command files left ending cut) ∙ is in absurd cc
-asks_input command files left ending (inr (OfFolder, cut)) is = let no : FolderFault ≡ InputFault = sym (cut_cause OfFolder command files left ending cut) ∙ is in absurd cc
-asks_input command files left ending (inr (OfOutput, cut)) is = let no : OutputFault ≡ InputFault = sym (cut_cause OfOutput command files left ending cut) ∙ is in absurd cc
+asks_input path files left ending (inl answers) is = false≢true (cause_whole ending.cause InputFault is (answers_whole (ListOf path) files left ending answers))
+asks_input path files left ending (inr (OfInput, cut)) is = cut
+asks_input path files left ending (inr (OfMemory, cut)) is = let no : OutOfMemory ≡ InputFault = sym (cut_cause OfMemory (ListOf path) files left ending cut) ∙ is in cc
+asks_input path files left ending (inr (OfFolder, cut)) is = let no : FolderFault ≡ InputFault = sym (cut_cause OfFolder (ListOf path) files left ending cut) ∙ is in cc
+asks_input path files left ending (inr (OfOutput, cut)) is = let no : OutputFault ≡ InputFault = sym (cut_cause OfOutput (ListOf path) files left ending cut) ∙ is in cc
 
 pub asks_folder : (files : Option Files) (left : Option (List ℕ)) (ending : Ending) → EndsIn Assemble files left ending → ending.cause ≡ FolderFault → ⊥
 unfolding fault_cause

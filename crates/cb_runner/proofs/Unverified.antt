@@ -17,12 +17,12 @@ use Rattle.cb_runner.specs.Run.{IsRunnable, RunsClass, Untyped, IsUntyped}
 use Rattle.cb_runner.specs.Words.{Run}
 use Rattle.cb_runner.proofs.Endings.{refusal_is}
 
-pub untyped_stops : (files : Option Files) (root : List ℕ) (run : Run) (library : List ClassFile) (program : Linked) (stop : Stop) → AreLibrary library → IsLinkedBy files root library run.main program → StopsUntyped program stop → StopsAtOnce (RunsClass files root run) stop
-untyped_stops files root run library program (Refused text) known links (reason, untyped, is) =
+pub untyped_stops : (files : Option Files) (left : Option (List ℕ)) (root : List ℕ) (run : Run) (library : List ClassFile) (program : Linked) (stop : Stop) → AreLibrary library → IsLinkedBy files root library run.main program → StopsUntyped program stop → StopsAtOnce (RunsClass files left root run) stop
+untyped_stops files left root run library program (Refused text) known links (reason, untyped, is) =
     let here = subst (λ program. IsUntyped program reason) links.all untyped in
-    subst (RunsClass files root run) (refusal_is reason text _ 0 is refl) (Untyped library links.classes links.method reason known links.loaded links.good here refl)
-untyped_stops files root run library program OutOfMemory known links stops = tt
-untyped_stops files root run library program stop known links stops = absurd stops
+    subst (RunsClass files left root run) (refusal_is reason text _ 0 is refl) (Untyped library links.classes links.method reason known links.loaded links.good here refl)
+untyped_stops files left root run library program OutOfMemory known links stops = tt
+untyped_stops files left root run library program stop known links stops = absurd stops
 
 -- and of one that is typed, which is run
 runnable_so : (files : Option Files) (root main : List ℕ) (library : List ClassFile) (program : Linked) → AreLibrary library → IsLinkedBy files root library main program → IsTyped program → IsRunnable files root main program
@@ -46,9 +46,9 @@ pub linked_by : (program : Linked) (given : Result Linked Stop) → IsLinked pro
 linked_by program (Ok typed) links same = subst IsLinked (sym same) links
 linked_by program (Err stop) links same = tt
 
-pub stopped_by : (files : Option Files) (root : List ℕ) (run : Run) (library : List ClassFile) (program : Linked) (given : Result Linked Stop) → AreLibrary library → IsLinkedBy files root library run.main program → IfErr given (StopsUntyped program) → IfErr given (StopsAtOnce (RunsClass files root run))
+pub stopped_by : (files : Option Files) (root : List ℕ) (run : Run) (library : List ClassFile) (program : Linked) (given : Result Linked Stop) → AreLibrary library → IsLinkedBy files root library run.main program → IfErr given (StopsUntyped program) → IfErr given (λ stop. (left : Option (List ℕ)) → StopsAtOnce (RunsClass files left root run) stop)
 stopped_by files root run library program (Ok typed) known links stops = tt
-stopped_by files root run library program (Err stop) known links stops = untyped_stops files root run library program stop known links stops
+stopped_by files root run library program (Err stop) known links stops = λ left. untyped_stops files left root run library program stop known links stops
 
 -- which is no fault of the folder
 pub quiet_by : (program : Linked) (given : Result Linked Stop) → IfErr given (StopsUntyped program) → given ≡ Err FolderFault → ⊥

@@ -5,15 +5,16 @@ use Rattle.std.specs.Io.KnownBytes.{Appends}
 use Rattle.cb_io.specs.Faults.{CountsFaults}
 use Rattle.cb_io.specs.Folder.{Files}
 use Rattle.cb_io.specs.Sink.{AppendsProperPrefix, IsProperPrefix}
+use Rattle.cb_interp.specs.Reading.{as_bytes}
 use Rattle.cb_link.specs.Program.{Linked}
 use Rattle.cb_runner.specs.declared.cause.Cause.{Cause}
-use Rattle.cb_runner.specs.declared.cause.Cause.TheVariants.{BudgetSpent, ErrFault, Exited, FolderFault, HeapFull, InputFault, NotYet, OutOfMemory, OutputFault, Refused, Returned, Uncaught, Usage}
+use Rattle.cb_runner.specs.declared.cause.Cause.TheVariants.{BudgetSpent, ErrFault, Exited, FolderFault, HeapFull, InputFault, OutOfMemory, OutputFault, Refused, Returned, Uncaught, Usage}
 use Rattle.cb_runner.specs.Asm.{AssemblesText, text_limit}
 use Rattle.cb_runner.specs.Ending.{Ending, folder_fault, input_fault, out_of_memory, output_fault, usage}
 use Rattle.cb_runner.specs.List.{ListsFile}
 use Rattle.cb_runner.specs.Outside.{Content, Failures}
 use Rattle.cb_runner.specs.Run.{IsRunnable, RunsClass}
-use Rattle.cb_runner.specs.Running.{CutsMemory, CutsOutput}
+use Rattle.cb_runner.specs.Running.{CutsInput, CutsMemory, CutsOutput}
 use Rattle.cb_runner.specs.Words.{Command, RunIn, ListOf, Assemble, Says, SaysNone}
 
 -- a command that nothing cuts short returns or is refused, or the program that it runs ends in another way
@@ -23,7 +24,6 @@ ends_whole (Exited status) = true
 ends_whole (Uncaught class) = true
 ends_whole BudgetSpent = true
 ends_whole HeapFull = true
-ends_whole NotYet = true
 ends_whole Usage = false
 ends_whole Refused = true
 ends_whole FolderFault = false
@@ -41,7 +41,7 @@ MayStandAt files path file = IfSome files (λ files. get files path ≡ file)
 
 -- it comes to this end, by what its files may be, or by what may be left of the input
 abbrev pub Answers : Command → Option Files → Option (List ℕ) → Ending → Type 0
-Answers (RunIn folder run) files left ending = RunsClass files folder run ending
+Answers (RunIn folder run) files left ending = RunsClass files left folder run ending
 Answers (ListOf path) files left ending = (file : Option (List ℕ)) × MayStandAt files path file × ListsFile path file ending
 Answers Assemble files left ending = (text : List ℕ) × IfSome left (λ left. left ≡ text) × AssemblesText text ending
 
@@ -56,8 +56,8 @@ pub data Fault : Type 0 where
 abbrev pub MayRead : Option (List ℕ) → ℕ → ℕ → Type 0
 MayRead left most read = (read ≤ most) × IfSome left (λ left. read ≤ length left)
 
--- a command is cut short before it has printed anything, and has read so much: `run` and `list` ask the folder alone, and
--- `asm` the input alone
+-- a command is cut short before it has printed anything, and has read so much: `list`, and `run` before its program runs, ask the folder
+-- alone, and `asm` the input alone
 abbrev pub StopsShort : Fault → Command → Option (List ℕ) → Ending → Type 0
 StopsShort OfMemory Assemble left ending = (read : ℕ) × MayRead left (text_limit + 1) read × (ending ≡ out_of_memory read)
 StopsShort OfMemory command left ending = ending ≡ out_of_memory 0
@@ -66,12 +66,14 @@ StopsShort OfFolder command left ending = ending ≡ folder_fault
 StopsShort OfInput Assemble left ending = (read : ℕ) × MayRead left text_limit read × (ending ≡ input_fault read)
 StopsShort fault command left ending = ⊥
 
--- it is cut short so, or within what it prints. A run may be cut short behind each of its steps
+-- it is cut short so, or within what it prints. A run may be cut short behind each of its steps, and within one that asks the input
 abbrev pub IsCutShort : Fault → Command → Option Files → Option (List ℕ) → Ending → Type 0
 IsCutShort OfMemory (RunIn folder run) files left ending =
-    (ending ≡ out_of_memory 0) ⊎ ((program : Linked) × IsRunnable files folder run.main program × CutsMemory run program ending)
+    (ending ≡ out_of_memory 0) ⊎ ((program : Linked) × IsRunnable files folder run.main program × CutsMemory run program left ending)
+IsCutShort OfInput (RunIn folder run) files left ending =
+    (program : Linked) × IsRunnable files folder run.main program × CutsInput run program left ending
 IsCutShort OfOutput (RunIn folder run) files left ending =
-    (program : Linked) × IsRunnable files folder run.main program × CutsOutput run program ending
+    (program : Linked) × IsRunnable files folder run.main program × CutsOutput run program left ending
 IsCutShort OfOutput command files left ending =
     (whole : Ending) × Answers command files left whole × (front : List ℕ) × IsProperPrefix front whole.out × (ending ≡ output_fault front whole.read)
 IsCutShort fault command files left ending = StopsShort fault command left ending
@@ -97,14 +99,19 @@ pub record CountsEach (ending : Ending) (cause : Cause) (before now : Failures) 
   pub out : CountsFaults before.out now.out (ending.cause ≡ OutputFault)
   pub err : CountsFaults before.err now.err (cause ≡ ErrFault)
 
--- the answer of a call: an end to which the words are carried out, and what the objects hold and have counted then. Words
--- that don't say `asm` leave the input alone
+-- a listing asks nothing of the input
+abbrev pub may_read : Command → Bool
+may_read (ListOf path) = false
+may_read other = true
+
+-- the answer of a call: an end to which the words are carried out, and what the objects hold and have counted then. What is left of an input
+-- that tells bytes is told; words that list or say no command leave it alone
 pub record IsAnswer (words : List (List ℕ)) (before now : Content) (failed fails : Failures) (cause : Cause) : Type 0 where
   pub ending : Ending
   pub ends : Ends words before.files before.left ending
   pub files : now.files ≡ before.files
-  pub left : IfSome before.left (λ left. now.left ≡ Some (drop ending.read left))
-  pub alone : ¬ Says words Assemble → (now.left ≡ before.left) × (fails.input ≡ failed.input)
+  pub left : IfSome (as_bytes before.left) (λ left. now.left ≡ Some (drop ending.read left))
+  pub alone : ((command : Command) → Says words command → may_read command ≡ false) → (now.left ≡ before.left) × (fails.input ≡ failed.input)
   pub out : Appends before.out now.out ending.out
   pub err : IsTold ending cause before.err now.err
   pub counts : CountsEach ending cause failed fails

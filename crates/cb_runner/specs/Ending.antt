@@ -3,7 +3,7 @@ use Rattle.std.specs.Prelude.{pos, ℕ, List, [], unsigned_abs}
 use Rattle.std.specs.Int.{int_rem_euclid}
 use Rattle.std.specs.Prelude.{codes}
 use Rattle.cb_runner.specs.declared.cause.Cause.{Cause}
-use Rattle.cb_runner.specs.declared.cause.Cause.TheVariants.{BudgetSpent, ErrFault, Exited, FolderFault, HeapFull, InputFault, NotYet, OutOfMemory, OutputFault, Refused, Returned, Uncaught, Usage}
+use Rattle.cb_runner.specs.declared.cause.Cause.TheVariants.{BudgetSpent, ErrFault, Exited, FolderFault, HeapFull, InputFault, OutOfMemory, OutputFault, Refused, Returned, Uncaught, Usage}
 use Rattle.cb_runner.specs.Messages.{Reason, line, refusal_text}
 
 -- the exit status of each cause; that of a program that called `exit` is its argument modulo 256
@@ -14,7 +14,6 @@ status_of (Uncaught class) = 1
 status_of OutOfMemory = 119
 status_of Usage = 120
 status_of Refused = 121
-status_of NotYet = 121
 status_of BudgetSpent = 122
 status_of HeapFull = 123
 status_of FolderFault = 124
@@ -31,8 +30,8 @@ pub record Ending : Type 0 where
   pub read : ℕ
 
 -- that of a run, with these last words
-abbrev pub told : Cause → List ℕ → List ℕ → Ending
-told cause out err = record { cause = cause; out = out; err = err; read = 0 }
+abbrev pub told : Cause → List ℕ → List ℕ → ℕ → Ending
+told cause out err read = record { cause = cause; out = out; err = err; read = read }
 
 -- one that has printed nothing, with this last line
 abbrev pub without_output : Cause → List ℕ → ℕ → Ending
@@ -52,6 +51,10 @@ folder_fault = without_output FolderFault (codes "folder fault") 0
 
 abbrev pub input_fault : ℕ → Ending
 input_fault read = without_output InputFault (codes "input fault") read
+
+-- a call of the input failed behind what was printed
+abbrev pub input_fault_behind : List ℕ → ℕ → Ending
+input_fault_behind out read = record { cause = InputFault; out = out; err = line (codes "input fault"); read = read }
 
 -- the command came to its end
 abbrev pub returned : List ℕ → ℕ → Ending

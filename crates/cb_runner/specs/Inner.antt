@@ -1,17 +1,17 @@
 -- What private contracts and proofs cite: no public clause names this file.
-use Rattle.std.specs.Prelude.{◌≡◌, ◌⊎◌, map, pred, ℕ, ◌+◌, ◌<◌, ◌≤◌, Bool, true, false, List, [], ◌∷◌, ◌++◌, length, drop, codes, string_bytes, Vec, Result, Ok, Err, Option, Some, IfSome, IsSomeAnd, IsTrue}
+use Rattle.std.specs.Prelude.{◌≡◌, ◌⊎◌, map, pred, ℕ, ◌+◌, ◌<◌, ◌≤◌, Bool, true, false, List, [], ◌∷◌, ◌++◌, length, drop, codes, string_bytes, Vec, Result, Ok, Err, Option, Some, IfSome, IsSomeAnd, IsTrue, unwrap_or}
 use Rattle.std.specs.Io.KnownBytes.{Appends, Consumes, IsAtEnd, Keeps}
 use Rattle.std.specs.List.{AllByRecursion}
 use Rattle.std.specs.declared.alloc.Global.{Global}
 use Rattle.cb_heap.specs.Reading.{seen, serial_of}
 use Rattle.cb_heap.specs.declared.no_room.NoRoom.{NoRoom}
 use Rattle.cb_heap.specs.declared.no_room.NoRoom.TheVariants as rooms
+use Rattle.cb_interp.specs.Reading.{as_bytes}
 use Rattle.cb_interp.specs.Starting.{BeginsWith, unread}
 use Rattle.cb_interp.specs.Texts.{TellsException}
 use Rattle.cb_act.specs.Turning.{moment_of}
 use Rattle.cb_interp.specs.declared.end.End.{End}
 use Rattle.cb_interp.specs.declared.end.End.TheVariants as ends
-use Rattle.cb_io.specs.Utf8.{utf8}
 use Rattle.cb_machine.specs.Performing.{most_elements}
 use Rattle.cb_mapheap.specs.Room.{rules_of}
 use Rattle.cb_plain.specs.State.{Object, Roots}
@@ -38,9 +38,9 @@ use Rattle.cb_runner.specs.declared.words.Command.{Command as SaidCommand}
 use Rattle.cb_runner.specs.declared.words.Command.TheVariants as said_commands
 use Rattle.cb_runner.specs.Answer.{ends_whole}
 use Rattle.cb_runner.specs.Ending.{Ending, returned}
-use Rattle.cb_runner.specs.Messages.{Reason, BadVersion, Malformed, NotYet, Unsupported, line, reason_of, refusal_text}
+use Rattle.cb_runner.specs.Messages.{Reason, BadVersion, Malformed, Unsupported, line, reason_of, refusal_text}
 use Rattle.cb_runner.specs.Run.{IsUntyped, reason_of_linking}
-use Rattle.cb_runner.specs.Running.{CutsMemory, CutsOutput, EndsRun, exception_line, full_line, machine_of, spent_line, texts_of}
+use Rattle.cb_runner.specs.Running.{CutsInput, CutsMemory, CutsOutput, EndsRun, exception_line, full_line, machine_of, spent_line, texts_of}
 use Rattle.cb_runner.specs.Words.{AreOptions, Command, IsOption, IsOptionOf, RunIn, ListOf, Assemble, Run, TellsNumber, internal_name}
 
 -- the words that are arguments, and the run and the command that a value of the program is
@@ -186,19 +186,32 @@ pub record TakesOptions (steps frames : ℕ) (words rest : List (List ℕ)) : Ty
 abbrev pub AreTexts : List (List ℕ) → Type 0
 AreTexts given = AllByRecursion IsText given × (length given ≤ most_elements)
 
--- a program was run, stopped so and printed this
-abbrev pub RunsTo : Run → Linked → Stop → List ℕ → Type 0
-RunsTo run program OutOfMemory out = (out ≡ []) ⊎ CutsMemory run program (ending_of OutOfMemory out 0)
-RunsTo run program OutputFault out = CutsOutput run program (ending_of OutputFault out 0)
-RunsTo run program Returned out = EndsRun run program (ending_of Returned out 0)
-RunsTo run program (Exited status) out = EndsRun run program (ending_of (Exited status) out 0)
-RunsTo run program (Told cause text) out = EndsRun run program (ending_of (Told cause text) out 0)
-RunsTo run program other out = ⊥
+-- a program was run, stopped so, printed this and read so many bytes of what may be left of the input
+abbrev pub RunsTo : Run → Linked → Option (List ℕ) → Stop → List ℕ → ℕ → Type 0
+RunsTo run program left OutOfMemory out read = ((out ≡ []) × (read ≡ 0)) ⊎ CutsMemory run program left (ending_of OutOfMemory out read)
+RunsTo run program left InputFault out read = CutsInput run program left (ending_of InputFault out read)
+RunsTo run program left OutputFault out read = CutsOutput run program left (ending_of OutputFault out read)
+RunsTo run program left Returned out read = EndsRun run program left (ending_of Returned out read)
+RunsTo run program left (Exited status) out read = EndsRun run program left (ending_of (Exited status) out read)
+RunsTo run program left (Told cause text) out read = EndsRun run program left (ending_of (Told cause text) out read)
+RunsTo run program left other out read = ⊥
 
--- a run has begun: what is kept stands at the start
+-- and what it printed went out, and what it read came from the input
+pub record HasRunTo (run : Run) (program : Linked) (before now known taken : Option (List ℕ)) (stop : Stop) : Type 0 where
+  pub printed : List ℕ
+  pub read : ℕ
+  pub appends : Appends known taken printed
+  pub left : IfSome (as_bytes before) (λ left. now ≡ Some (drop read left))
+  pub runs : RunsTo run program before stop printed read
+
+-- what the machine that never frees is given for an input: no bytes where it doesn't tell them
+abbrev pub given_input : Option (List ℕ) → List ℕ
+given_input left = unwrap_or (as_bytes left) []
+
+-- a run has begun, whatever the input: what is kept stands at the start
 abbrev pub HasBegun : Run → Linked → List Object → Roots → Type 0
 HasBegun run program objects roots =
-    BeginsWith rules_of (machine_of run program) (texts_of run) [] tt (moment_of (seen pred (map Some objects) roots) (unread []) tt)
+    (input : List ℕ) → BeginsWith rules_of (machine_of run program) (texts_of run) input tt (moment_of (seen pred (map Some objects) roots) (unread input) tt)
 
 -- a command stops for a cause with this last line, or there was no memory for it
 abbrev pub IsToldAs : Cause → List ℕ → Stop → Type 0
@@ -227,9 +240,9 @@ IsStopOf run program objects (ends.Uncaught class at) stop = IsUncaughtAs progra
 IsStopOf run program objects ends.BudgetSpent stop = IsToldAs causes.BudgetSpent (spent_line run.steps) stop
 IsStopOf run program objects (ends.HeapFull live asked limit) stop = IsToldAs causes.HeapFull (full_line (rooms.Full live asked limit)) stop
 IsStopOf run program objects ends.ReportFault stop = stop ≡ OutOfMemory
+IsStopOf run program objects ends.InputFault stop = stop ≡ InputFault
 IsStopOf run program objects ends.OutputFault stop = stop ≡ OutputFault
 IsStopOf run program objects ends.OutOfMemory stop = stop ≡ OutOfMemory
-IsStopOf run program objects ends.NotYet stop = IsToldAs causes.NotYet (line (refusal_text (NotYet (utf8 run.main)))) stop
 
 -- what is asked for that of the objects: they are typed, and an exception is one
 abbrev pub MayTell : Linked → List (Option Object) → End → Type 0
@@ -267,5 +280,5 @@ pub record IsCarriedOut (MayEnd : Ending → Type 0) (before now known taken : O
   pub printed : List ℕ
   pub read : ℕ
   pub appends : Appends known taken printed
-  pub left : IfSome before (λ left. now ≡ Some (drop read left))
+  pub left : IfSome (as_bytes before) (λ left. now ≡ Some (drop read left))
   pub ends : MayEnd (ending_of stop printed read)

@@ -14,7 +14,6 @@ pub data Reason : Type 0 where
   Malformed : List ℕ → Reason
   BadVersion : List ℕ → ℕ → Reason
   Unsupported : List ℕ → Feature → Reason
-  NotYet : List ℕ → Reason
   BadHierarchy : List ℕ → Reason
   MissingMember : List ℕ → List ℕ → Reason
   NoMain : List ℕ → Reason
@@ -28,7 +27,6 @@ reason_of (refusals.MissingClass name) = MissingClass (string_bytes name)
 reason_of (refusals.Malformed class) = Malformed (string_bytes class)
 reason_of (refusals.BadVersion class major) = BadVersion (string_bytes class) major
 reason_of (refusals.Unsupported class item) = Unsupported (string_bytes class) item
-reason_of (refusals.NotYet class) = NotYet (string_bytes class)
 reason_of (refusals.BadHierarchy class) = BadHierarchy (string_bytes class)
 reason_of (refusals.MissingMember class member) = MissingMember (string_bytes class) (string_bytes member)
 reason_of (refusals.NoMain class) = NoMain (string_bytes class)
@@ -50,7 +48,6 @@ refusal_text (MissingClass class) = codes "E1 missing class " ++ class
 refusal_text (Malformed class) = codes "E2 malformed class " ++ class
 refusal_text (BadVersion class major) = codes "E3 version " ++ decimal major ++ codes " in class " ++ class
 refusal_text (Unsupported class item) = codes "E4 unsupported " ++ feature_text item ++ codes " in class " ++ class
-refusal_text (NotYet class) = codes "E4 unsupported not yet in class " ++ class
 refusal_text (BadHierarchy class) = codes "E5 bad hierarchy at class " ++ class
 refusal_text (MissingMember class member) = codes "E6 missing member " ++ member ++ codes " in class " ++ class
 refusal_text (NoMain class) = codes "E9 no main in class " ++ class

@@ -81,15 +81,15 @@ pub record IsRunnable (files : Option Files) (folder main : List ℕ) (program :
   pub typed : IsTyped program
 
 -- linking the class stops for a reason, which is told; or its classes are a program that isn't typed, for a reason that is told; or
--- they are one that is, and it is run
-pub data RunsClass (files : Option Files) (folder : List ℕ) (run : Run) (ending : Ending) : Type 0 where
+-- they are one that is, and it is run with what may be left of the input
+pub data RunsClass (files : Option Files) (left : Option (List ℕ)) (folder : List ℕ) (run : Run) (ending : Ending) : Type 0 where
   Stopped : (library : List ClassFile) (refusal : LinkRefusal) (reason : Reason) → AreLibrary library
       → IsHindered files folder library run.main refusal → reason_of_linking refusal ≡ Some reason → ending ≡ refused reason 0
-      → RunsClass files folder run ending
+      → RunsClass files left folder run ending
   Untyped : (library classes : List ClassFile) (method : ℕ) (reason : Reason) → AreLibrary library → AreLoaded files folder run.main classes
       → IsProgram (library ++ classes) run.main method → IsUntyped (linked (library ++ classes) run.main method) reason → ending ≡ refused reason 0
-      → RunsClass files folder run ending
-  Typed : (program : Linked) → IsRunnable files folder run.main program → EndsRun run program ending → RunsClass files folder run ending
+      → RunsClass files left folder run ending
+  Typed : (program : Linked) → IsRunnable files folder run.main program → EndsRun run program left ending → RunsClass files left folder run ending
 
 -- classes that were loaded are a program, whatever the layout of the library's records; or they are none for this reason
 abbrev pub AreProgram : List ClassFile → List ℕ → Type 0

@@ -13,8 +13,6 @@ pub enum Cause {
     /// What the next step of the program places takes more words than there may be, or what is there at its start does. What was
     /// printed before stands.
     HeapFull,
-    /// The next step of the program performs a native that isn't done yet. What was printed before stands.
-    NotYet,
     /// The words are no command.
     Usage,
     /// What the words ask for was refused.
@@ -48,7 +46,7 @@ impl Cause {
             Cause::Uncaught(_) => 1,
             Cause::OutOfMemory => 119,
             Cause::Usage => 120,
-            Cause::Refused | Cause::NotYet => 121,
+            Cause::Refused => 121,
             Cause::BudgetSpent => 122,
             Cause::HeapFull => 123,
             Cause::FolderFault => 124,

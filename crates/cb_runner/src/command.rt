@@ -1,10 +1,10 @@
 // The top call.
-ghost use Rattle.std.specs.Prelude.{◌≡◌, map, string_bytes};
+ghost use Rattle.std.specs.Prelude.{◌≡◌, false, map, string_bytes};
 ghost use Rattle.cb_io.specs.Faults.{CountsFaults};
-ghost use Rattle.cb_runner.specs.Answer.{Ends, IsAnswer};
+ghost use Rattle.cb_runner.specs.Answer.{Ends, IsAnswer, may_read};
 ghost use Rattle.cb_runner.specs.Ending.{status_of};
 ghost use Rattle.cb_runner.specs.Inner.{IsCarriedOut, TellsWhole};
-ghost use Rattle.cb_runner.specs.Words.{AreFew, Assemble, Says};
+ghost use Rattle.cb_runner.specs.Words.{AreFew, Command as SaidCommand, Says};
 ghost use Rattle.cb_runner.specs.declared.stop.Stop.TheVariants as stops;
 
 use crate::Ended;
@@ -20,10 +20,11 @@ use std::alloc::Global;
 ///
 /// `run [--steps N] [--frames N] FOLDER MAIN [ARGS]` links the class MAIN: it reads `FOLDER/MAIN.class` and the files of the
 /// classes that are needed. Then it verifies their methods (JVMS §4.10.1). If all are typed, the program is run with the
-/// arguments, for at most so many steps and with at most so many frames, and what it prints goes to `out`. `list PATH` prints the listing of a class file. `asm` reads an assembly text from `input` and
-/// writes the class file to `out`; no other command reads anything from it. How the call ended goes to `err` as its last line,
-/// but where the command came to its end. `Ended::status` is that of its cause: the argument modulo 256
-/// where the program called `exit`, else 0, 1, or 119 to 127.
+/// arguments, for at most so many steps and with at most so many frames; it reads from `input`, and what it prints goes to
+/// `out`. `list PATH` prints the listing of a class file, and reads nothing from `input`. `asm` reads an assembly text from
+/// `input` and writes the class file to `out`. How the call ended goes to `err` as its last line, but where the command came
+/// to its end. `Ended::status` is that of its cause: the argument modulo 256 where the program called `exit`, else 0, 1, or
+/// 119 to 127.
 pub fn run_command<F: Folder, S: Source, O: Sink, E: Sink>(
     alloc: Global,
     words: &[String],
@@ -60,14 +61,14 @@ fn carry_out<F: Folder, S: Source, O: Sink>(
         (S.left input.old) (S.left input.new) (O.taken out.old) (O.taken out.new) result }
     ensures kept { F.files folder.new ≡ F.files folder.old }
     ensures tells { TellsWhole result }
-    ensures alone { ¬ Says (map string_bytes words.now) Assemble
+    ensures alone { ((command : SaidCommand) → Says (map string_bytes words.now) command → may_read command ≡ false)
         → (S.left input.new ≡ S.left input.old) × (S.faults input.new ≡ S.faults input.old) }
     ensures folder_fault { CountsFaults (F.faults folder.old) (F.faults folder.new) (result ≡ stops.FolderFault) }
     ensures input_fault { CountsFaults (S.faults input.old) (S.faults input.new) (result ≡ stops.InputFault) }
     ensures output_fault { CountsFaults (O.faults out.old) (O.faults out.new) (result ≡ stops.OutputFault) }
 {
     match command_of(words) {
-        Some(Command::Run(asked)) => run_class(alloc, &asked, folder, out),
+        Some(Command::Run(asked)) => run_class(alloc, &asked, folder, input, out),
         Some(Command::List { path }) => list_file(alloc, path, folder, out),
         Some(Command::Assemble) => assemble_input(alloc, input, out),
         None => Stop::Usage,

@@ -1,13 +1,10 @@
 // What is told at the end of a run.
 ghost use Rattle.std.specs.Prelude.{◌≡◌, ℕ, List, map, pred, string_bytes, IfErr, IfOk, Some};
 ghost use Rattle.cb_heap.specs.Reading.{serial_of};
-ghost use Rattle.cb_io.specs.Utf8.{utf8};
 ghost use Rattle.cb_interp.specs.Texts.{TellsException};
 ghost use Rattle.cb_heap.specs.declared.no_room.NoRoom.TheVariants.{Full};
 ghost use Rattle.cb_runner.specs.Inner.{IsRefusedStart, IsStopOf, IsToldAs, IsUncaughtAs, MayTell, run_of};
-ghost use Rattle.cb_runner.specs.Messages.{NotYet, line, refusal_text};
 ghost use Rattle.cb_runner.specs.Running.{exception_line, full_line, spent_line};
-ghost use Rattle.cb_runner.specs.Words.{internal_name};
 ghost use Rattle.cb_runner.specs.declared.cause.Cause.TheVariants as causes;
 ghost use Rattle.cb_runner.specs.declared.stop.Stop.TheVariants as stops;
 ghost use Rattle.cb_safety.specs.Heap.{IsHeap};
@@ -16,10 +13,9 @@ ghost use Rattle.cb_safety.specs.Linked.{IsLinked};
 ghost use Rattle.cb_verify.specs.Typed.{IsTyped};
 ghost use Rattle.cb_verify.specs.Within.{kind_of_throwable};
 
-use crate::class_name::internal_name;
+use crate::Cause;
 use crate::run_words::RunWords;
 use crate::stop::Stop;
-use crate::{Cause, Refusal};
 use cb_heap::NoRoom;
 use cb_interp::{End, exception_text};
 use cb_io::text_of;
@@ -47,10 +43,10 @@ pub(crate) fn stop_of(
         End::Uncaught { class, at } => uncaught(alloc, program, store, class, at),
         End::BudgetSpent => spent(alloc, asked.steps),
         End::HeapFull { live, asked, limit } => full(alloc, live, asked, limit),
+        End::InputFault => Stop::InputFault,
         End::OutputFault => Stop::OutputFault,
         End::ReportFault => Stop::OutOfMemory,
         End::OutOfMemory => Stop::OutOfMemory,
-        End::NotYet => not_yet(alloc, asked.class),
     }
 }
 
@@ -94,20 +90,6 @@ fn full(alloc: Global, live: u64, asked: u64, limit: u64) -> Stop
         Cause::HeapFull,
         format!(in alloc; "cbvm: heap full {live} live {asked} asked {limit} allowed\n"),
     )
-}
-
-/// Stops since a step isn't done yet, of the program of the class that a word names.
-fn not_yet(alloc: Global, class: &str) -> Stop
-    ensures { IsToldAs causes.NotYet (line (refusal_text (NotYet (utf8 (internal_name class.now))))) result }
-{
-    let Ok(main) = internal_name(alloc, class) else {
-        return Stop::OutOfMemory;
-    };
-    let Ok(class) = text_of(alloc, main.as_slice()) else {
-        return Stop::OutOfMemory;
-    };
-    let refusal = Refusal::NotYet { class };
-    told(Cause::NotYet, format!(in alloc; "cbvm: {refusal}\n"))
 }
 
 /// Stops for an exception without a handler, of a class and at a place of the store.

@@ -70,7 +70,7 @@ pub fn run_exactly()
     ensures runs { (folder : List ℕ) (run : Run) (files : Files) (left : Option (List ℕ)) (ending : Ending)
         (classes : List ClassFile) → Answers (RunIn folder run) (Some files) left ending
         → AreLoaded (Some files) folder run.main classes → AreProgram classes run.main → AreTyped classes run.main
-        → (program : Linked) × IsRunnable (Some files) folder run.main program × EndsRun run program ending }
+        → (program : Linked) × IsRunnable (Some files) folder run.main program × EndsRun run program left ending }
 {
     one_loading();
     one_judgement();

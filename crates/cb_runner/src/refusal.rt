@@ -27,10 +27,6 @@ pub enum Refusal {
         class: String,
         item: Feature,
     },
-    /// The next step of the program of the class is one of those that aren't done yet.
-    NotYet {
-        class: String,
-    },
     /// The class is above itself, its superclass is an interface or final, one of its superinterfaces is a class, or it
     /// overrides a final method.
     BadHierarchy {
@@ -106,7 +102,6 @@ impl fmt::Display for Refusal {
             Refusal::Unsupported { class, item } => {
                 write!(f, "E4 unsupported {item} in class {class}")
             }
-            Refusal::NotYet { class } => write!(f, "E4 unsupported not yet in class {class}"),
             Refusal::BadHierarchy { class } => write!(f, "E5 bad hierarchy at class {class}"),
             Refusal::MissingMember { class, member } => {
                 write!(f, "E6 missing member {member} in class {class}")

@@ -1,9 +1,8 @@
 // The command `run`.
-ghost use Rattle.std.specs.Prelude.{◌≡◌, ℕ, List, Option};
-ghost use Rattle.std.specs.Io.KnownBytes.{Appends};
+ghost use Rattle.std.specs.Prelude.{◌≡◌};
 ghost use Rattle.cb_io.specs.Faults.{CountsFaults};
 ghost use Rattle.cb_runner.specs.Answer.{EndsIn};
-ghost use Rattle.cb_runner.specs.Inner.{TellsWhole, ending_of, run_of, words_of};
+ghost use Rattle.cb_runner.specs.Inner.{IsCarriedOut, TellsWhole, run_of, words_of};
 ghost use Rattle.cb_runner.specs.Words.{AreFew, RunIn};
 ghost use Rattle.cb_runner.specs.declared.stop.Stop.TheVariants as stops;
 
@@ -11,27 +10,28 @@ use crate::executing::run_program;
 use crate::linking::link_class;
 use crate::run_words::RunWords;
 use crate::stop::Stop;
-use cb_io::{Folder, Sink};
+use cb_io::{Folder, Sink, Source};
 use std::alloc::Global;
 
 /// Links and verifies the class of a folder that words name, and runs it.
-pub(crate) fn run_class<F: Folder, O: Sink>(
+pub(crate) fn run_class<F: Folder, I: Source, O: Sink>(
     alloc: Global,
     asked: &RunWords<'_>,
     folder: &mut F,
+    input: &mut I,
     out: &mut O,
 ) -> Stop
     requires few { AreFew (words_of asked.now.arguments) }
-    ensures ends { (printed : List ℕ) × Appends (O.taken out.old) (O.taken out.new) printed
-        × ((left : Option (List ℕ)) → EndsIn (RunIn asked.now.folder.now (run_of asked.now)) (F.files folder.old) left
-        (ending_of result printed 0)) }
+    ensures ends { IsCarriedOut (EndsIn (RunIn asked.now.folder.now (run_of asked.now)) (F.files folder.old) (I.left input.old))
+        (I.left input.old) (I.left input.new) (O.taken out.old) (O.taken out.new) result }
     ensures kept { F.files folder.new ≡ F.files folder.old }
     ensures tells { TellsWhole result }
     ensures folder_fault { CountsFaults (F.faults folder.old) (F.faults folder.new) (result ≡ stops.FolderFault) }
+    ensures input_fault { CountsFaults (I.faults input.old) (I.faults input.new) (result ≡ stops.InputFault) }
     ensures output_fault { CountsFaults (O.faults out.old) (O.faults out.new) (result ≡ stops.OutputFault) }
 {
     match link_class(alloc, asked, folder) {
-        Ok(program) => run_program(alloc, &program, asked, out),
+        Ok(program) => run_program(alloc, &program, asked, input, out),
         Err(stop) => stop,
     }
 }

@@ -4,7 +4,7 @@ use Rattle.cb_runner.specs.Ending.{status_of}
 use Rattle.cb_runner.specs.Outside.{Content, Failures}
 use Rattle.cb_runner.specs.Words.{SaysNone, SaysRun}
 use Rattle.cb_runner.specs.declared.cause.Cause.{Cause}
-use Rattle.cb_runner.specs.declared.cause.Cause.TheVariants.{BudgetSpent, ErrFault, Exited, FolderFault, HeapFull, InputFault, NotYet, OutOfMemory, OutputFault, Refused, Returned, Uncaught, Usage}
+use Rattle.cb_runner.specs.declared.cause.Cause.TheVariants.{BudgetSpent, ErrFault, Exited, FolderFault, HeapFull, InputFault, OutOfMemory, OutputFault, Refused, Returned, Uncaught, Usage}
 use Rattle.cb_runner.proofs.Laws.{none_told, told_none, told_run}
 use Rattle.cb_main.proofs.run_few.Goals as goal
 
@@ -16,7 +16,6 @@ usage_alone (Exited status) is = inr (status, refl)
 usage_alone (Uncaught class) is = absurd (omega (arith, is))
 usage_alone BudgetSpent is = absurd (omega (arith, is))
 usage_alone HeapFull is = absurd (omega (arith, is))
-usage_alone NotYet is = absurd (omega (arith, is))
 usage_alone Refused is = absurd (omega (arith, is))
 usage_alone FolderFault is = absurd (omega (arith, is))
 usage_alone InputFault is = absurd (omega (arith, is))

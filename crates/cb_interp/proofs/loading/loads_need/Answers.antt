@@ -1,7 +1,7 @@
 use Rattle.std.proofs.Common.{◌∙◌, ap, subst, sym}
 use Rattle.cb_heap.specs.Reading.{seen}
 use Rattle.cb_link.specs.Named.{IsThere}
-use Rattle.cb_interp.proofs.LeavingAsks.{loads_constant, names_constant, never_other}
+use Rattle.cb_interp.proofs.NativesAsked.{loads_constant, names_constant, never_other}
 use Rattle.cb_interp.proofs.loading.loads_need.Goals as goal
 
 pub load_need-requires : goal.load_need-requires

@@ -1,7 +1,7 @@
 use Rattle.std.proofs.Common.{◌∙◌, ap, sym}
 use Rattle.cb_heap.specs.Reading.{seen}
 use Rattle.cb_act.specs.Turning.{machine_of, state_of}
-use Rattle.cb_interp.proofs.LeavingNatives.{leaves_native}
+use Rattle.cb_interp.proofs.NativesPrinting.{none_left}
 use Rattle.cb_interp.proofs.TurnsNativeSaid.{native_low, of_err, of_ok}
 use Rattle.cb_interp.proofs.TurnsNativeString.{string_goes, string_here, string_part, string_turn, text_here, two_here, units_here}
 use Rattle.cb_interp.proofs.native_turns.string_turn.Goals as goal
@@ -51,14 +51,14 @@ returns-clause-made g c =
     (g.O.Sink.taken c.args.out.now) (g.O.Sink.taken c.write_string.new.out) c.in-Some-next.is (ap (λ held. held.roots) c.leave_two.ensures)
     (of_ok _ c.write_string.result (sym c.is_err.ensures.value ∙ c.if-is_err.false) c.write_string.ensures.all)
 
-pub unreachable-requires : goal.unreachable-requires
-unreachable-requires g c =
+pub unreachable-requires-in_default-next : goal.unreachable-requires-in_default-next
+unreachable-requires-in_default-next g c =
     string_goes c.args.program.now (g.S.Store.index c.args.store.now) (g.S.Store.kept c.args.store.now) c.args.roots.now.limit c.args.roots.now.roots g.outside c.args.decoded.now c.args.method
     c.requires.1.1.1.0 c.requires.1.1.1.1.0 (g.S.Store.shapes c.args.store.now) (g.S.Store.knows c.args.store.now) (g.S.Store.allows c.args.store.now) c.requires.1.1.0
     c.in-Some.line c.in-Some.ensures.is c.in_default-next.is
 
-pub returns-in_default-clause-only : goal.returns-in_default-clause-only
-returns-in_default-clause-only g c =
-    leaves_native (machine_of c.args.program.now c.args.roots.now.limit)
+pub unreachable-requires : goal.unreachable-requires
+unreachable-requires g c =
+    none_left (machine_of c.args.program.now c.args.roots.now.limit)
     (state_of (seen (g.S.Store.index c.args.store.now) (g.S.Store.kept c.args.store.now) c.args.roots.now.roots) g.outside) c.args.decoded.now c.requires.1.1.1.0 c.args.method
     c.requires.1.1.1.1.0 c.requires.1.1.1.1.1.0 c.in_default.ensures.other c.requires.1.1.1.1.1.1

@@ -3,7 +3,7 @@ use Rattle.cb_heap.specs.Reading.{seen}
 use Rattle.cb_act.specs.Acting.{Asks}
 use Rattle.cb_act.specs.Here.{need_plan}
 use Rattle.cb_act.specs.Turning.{machine_of, state_of}
-use Rattle.cb_interp.proofs.LeavingAsks.{begins_low, switches_so}
+use Rattle.cb_interp.proofs.NativesAsked.{begins_low, switches_so}
 use Rattle.cb_interp.proofs.TurnsNeedThrown.{thrown_site}
 use Rattle.cb_interp.proofs.need_turns.need_turn.Goals as goal
 

@@ -2,7 +2,7 @@ use Rattle.std.proofs.Common.{rules}
 use Rattle.std.specs.declared.result.Result.TheVariants.{Ok}
 use Rattle.cb_heap.specs.Reading.{seen}
 use Rattle.cb_act.specs.Turning.{machine_of}
-use Rattle.cb_interp.proofs.LeavingNatives.{none_performed}
+use Rattle.cb_interp.proofs.NativesPrinting.{none_performed}
 use Rattle.cb_interp.proofs.RunTurns.{silent_made}
 use Rattle.cb_interp.proofs.TurnsNativeSaid.{native_low}
 use Rattle.cb_interp.proofs.needed_turns.outside_turn.Goals as goal
@@ -35,8 +35,8 @@ native_turn-requires g c κs within = (
         c.requires.1.1.1.0,
         (
           c.requires.1.1.1.1.0,
-          none_performed c.args.program.now c.args.method c.requires.1.1.1.1.1.0 c.requires.1.1.1.1.1.1.0 c.requires.1.1.1.1.1.1.1.0 c.requires.1.1.1.1.1.1.1.1 (c.collecting.ensures.other c.if-collecting.false)
-              (c.exiting.ensures.other c.if-exiting.false),
+          none_performed c.args.program.now c.args.method c.requires.1.1.1.1.1.0 c.requires.1.1.1.1.1.1.0 c.requires.1.1.1.1.1.1.1.1.0 c.requires.1.1.1.1.1.1.1.1.1 (c.collecting.ensures.other c.if-collecting.false)
+              (c.exiting.ensures.other c.if-exiting.false) c.requires.1.1.1.1.1.1.1.0,
         ),
       ),
     ),

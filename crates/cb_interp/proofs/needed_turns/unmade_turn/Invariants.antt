@@ -1,10 +1,7 @@
 use Rattle.cb_interp.proofs.needed_turns.unmade_turn.Given as goal
 
-abbrev pub ghost-enum_turn : goal.ghost-enum_turn
-ghost-enum_turn g a = g.outside
+abbrev pub ghost-read_turn : goal.ghost-read_turn
+ghost-read_turn g a = g.outside
 
-abbrev pub ghost-outside_turn : goal.ghost-outside_turn
-ghost-outside_turn g a = g.outside
-
-abbrev pub ghost-copy_turn : goal.ghost-copy_turn
-ghost-copy_turn g a = g.outside
+abbrev pub ghost-unread_turn : goal.ghost-unread_turn
+ghost-unread_turn g a = g.outside

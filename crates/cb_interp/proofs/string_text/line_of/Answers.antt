@@ -1,4 +1,4 @@
-use Rattle.cb_interp.proofs.LeavingNatives.{no_text_elsewhere}
+use Rattle.cb_interp.proofs.NativesPrinting.{no_text_elsewhere}
 use Rattle.cb_interp.proofs.string_text.line_of.Goals as goal
 
 pub returns-then-class_of-ne-PRINT_STREAM-clause-other : goal.returns-then-class_of-ne-PRINT_STREAM-clause-other

@@ -1,5 +1,5 @@
-use Rattle.std.proofs.Common.{◌≡◌, ◌∙◌, ap, subst, sym, map}
-use Rattle.cb_heap.specs.Reading.{read_frame, read_roots, read_value, seen}
+use Rattle.std.proofs.Common.{◌∙◌, ap, subst, sym, map}
+use Rattle.cb_heap.specs.Reading.{read_frame, read_value, seen}
 use Rattle.cb_natives.specs.Making.{Performs, given_back}
 use Rattle.cb_plain.specs.State.{Roots}
 use Rattle.cb_natives.proofs.making.run_native.Goals as goal

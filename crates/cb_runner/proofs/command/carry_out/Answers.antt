@@ -1,7 +1,8 @@
-use Rattle.std.proofs.Common.{◌≡◌, inr, map, string_bytes, ap, subst}
+use Rattle.std.proofs.Common.{inr, map, string_bytes, ap, subst, sym}
+use Rattle.std.proofs.lemmas.Bool.{false≢true}
 use Rattle.cb_runner.specs.Inner.{cause_of, run_of, said}
 use Rattle.cb_runner.specs.Words.{Assemble, ListOf, RunIn, Says}
-use Rattle.cb_runner.proofs.Endings.{carried, unchanged_count, unsaid}
+use Rattle.cb_runner.proofs.Endings.{carried, done_so, unchanged_count, unsaid}
 use Rattle.cb_runner.proofs.RunSaid.{few_said}
 use Rattle.cb_runner.proofs.Laws.{asks_folder, asks_input}
 use Rattle.cb_runner.proofs.command.carry_out.Goals as goal
@@ -16,14 +17,13 @@ pub returns-in-Some-Run-clause-ends : goal.returns-in-Some-Run-clause-ends
 returns-in-Some-Run-clause-ends g c =
     let asked = c.in-Some-Run.asked in
     let says = subst (λ command. Says (map string_bytes c.args.words.now) (said command)) c.in-Some-Run.field-0-is c.in-Some-Run.ensures in
-    let (printed, appends, ends) = c.run_class.ensures.ends in
-    carried _ _ _ _ _ (RunIn asked.folder.now (run_of asked)) c.run_class.result printed says appends ends
+    done_so _ _ _ _ _ _ (RunIn asked.folder.now (run_of asked)) c.run_class.result says c.run_class.ensures.ends
 
-pub returns-in-Some-Run-clause-input_fault : goal.returns-in-Some-Run-clause-input_fault
-returns-in-Some-Run-clause-input_fault g c =
+pub returns-in-Some-Run-clause-alone : goal.returns-in-Some-Run-clause-alone
+returns-in-Some-Run-clause-alone g c = λ all.
     let asked = c.in-Some-Run.asked in
-    let (printed, appends, ends) = c.run_class.ensures.ends in
-    unchanged_count _ (λ is. let no : RunIn asked.folder.now (run_of asked) ≡ Assemble = asks_input _ _ (g.S.Source.left c.args.input.now) _ (ends (g.S.Source.left c.args.input.now)) (ap cause_of is) in cc)
+    let says = subst (λ command. Says (map string_bytes c.args.words.now) (said command)) c.in-Some-Run.field-0-is c.in-Some-Run.ensures in
+    absurd (false≢true (sym (all (RunIn asked.folder.now (run_of asked)) says)))
 
 pub returns-in-Some-List-clause-ends : goal.returns-in-Some-List-clause-ends
 returns-in-Some-List-clause-ends g c =
@@ -34,13 +34,24 @@ returns-in-Some-List-clause-ends g c =
 pub returns-in-Some-List-clause-input_fault : goal.returns-in-Some-List-clause-input_fault
 returns-in-Some-List-clause-input_fault g c =
     let (printed, appends, ends) = c.list_file.ensures.ends in
-    unchanged_count _ (λ is. let no : ListOf c.in-Some-List.path.now ≡ Assemble = asks_input _ _ (g.S.Source.left c.args.input.now) _ (ends (g.S.Source.left c.args.input.now)) (ap cause_of is) in cc)
+    unchanged_count _ (λ is. asks_input c.in-Some-List.path.now _ (g.S.Source.left c.args.input.now) _ (ends (g.S.Source.left c.args.input.now)) (ap cause_of is))
 
 pub returns-in-Some-Assemble-clause-ends : goal.returns-in-Some-Assemble-clause-ends
 returns-in-Some-Assemble-clause-ends g c =
     let says = subst (λ command. Says (map string_bytes c.args.words.now) (said command)) c.in-Some-Assemble.field-0-is c.in-Some-Assemble.ensures in
     let done = c.assemble_input.ensures.ends in
-    record { printed = done.printed; read = done.read; appends = done.appends; left = done.left; ends = inr (Assemble, says, done.ends _) }
+    record {
+      printed = done.printed;
+      read = done.read;
+      appends = done.appends;
+      left = done.left;
+      ends = inr (Assemble, says, done.ends _);
+    }
+
+pub returns-in-Some-Assemble-clause-alone : goal.returns-in-Some-Assemble-clause-alone
+returns-in-Some-Assemble-clause-alone g c = λ all.
+    let says = subst (λ command. Says (map string_bytes c.args.words.now) (said command)) c.in-Some-Assemble.field-0-is c.in-Some-Assemble.ensures in
+    absurd (false≢true (sym (all Assemble says)))
 
 pub returns-in-Some-Assemble-clause-folder_fault : goal.returns-in-Some-Assemble-clause-folder_fault
 returns-in-Some-Assemble-clause-folder_fault g c =

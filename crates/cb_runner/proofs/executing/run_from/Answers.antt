@@ -1,20 +1,22 @@
-use Rattle.std.proofs.Common.{[]}
 use Rattle.cb_runner.specs.Inner.{run_of}
 use Rattle.cb_runner.proofs.Begun.{begun_so, refused_by}
 use Rattle.cb_runner.proofs.Endings.{Appends-nothing, unchanged_count}
-use Rattle.cb_runner.proofs.Executed.{refused_quietly, refused_so}
+use Rattle.cb_runner.proofs.Executed.{refused_quietly, unbegun_so}
 use Rattle.cb_runner.proofs.executing.run_from.Goals as goal
 
 pub run_on-requires-clause-begun : goal.run_on-requires-clause-begun
 run_on-requires-clause-begun g c =
     begun_so (run_of c.args.asked.now) c.args.program.now c.args.roots.now.limit c.args.given.now c.requires.limit c.requires.given c.start.new.store.objects c.start.new.roots.roots
-    (c.in-Ok.ensures.begun [])
+    c.in-Ok.ensures.begun
 
 pub returns-in-Err-clause-runs : goal.returns-in-Err-clause-runs
 returns-in-Err-clause-runs g c =
     let asks = run_of c.args.asked.now in
     let refused = refused_by asks c.args.program.now c.args.roots.now.limit c.args.given.now c.requires.limit c.requires.given c.in-Err.reason c.in-Err.ensures.refused in
-    ([], Appends-nothing _, refused_so asks c.args.program.now c.in-Err.reason c.unbegun.result refused c.unbegun.ensures)
+    unbegun_so asks c.args.program.now (g.I.Source.left c.args.input.now) (g.O.Sink.taken c.args.out.now) c.in-Err.reason c.unbegun.result (Appends-nothing (g.O.Sink.taken c.args.out.now)) refused c.unbegun.ensures
 
 pub returns-in-Err-clause-fault : goal.returns-in-Err-clause-fault
-returns-in-Err-clause-fault g c = unchanged_count _ (refused_quietly c.in-Err.reason c.unbegun.result c.unbegun.ensures)
+returns-in-Err-clause-fault g c = unchanged_count _ (refused_quietly c.in-Err.reason c.unbegun.result c.unbegun.ensures).0
+
+pub returns-in-Err-clause-read : goal.returns-in-Err-clause-read
+returns-in-Err-clause-read g c = unchanged_count _ (refused_quietly c.in-Err.reason c.unbegun.result c.unbegun.ensures).1

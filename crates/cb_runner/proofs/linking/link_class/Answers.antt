@@ -10,7 +10,7 @@ use Rattle.cb_runner.proofs.linking.link_class.Goals as goal
 pub returns-in-Err-clause-stopped : goal.returns-in-Err-clause-stopped
 returns-in-Err-clause-stopped g c =
     let stops = subst (λ main. Hinders (g.F.Folder.files c.args.folder.now) c.args.asked.now.folder.now c.in-Ok.library main c.in-Err.refusal) c.in-Ok-internal_name.ensures c.in-Err.ensures.refused in
-    unlinked_so _ _ (run_of c.args.asked.now) _ c.in-Err.refusal c.unlinked.result c.in-Ok.ensures.records stops c.unlinked.ensures
+    λ left. unlinked_so _ left _ (run_of c.args.asked.now) _ c.in-Err.refusal c.unlinked.result c.in-Ok.ensures.records stops c.unlinked.ensures
 
 pub returns-in-Ok-link-clause-runnable : goal.returns-in-Ok-link-clause-runnable
 returns-in-Ok-link-clause-runnable g c =

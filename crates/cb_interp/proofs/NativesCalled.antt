@@ -31,7 +31,7 @@ use Rattle.cb_act.specs.Here.{Here}
 use Rattle.cb_act.specs.Steps.{view_of}
 use Rattle.cb_act.specs.declared.need.Need.TheVariants as needs
 use Rattle.cb_interp.specs.Printing.{native_text}
-use Rattle.cb_interp.proofs.LeavingAsks.{Asking, Calls, asking}
+use Rattle.cb_interp.proofs.NativesAsked.{Asking, Calls, asking}
 
 -- the method that runs, where the instruction names another
 record RunsHere (machine : Machine) (state : State) (frame : MethodFrame) (insn : Insn) (method : ℕ) : Type 0 where
