@@ -4,7 +4,8 @@
     run.py CBVM FIRST COUNT [FOLDER]
 
 The programs are those of `generate.py` for COUNT seeds from FIRST on. They are compiled, a hundred at a time, in FOLDER (else a temporary
-one). A program that differs is told with the first line that does, and its source stays in FOLDER.
+one). A program that differs is told with the first line that does, and its source stays in FOLDER. HotSpot gets a stack of 64 MB, since with its
+own of 1 MB deep recursion ends there before it does here, where the limit is one of frames.
 """
 import concurrent.futures
 import pathlib
@@ -29,7 +30,7 @@ def ran(words):
 def compared(cbvm, folder, seed):
     """None, or in what the two differ."""
     name = f"G{seed}"
-    status, out, err = ran(["java", "-Xshare:auto", "-XX:TieredStopAtLevel=1", "-XX:+UseSerialGC", "-cp", str(folder), name])
+    status, out, err = ran(["java", "-Xss64m", "-Xshare:auto", "-XX:TieredStopAtLevel=1", "-XX:+UseSerialGC", "-cp", str(folder), name])
     own, told, said = ran([cbvm, "run", str(folder), name])
     if told != out:
         at = next((i for i, (one, other) in enumerate(zip(out, told)) if one != other), min(len(out), len(told)))
