@@ -67,6 +67,7 @@ pub(crate) fn makes_arrays<S: Store>(store: &S, roots: &Roots, dimensions: u32) 
 }
 
 /// `invokestatic`
+#[inline(always)]
 pub(crate) fn invokes_static<S: Store>(
     program: &Program,
     store: &S,
@@ -98,6 +99,7 @@ pub(crate) fn invokes_static<S: Store>(
 }
 
 /// `invokespecial`, of a method that is known beforehand.
+#[inline(always)]
 pub(crate) fn invokes_special<S: Store>(
     program: &Program,
     store: &S,
@@ -135,6 +137,7 @@ pub(crate) fn invokes_special<S: Store>(
 }
 
 /// `invokevirtual`
+#[inline(always)]
 pub(crate) fn invokes_virtual<S: Store>(
     program: &Program,
     store: &S,
@@ -176,6 +179,7 @@ pub(crate) fn invokes_virtual<S: Store>(
 }
 
 /// A method that was selected is called with so many arguments from the stack.
+#[inline(always)]
 pub(crate) fn calls<S: Store>(
     program: &Program,
     store: &S,
@@ -205,6 +209,7 @@ pub(crate) fn calls<S: Store>(
 }
 
 /// A method of a number is called so: one with code is entered, where there is room for its frame.
+#[inline(always)]
 fn enters<S: Store>(
     program: &Program,
     store: &S,

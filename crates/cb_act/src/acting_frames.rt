@@ -107,6 +107,7 @@ pub(crate) fn compares<S: Store>(
 }
 
 /// `ldc`, `ldc_w`, `ldc2_w`: a number is laid on the stack. An object has to be there first.
+#[inline(always)]
 pub(crate) fn loads_constant<S: Store>(
     store: &S,
     roots: &mut Roots,
@@ -136,6 +137,7 @@ pub(crate) fn loads_constant<S: Store>(
 }
 
 /// `getstatic`
+#[inline(always)]
 pub(crate) fn gets_static<S: Store>(
     store: &S,
     roots: &mut Roots,
@@ -166,6 +168,7 @@ pub(crate) fn gets_static<S: Store>(
 }
 
 /// `putstatic`
+#[inline(always)]
 pub(crate) fn puts_static<S: Store>(
     program: &Program,
     store: &S,
@@ -200,6 +203,7 @@ pub(crate) fn puts_static<S: Store>(
 }
 
 /// `ireturn` to `return`
+#[inline(always)]
 pub(crate) fn returns<S: Store>(program: &Program, store: &S, roots: &mut Roots, sort: Option<Sort>)
     requires there { is_some (behind_return program.now sort (read_roots
         (S.index store.now) roots.old.roots)) ≡ true }
@@ -225,6 +229,7 @@ fn place_or_zero(place: Option<u32>) -> u32
 }
 
 /// What has to be done before a class is used, if it isn't ready.
+#[inline(always)]
 pub(crate) fn unready(roots: &Roots, class: u32) -> Option<Need>
     requires { class < length roots.now.roots.classes }
     ensures { option_map (need_of class) (slice_get roots.now.roots.classes class) ≡ Some result }

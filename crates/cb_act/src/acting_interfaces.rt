@@ -24,6 +24,7 @@ use cb_link::{Decoded, Named, Program};
 use cb_text::{Constant, Pool};
 
 /// `invokeinterface` (JVMS §6.5), of the method that the constant at an index names.
+#[inline(always)]
 pub(crate) fn invokes_interface<S: Store>(
     program: &Program,
     store: &S,
@@ -60,6 +61,7 @@ pub(crate) fn invokes_interface<S: Store>(
 }
 
 /// The same of a method, in the one that runs: a private method isn't called so, whatever the object.
+#[inline(always)]
 fn calls_interface<S: Store>(
     program: &Program,
     store: &S,
@@ -95,6 +97,7 @@ fn calls_interface<S: Store>(
 }
 
 /// The same of a method that isn't private: it is called where the object implements the interface.
+#[inline(always)]
 fn calls_implementing<S: Store>(
     program: &Program,
     store: &S,

@@ -42,7 +42,7 @@ mod testing;
 mod unwinding;
 mod words;
 
-pub use acting::{act, act_on_data};
+pub use acting::{act, act_on_calls, act_on_data};
 pub use acting_frames::is_computed;
 pub use acting_law::acts_as_said;
 pub use arrays::{array_length, load_element, store_element, store_reference};

@@ -11,6 +11,7 @@ use cb_shapes::Sort;
 
 /// Ends the topmost frame, and lays its answer, if it has one, on the stack of the method below that waits for it, which goes on behind its
 /// call: `ireturn`, `lreturn`, `areturn`, `return` (JVMS §6.5). Takes time in the slots of the frame that ends.
+#[inline(always)]
 pub fn give_back(program: &Program, roots: &mut Roots, sort: Option<Sort>)
     requires there { is_some (behind_return program.now sort roots.old.roots) ≡ true }
     requires stands { runs_method roots.old.roots ≡ true }
@@ -28,6 +29,7 @@ pub fn give_back(program: &Program, roots: &mut Roots, sort: Option<Sort>)
 }
 
 /// Lays an answer on the stack of the topmost frame, and goes on behind its call, where that is a method's.
+#[inline(always)]
 fn go_on(program: &Program, roots: &mut Roots, answer: Option<Value>)
     requires there { is_some (returned_to program.now (answers answer) roots.old.roots.frames)
         ≡ true }

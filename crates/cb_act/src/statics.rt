@@ -9,6 +9,7 @@ use cb_frames::Roots;
 use cb_kinds::Basic;
 
 /// Puts the value of a static field on the stack of the topmost frame: `getstatic`, of a class that may be used (JVMS §6.5).
+#[inline(always)]
 pub fn get_static(roots: &mut Roots, slot: u32)
     requires there { is_some (behind_get_static slot roots.old.roots) ≡ true }
     requires room { 0 < top_room roots.old.roots }
@@ -20,6 +21,7 @@ pub fn get_static(roots: &mut Roots, slot: u32)
 }
 
 /// Puts the value on the stack of the topmost frame into a static field of a type: `putstatic`, of a class that may be used (JVMS §6.5).
+#[inline(always)]
 pub fn put_static(roots: &mut Roots, slot: u32, basic: Basic)
     requires there { is_some (behind_put_static slot basic roots.old.roots) ≡ true }
     requires low { slot < length roots.old.roots.statics }

@@ -9,6 +9,7 @@ use crate::slot::{Kind, Slot};
 use crate::slot_list::SlotList;
 
 /// Puts the int 0 into the slots from one place to another.
+#[inline(always)]
 pub(crate) fn wipe(slots: &mut SlotList, from: usize, to: usize)
     requires order { from ≤ to }
     requires inside { to ≤ length slots.old }
@@ -25,6 +26,7 @@ pub(crate) fn wipe(slots: &mut SlotList, from: usize, to: usize)
 }
 
 /// Puts a value into slots from a place on, a long into two, and gives the place behind it.
+#[inline(always)]
 fn put(slots: &mut SlotList, at: usize, kind: Kind, word: u64) -> usize
     requires few { length slots.old < 2 ^ 63 }
     requires fits { at + length (slots_of (value_in kind word)) ≤ length slots.old }
@@ -47,6 +49,7 @@ fn put(slots: &mut SlotList, at: usize, kind: Kind, word: u64) -> usize
 }
 
 /// Puts so many values from a place on into slots further behind, a long into two, and gives the place behind them.
+#[inline(always)]
 pub(crate) fn spread(slots: &mut SlotList, from: usize, count: usize, to: usize) -> usize
     requires few { length slots.old < 2 ^ 63 }
     requires before { from + count ≤ to }

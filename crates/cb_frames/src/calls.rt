@@ -1,5 +1,5 @@
 // Frames of the roots that are entered and left.
-ghost use Rattle.std.specs.Prelude.{◌≡◌, ◌<◌, ◌≤◌, ◌+◌, length, is_ok, IsTrue, OnErr, OnOk};
+ghost use Rattle.std.specs.Prelude.{◌≡◌, ◌<◌, ◌≤◌, ◌+◌, length, is_ok, OnErr, OnOk};
 ghost use Rattle.std.specs.List.{flat_map};
 ghost use Rattle.cb_plain.specs.Depth.{has_room, slots_of};
 ghost use Rattle.cb_frames.specs.Limited.{with_roots};
@@ -11,6 +11,7 @@ impl Roots {
     /// Enters a method with so many local variables and so many words of a stack, at its first place (JVMS §2.6). The topmost values of
     /// the stack that runs are its arguments and go from there into its local variables, a long into two; the others hold the int 0.
     /// `Deep` where there is no room for the frame, which changes nothing. Takes time in the local variables.
+    #[inline(always)]
     pub fn enter(
         &mut self,
         method: u32,
@@ -56,6 +57,7 @@ impl Roots {
     }
 
     /// Leaves the topmost frame.
+    #[inline(always)]
     pub fn leave(&mut self)
         requires { 0 < length self.old.roots.frames }
         ensures { self.new ≡ with_roots self.old (left self.old.roots) }

@@ -8,6 +8,7 @@ use cb_plain::{ClassState, Table, Value};
 
 impl Roots {
     /// The value of a static field.
+    #[inline(always)]
     pub fn static_value(&self, i: u32) -> Value
         requires { i < length self.now.roots.statics }
         ensures { slice_get self.now.roots.statics i ≡ Some result }
@@ -16,6 +17,7 @@ impl Roots {
     }
 
     /// Gives a static field another value.
+    #[inline(always)]
     pub fn set_static(&mut self, i: u32, value: Value)
         requires { i < length self.old.roots.statics }
         ensures { self.new ≡ with_roots self.old (with_static self.old.roots i value) }
@@ -40,6 +42,7 @@ impl Roots {
     }
 
     /// The pending exception, 0 where there is none.
+    #[inline(always)]
     pub fn pending(&self) -> u64
         ensures { result ≡ self.now.roots.pending }
     {
@@ -47,6 +50,7 @@ impl Roots {
     }
 
     /// Makes an object the pending exception; 0 takes it away.
+    #[inline(always)]
     pub fn set_pending(&mut self, to: u64)
         ensures { self.new ≡ with_roots self.old (with_pending self.old.roots to) }
     {
@@ -68,6 +72,7 @@ impl Roots {
     }
 
     /// How far the initialisation of a class is.
+    #[inline(always)]
     pub fn state(&self, class: u32) -> ClassState
         requires { class < length self.now.roots.classes }
         ensures { slice_get self.now.roots.classes class ≡ Some result }

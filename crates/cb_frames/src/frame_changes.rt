@@ -1,5 +1,5 @@
 // Frames that are entered and left.
-ghost use Rattle.std.specs.Prelude.{◌≡◌, ◌<◌, ◌≤◌, ◌+◌, ◌^◌, [], ◌∷◌, drop, length, reverse, take, IsTrue};
+ghost use Rattle.std.specs.Prelude.{◌≡◌, ◌<◌, ◌≤◌, ◌+◌, [], ◌∷◌, drop, length, reverse, take, IsTrue};
 ghost use Rattle.std.specs.List.{flat_map};
 ghost use Rattle.cb_plain.specs.Depth.{frame_of, has_room, slots_of};
 ghost use Rattle.cb_plain.specs.State.{Initialising};
@@ -12,6 +12,7 @@ use crate::standing::{Standing, What};
 
 impl FrameStack {
     /// Enters a method. The topmost values of the stack are its arguments, and are taken from there.
+    #[inline(always)]
     pub(crate) fn enter(&mut self, method: u32, arguments: usize, locals: usize, stack: usize)
         requires room { IsTrue (has_room self.old.limit self.old.frames (locals + stack)) }
         requires there { arguments ≤ length (on_top [] stack_in self.old.frames) }
@@ -58,6 +59,7 @@ impl FrameStack {
     }
 
     /// Leaves the topmost frame.
+    #[inline(always)]
     pub(crate) fn leave(&mut self)
         requires { 0 < length self.old.frames }
         ensures { self.new ≡ holding self.old (drop 1 self.old.frames) }

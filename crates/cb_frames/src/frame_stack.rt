@@ -79,6 +79,7 @@ impl FrameStack {
     }
 
     /// Whether there is room for a frame of so many slots.
+    #[inline(always)]
     pub(crate) fn has_room(&self, slots: usize) -> bool
         requires { slots < 2 ^ 40 }
         ensures { result ≡ has_room self.now.limit self.now.frames slots }

@@ -19,6 +19,7 @@ mod NativesLeft
 mod NativesMade
 mod NativesPrinting
 mod NativesRead
+mod QuickData
 mod QuickPlaces
 mod QuickPlain
 mod QuickSteps

@@ -54,7 +54,7 @@ use Rattle.cb_interp.proofs.TypedActs.{typed_goes, typed_suits}
 
 -- ---- tables that are read
 
-zero_read : (index : ℕ → ℕ) (entry : ℕ) → serial_of index entry ≡ 0 → entry ≡ 0
+pub zero_read : (index : ℕ → ℕ) (entry : ℕ) → serial_of index entry ≡ 0 → entry ≡ 0
 zero_read index zero is = refl
 zero_read index (suc place) is = absurd (cc is)
 

@@ -2,7 +2,7 @@ use Rattle.std.proofs.Common.{◌∙◌, ap, Some}
 use Rattle.std.specs.Prelude.{option_and_then}
 use Rattle.cb_heap.specs.Reading.{seen}
 use Rattle.cb_act.specs.Acting.{acted_as}
-use Rattle.cb_act.proofs.acting.act_on_classes.Goals as goal
+use Rattle.cb_act.proofs.acting.act_on_calls.Goals as goal
 
 pub invokes_static-requires-clause-fit : goal.invokes_static-requires-clause-fit
 invokes_static-requires-clause-fit g c = λ method count numbered body low is has enters.
