@@ -60,7 +60,7 @@ pub use natives::{natives_change, natives_within};
 pub use need::Need;
 pub use operands::{give_for, int_at, long_at, reference_at, take_one, take_two};
 pub use placing::{make_array, make_object, throw};
-pub use plain_steps::{Went, frame_step, plain_step};
+pub use plain_steps::{Went, frame_step, plain_step, step_as};
 pub use references::test_references;
 pub use returning::give_back;
 pub use sites::{NO_CLASS_DEFINITION, STACK_OVERFLOW};

@@ -1,6 +1,7 @@
 mod EnumTurns
 mod FieldsFew
 mod Grown
+mod JoinedSteps
 mod LinkedConstants
 mod LinkedFew
 mod LinkedFit

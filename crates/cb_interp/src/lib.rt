@@ -25,6 +25,7 @@ mod frame_turns;
 mod gc_turns;
 mod idle;
 mod init_turns;
+mod joined_turns;
 mod linked;
 mod load_turns;
 mod loading;

@@ -1,5 +1,6 @@
 pub mod FirstOnes
 pub mod FixedKinds
+pub mod JoinedAnswers
 pub mod MembersAmong
 pub mod FormedLaws
 pub mod SitedLaws

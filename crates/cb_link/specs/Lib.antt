@@ -12,6 +12,7 @@ pub mod InnerPlaces
 pub mod InnerRanks
 pub mod InnerSites
 pub mod InnerTables
+pub mod Joined
 pub mod Judging
 pub mod Lacking
 pub mod Making

@@ -21,6 +21,7 @@ mod field_answers;
 mod field_record;
 mod field_tables;
 mod fixed;
+mod joined;
 mod judging;
 mod kind_answers;
 mod kind_row;
@@ -55,6 +56,7 @@ mod tables;
 mod units;
 
 pub use decoded::Decoded;
+pub use joined::Joined;
 pub use judging::program_of;
 pub use law::one_judgement;
 pub use linked::{Basics, LinkedField, LinkedFields, LinkedMethod, LinkedMethods, Site, Sites};
