@@ -53,6 +53,7 @@ mod text_statics;
 mod text_turns;
 mod texts;
 mod throwing;
+mod together;
 mod turn;
 mod turning;
 mod turns;
