@@ -20,6 +20,7 @@ pub mod Named
 pub mod Numbers
 pub mod Places
 pub mod Program
+pub mod Quantities
 pub mod Resolving
 pub mod Slots
 pub mod Special

@@ -1,10 +1,12 @@
 // Why a program can't be linked.
-ghost use Rattle.std.specs.Prelude.{◌≡◌};
+ghost use Rattle.std.specs.Prelude.{◌≡◌, Some};
+ghost use Rattle.cb_link.specs.Quantities.{quantity_text};
 ghost use Rattle.cb_link.specs.declared.refusal.Refusal.TheVariants.{OutOfMemory as MemoryRefusal};
 
 use cb_classfile::Feature;
 use cb_text::Units;
 use std::alloc::AllocError;
+use std::fmt;
 
 /// Why a program can't be linked. Classes are named by their internal names (JVMS §4.2.1).
 #[derive(Debug, Drop)]
@@ -65,6 +67,31 @@ pub enum Quantity {
     Methods,
     /// The sites of a program: its instructions that make objects, and the machine's own.
     Sites,
+    /// The nodes of the analysis of where objects may be held.
+    Nodes,
+    /// The partitions of a program's sites.
+    Partitions,
+    /// The edges between partitions.
+    Edges,
+    /// The bytes of an assembly text.
+    AssemblyBytes,
+}
+
+impl fmt::Display for Quantity {
+    ghost output = { λ quantity. Some (quantity_text quantity) };
+
+    fn fmt<W: fmt::Write>(&self, f: &mut fmt::Formatter<W>) -> fmt::Result {
+        f.write_str(match self {
+            Quantity::ClassFileBytes => "class file bytes",
+            Quantity::Classes => "classes",
+            Quantity::Methods => "methods",
+            Quantity::Sites => "sites",
+            Quantity::Nodes => "nodes",
+            Quantity::Partitions => "partitions",
+            Quantity::Edges => "edges",
+            Quantity::AssemblyBytes => "assembly bytes",
+        })
+    }
 }
 
 impl From<AllocError> for Refusal {

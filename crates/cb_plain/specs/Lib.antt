@@ -1,4 +1,7 @@
+pub mod Amounts
 pub mod Depth
+pub mod Estimates
+pub mod Flows
 pub mod InnerPlaces
 pub mod PlaceTable
 pub mod Reach
