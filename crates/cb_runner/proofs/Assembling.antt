@@ -7,7 +7,7 @@ use Rattle.std.proofs.Math.Seq.{drop-append_seam}
 use Rattle.cb_interp.specs.Reading.{as_bytes}
 use Rattle.cb_io.specs.Folder.{Files}
 use Rattle.cb_runner.specs.declared.input.Input.TheVariants.{Whole, TooLong}
-use Rattle.cb_runner.specs.declared.refusal.Quantity.TheVariants.{AssemblyBytes}
+use Rattle.cb_link.specs.declared.refusal.Quantity.TheVariants.{AssemblyBytes}
 use Rattle.cb_runner.specs.declared.stop.Stop.{Stop}
 use Rattle.cb_runner.specs.declared.stop.Stop.TheVariants.{InputFault, OutOfMemory, Told}
 use Rattle.cb_runner.specs.Answer.{EndsIn, MayRead, OfInput, OfMemory}

@@ -12,7 +12,7 @@ use Rattle.cb_runner.specs.declared.stop.Stop.TheVariants.{Refused, OutOfMemory}
 use Rattle.cb_runner.specs.Ending.{Ending, refused}
 use Rattle.cb_runner.specs.Inner.{IsRefusal, IsUnlinked, StopsAtOnce}
 use Rattle.cb_runner.specs.Messages.{Reason, BadHierarchy, MissingClass, MissingMember, Malformed, BadVersion, NoMain, Unsupported, TooLarge}
-use Rattle.cb_runner.specs.Run.{RunsClass, Stopped, quantity_of, reason_of_linking}
+use Rattle.cb_runner.specs.Run.{RunsClass, Stopped, reason_of_linking}
 use Rattle.cb_runner.specs.Words.{Run}
 use Rattle.cb_runner.proofs.Endings.{refusal_is}
 
@@ -29,7 +29,7 @@ pub unlinked_so : (files : Option Files) (left : Option (List ℕ)) (root : List
 unlinked_so files left root run library links.FolderFault stop known stops is = subst (StopsAtOnce (RunsClass files left root run)) (sym is) tt
 unlinked_so files left root run library links.OutOfMemory stop known stops is = subst (StopsAtOnce (RunsClass files left root run)) (sym is) tt
 unlinked_so files left root run library (links.MissingClass name) stop known stops is = unlinked_for files left root run library (links.MissingClass name) (MissingClass (utf8 name)) stop known stops refl is
-unlinked_so files left root run library (links.TooLarge what count limit) stop known stops is = unlinked_for files left root run library (links.TooLarge what count limit) (TooLarge (quantity_of what) count limit) stop known stops refl is
+unlinked_so files left root run library (links.TooLarge what count limit) stop known stops is = unlinked_for files left root run library (links.TooLarge what count limit) (TooLarge what count limit) stop known stops refl is
 unlinked_so files left root run library (links.Malformed class) stop known stops is = unlinked_for files left root run library (links.Malformed class) (Malformed (utf8 class)) stop known stops refl is
 unlinked_so files left root run library (links.BadVersion class major) stop known stops is = unlinked_for files left root run library (links.BadVersion class major) (BadVersion (utf8 class) major) stop known stops refl is
 unlinked_so files left root run library (links.Unsupported class item) stop known stops is = unlinked_for files left root run library (links.Unsupported class item) (Unsupported (utf8 class) item) stop known stops refl is

@@ -4,7 +4,7 @@ use Rattle.cb_classfile.specs.declared.class.ClassFile.{ClassFile}
 use Rattle.cb_classfile.specs.Class.{class_bytes}
 use Rattle.cb_asm.specs.Answers.{StopsAt}
 use Rattle.cb_asm_record.specs.Grammar.{Assembles}
-use Rattle.cb_runner.specs.declared.refusal.Quantity.TheVariants.{AssemblyBytes}
+use Rattle.cb_link.specs.declared.refusal.Quantity.TheVariants.{AssemblyBytes}
 use Rattle.cb_runner.specs.Ending.{Ending, refused, returned}
 use Rattle.cb_runner.specs.Messages.{TooLarge, BadLine}
 

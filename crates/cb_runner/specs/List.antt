@@ -6,7 +6,7 @@ use Rattle.cb_classfile.specs.declared.feature.Feature.{Feature}
 use Rattle.cb_classfile.specs.Answers.{HasNoOtherVersion, IsAcceptedClass, SpellsNone}
 use Rattle.cb_classfile.specs.Class.{HasVersion, IsAccepted}
 use Rattle.cb_classfile.specs.Profile.{unsupported}
-use Rattle.cb_runner.specs.declared.refusal.Quantity.TheVariants.{ClassFileBytes}
+use Rattle.cb_link.specs.declared.refusal.Quantity.TheVariants.{ClassFileBytes}
 use Rattle.cb_runner.specs.Ending.{Ending, refused, returned}
 use Rattle.cb_runner.specs.Messages.{MissingClass, TooLarge, Malformed, BadVersion, Unsupported}
 use Rattle.cb_runner.specs.Run.{file_limit}

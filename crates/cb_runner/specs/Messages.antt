@@ -3,8 +3,8 @@ use Rattle.std.specs.Prelude.{ℕ, List, ◌++◌, codes, string_bytes}
 use Rattle.std.specs.Fmt.{decimal}
 use Rattle.cb_classfile.specs.declared.feature.Feature.{Feature}
 use Rattle.cb_classfile.specs.Messages.{feature_text}
-use Rattle.cb_runner.specs.declared.refusal.Quantity.{Quantity}
-use Rattle.cb_runner.specs.declared.refusal.Quantity.TheVariants.{ClassFileBytes, Classes, Methods, Sites, AssemblyBytes}
+use Rattle.cb_link.specs.Quantities.{quantity_text}
+use Rattle.cb_link.specs.declared.refusal.Quantity.{Quantity}
 use Rattle.cb_runner.specs.declared.refusal.Refusal.{Refusal}
 use Rattle.cb_runner.specs.declared.refusal.Refusal.TheVariants as refusals
 
@@ -33,14 +33,6 @@ reason_of (refusals.NoMain class) = NoMain (string_bytes class)
 reason_of (refusals.Unverified class method pc) = Unverified (string_bytes class) (string_bytes method) pc
 reason_of (refusals.TooLarge what count limit) = TooLarge what count limit
 reason_of (refusals.BadLine line) = BadLine line
-
--- what there is too much of
-abbrev pub quantity_text : Quantity → List ℕ
-quantity_text ClassFileBytes = codes "class file bytes"
-quantity_text Classes = codes "classes"
-quantity_text Methods = codes "methods"
-quantity_text Sites = codes "sites"
-quantity_text AssemblyBytes = codes "assembly bytes"
 
 -- the words of a refusal
 abbrev pub refusal_text : Reason → List ℕ

@@ -5,8 +5,6 @@ use Rattle.cb_io.specs.Utf8.{utf8}
 use Rattle.cb_classfile.specs.declared.class.ClassFile.{ClassFile}
 use Rattle.cb_classfile.specs.declared.method.Method.{Method}
 use Rattle.cb_classfile.specs.Pool.{text_at}
-use Rattle.cb_link.specs.declared.refusal.Quantity.{Quantity as LinkQuantity}
-use Rattle.cb_link.specs.declared.refusal.Quantity.TheVariants as link_quantities
 use Rattle.cb_link.specs.declared.refusal.Refusal.{Refusal as LinkRefusal}
 use Rattle.cb_link.specs.declared.refusal.Refusal.TheVariants as link_refusals
 use Rattle.cb_classfile.specs.Library.{AreLibrary}
@@ -17,8 +15,6 @@ use Rattle.cb_link.specs.Numbers.{name_of, or_none}
 use Rattle.cb_link.specs.Program.{Linked, linked}
 use Rattle.cb_verify.specs.Typed.{FailsFirst, IsTyped}
 use Rattle.cb_verify.specs.Within.{method_at}
-use Rattle.cb_runner.specs.declared.refusal.Quantity.{Quantity}
-use Rattle.cb_runner.specs.declared.refusal.Quantity.TheVariants.{ClassFileBytes, Classes, Methods, Sites}
 use Rattle.cb_runner.specs.Ending.{Ending, refused}
 use Rattle.cb_runner.specs.Messages.{Reason, BadHierarchy, MissingClass, MissingMember, Malformed, BadVersion, NoMain, Unsupported, TooLarge, Unverified}
 use Rattle.cb_runner.specs.Running.{EndsRun}
@@ -28,17 +24,10 @@ use Rattle.cb_runner.specs.Words.{Run}
 abbrev pub file_limit : ℕ
 file_limit = 1048576
 
--- what there is too much of in linking
-abbrev pub quantity_of : LinkQuantity → Quantity
-quantity_of link_quantities.ClassFileBytes = ClassFileBytes
-quantity_of link_quantities.Classes = Classes
-quantity_of link_quantities.Methods = Methods
-quantity_of link_quantities.Sites = Sites
-
 -- the reason that a refusal of linking says, where it is one of classes
 abbrev pub reason_of_linking : LinkRefusal → Option Reason
 reason_of_linking (link_refusals.MissingClass name) = Some (MissingClass (utf8 name))
-reason_of_linking (link_refusals.TooLarge what count limit) = Some (TooLarge (quantity_of what) count limit)
+reason_of_linking (link_refusals.TooLarge what count limit) = Some (TooLarge what count limit)
 reason_of_linking (link_refusals.Malformed class) = Some (Malformed (utf8 class))
 reason_of_linking (link_refusals.BadVersion class major) = Some (BadVersion (utf8 class) major)
 reason_of_linking (link_refusals.Unsupported class item) = Some (Unsupported (utf8 class) item)

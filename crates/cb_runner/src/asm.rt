@@ -8,12 +8,13 @@ ghost use Rattle.cb_runner.specs.Inner.{IsCarriedOut, Makes, TellsWhole};
 ghost use Rattle.cb_runner.specs.Words.{Assemble};
 ghost use Rattle.cb_runner.specs.declared.stop.Stop.TheVariants as stops;
 
+use crate::Refusal;
 use crate::input::{Input, read_input};
 use crate::printing::print_made;
 use crate::stop::Stop;
-use crate::{Quantity, Refusal};
 use cb_asm::{AsmFault, assemble_bytes};
 use cb_io::{Sink, Source};
+use cb_link::Quantity;
 use cb_writer::write_class;
 use std::alloc::Global;
 

@@ -21,7 +21,7 @@ ghost use Rattle.cb_runner.specs.Run.{AreNoProgram, AreProgram, AreTyped, AreUnt
 ghost use Rattle.cb_runner.specs.Running.{EndsRun};
 ghost use Rattle.cb_runner.specs.Words.{Assemble, Command, ListOf, Run, RunIn, Says, SaysNone};
 ghost use Rattle.cb_runner.specs.declared.cause.Cause.TheVariants as causes;
-ghost use Rattle.cb_runner.specs.declared.refusal.Quantity.TheVariants.{ClassFileBytes, AssemblyBytes};
+ghost use Rattle.cb_link.specs.declared.refusal.Quantity.TheVariants.{ClassFileBytes, AssemblyBytes};
 
 use cb_classfile::one_class;
 use cb_link::one_judgement;

@@ -37,4 +37,4 @@ pub use law::{
     asm_exactly, list_exactly, one_command, refused_silently, run_exactly, usage_exactly,
     whole_exactly,
 };
-pub use refusal::{Quantity, Refusal};
+pub use refusal::Refusal;

@@ -2,20 +2,20 @@
 ghost use Rattle.std.specs.Prelude.{◌≡◌, ℕ, List, Option, IfErr, IfOk, IsErrOf};
 ghost use Rattle.cb_io.specs.Faults.{CountsFaults};
 ghost use Rattle.cb_runner.specs.Inner.{IsConverted, IsUnlinked, StopsAtOnce, StopsUntyped, run_of};
-ghost use Rattle.cb_runner.specs.Run.{IsRunnable, RunsClass, quantity_of};
+ghost use Rattle.cb_runner.specs.Run.{IsRunnable, RunsClass};
 ghost use Rattle.cb_safety.specs.Linked.{IsLinked};
 ghost use Rattle.cb_verify.specs.Typed.{IsTyped};
 ghost use Rattle.cb_runner.specs.Words.{internal_name};
 ghost use Rattle.cb_runner.specs.declared.stop.Stop.TheVariants as stops;
 
+use crate::Refusal;
 use crate::class_name::internal_name;
 use crate::run_words::RunWords;
 use crate::stop::Stop;
 use crate::verifying::verify_program;
-use crate::{Quantity, Refusal};
 use cb_core::core_classes;
 use cb_io::{Folder, text_of};
-use cb_link::{Program, Quantity as LinkQuantity, Refusal as LinkRefusal};
+use cb_link::{Program, Refusal as LinkRefusal};
 use cb_load::link;
 use cb_safety::linking_links;
 use std::alloc::Global;
@@ -74,10 +74,11 @@ fn converted(alloc: Global, refusal: LinkRefusal) -> Result<Refusal, Stop>
             let name = text_of(alloc, name.as_slice())?;
             Ok(Refusal::MissingClass { name })
         }
-        LinkRefusal::TooLarge { what, count, limit } => {
-            let what = counted(what);
-            Ok(Refusal::TooLarge { what, count, limit })
-        }
+        LinkRefusal::TooLarge { what, count, limit } => Ok(Refusal::TooLarge {
+            what,
+            count,
+            limit,
+        }),
         LinkRefusal::Malformed { class } => {
             let class = text_of(alloc, class.as_slice())?;
             Ok(Refusal::Malformed { class })
@@ -105,17 +106,5 @@ fn converted(alloc: Global, refusal: LinkRefusal) -> Result<Refusal, Stop>
         }
         LinkRefusal::FolderFault => Err(Stop::FolderFault),
         LinkRefusal::OutOfMemory => Err(Stop::OutOfMemory),
-    }
-}
-
-/// The same quantity.
-fn counted(what: LinkQuantity) -> Quantity
-    ensures { result ≡ quantity_of what }
-{
-    match what {
-        LinkQuantity::ClassFileBytes => Quantity::ClassFileBytes,
-        LinkQuantity::Classes => Quantity::Classes,
-        LinkQuantity::Methods => Quantity::Methods,
-        LinkQuantity::Sites => Quantity::Sites,
     }
 }

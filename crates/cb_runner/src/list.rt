@@ -10,13 +10,14 @@ ghost use Rattle.cb_runner.specs.Run.{file_limit};
 ghost use Rattle.cb_runner.specs.Words.{ListOf};
 ghost use Rattle.cb_runner.specs.declared.stop.Stop.TheVariants as stops;
 
+use crate::Refusal;
 use crate::file::{MAX_FILE_LENGTH, find_file};
 use crate::printing::print_made;
 use crate::stop::Stop;
-use crate::{Quantity, Refusal};
 use cb_asm::list;
 use cb_classfile::{ClassFault, read_class};
 use cb_io::{Folder, Found, Sink};
+use cb_link::Quantity;
 use std::alloc::Global;
 
 /// Prints the listing of the class file at a path.

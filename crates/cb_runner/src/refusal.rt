@@ -1,8 +1,9 @@
 // Why a command is refused.
 ghost use Rattle.std.specs.Prelude.{Some};
-ghost use Rattle.cb_runner.specs.Messages.{quantity_text, reason_of, refusal_text};
+ghost use Rattle.cb_runner.specs.Messages.{reason_of, refusal_text};
 
 use cb_classfile::Feature;
+use cb_link::Quantity;
 use std::error::Error;
 use std::fmt;
 
@@ -57,35 +58,6 @@ pub enum Refusal {
     BadLine {
         line: u32,
     },
-}
-
-/// What there may be too much of.
-#[derive(Clone, Copy, Debug, PartialEq, Eq)]
-pub enum Quantity {
-    /// The bytes of a class file.
-    ClassFileBytes,
-    /// The classes of a program.
-    Classes,
-    /// The methods of a program.
-    Methods,
-    /// The sites of a program.
-    Sites,
-    /// The bytes of an assembly text.
-    AssemblyBytes,
-}
-
-impl fmt::Display for Quantity {
-    ghost output = { λ quantity. Some (quantity_text quantity) };
-
-    fn fmt<W: fmt::Write>(&self, f: &mut fmt::Formatter<W>) -> fmt::Result {
-        f.write_str(match self {
-            Quantity::ClassFileBytes => "class file bytes",
-            Quantity::Classes => "classes",
-            Quantity::Methods => "methods",
-            Quantity::Sites => "sites",
-            Quantity::AssemblyBytes => "assembly bytes",
-        })
-    }
 }
 
 impl fmt::Display for Refusal {

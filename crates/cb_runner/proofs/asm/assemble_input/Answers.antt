@@ -2,7 +2,7 @@ use Rattle.std.proofs.Common.{◌+◌, Ok, length, subst}
 use Rattle.cb_runner.specs.Asm.{AssemblesText, text_limit}
 use Rattle.cb_runner.specs.Inner.{Makes, Reads}
 use Rattle.cb_runner.specs.Messages.{TooLarge}
-use Rattle.cb_runner.specs.declared.refusal.Quantity.TheVariants.{AssemblyBytes}
+use Rattle.cb_link.specs.declared.refusal.Quantity.TheVariants.{AssemblyBytes}
 use Rattle.cb_runner.proofs.Assembling.{cut_input, long_input, unread_tells, whole_text}
 use Rattle.cb_runner.proofs.Endings.{Appends-nothing, printed_so, refusal_tells, stops_tell}
 use Rattle.cb_runner.proofs.asm.assemble_input.Goals as goal

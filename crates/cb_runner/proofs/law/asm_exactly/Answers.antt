@@ -4,7 +4,7 @@ use Rattle.cb_asm_record.specs.Grammar.{Assembles}
 use Rattle.cb_classfile.specs.declared.class.ClassFile.{ClassFile}
 use Rattle.cb_classfile.specs.Class.{class_bytes}
 use Rattle.cb_io.specs.Folder.{Files}
-use Rattle.cb_runner.specs.declared.refusal.Quantity.TheVariants.{AssemblyBytes}
+use Rattle.cb_link.specs.declared.refusal.Quantity.TheVariants.{AssemblyBytes}
 use Rattle.cb_runner.specs.Answer.{Answers}
 use Rattle.cb_runner.specs.Asm.{AssemblesText, TooLong, Assembled, Bad, text_limit}
 use Rattle.cb_runner.specs.Ending.{Ending, refused, returned}

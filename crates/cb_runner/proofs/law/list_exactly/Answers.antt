@@ -9,7 +9,7 @@ use Rattle.cb_classfile.specs.Answers.{HasNoOtherVersion, IsAcceptedClass, Spell
 use Rattle.cb_classfile.specs.Class.{HasVersion, IsAccepted, SpellsClass}
 use Rattle.cb_classfile.specs.Profile.{unsupported}
 use Rattle.cb_io.specs.Folder.{Files}
-use Rattle.cb_runner.specs.declared.refusal.Quantity.TheVariants.{ClassFileBytes}
+use Rattle.cb_link.specs.declared.refusal.Quantity.TheVariants.{ClassFileBytes}
 use Rattle.cb_runner.specs.Answer.{Answers}
 use Rattle.cb_runner.specs.Ending.{Ending, refused, returned}
 use Rattle.cb_runner.specs.List.{IsListed, LeavesOut, ListsBytes, ListsFile, OfVersion, OfNoClass, OfItem, Listed}
