@@ -10,7 +10,7 @@ What it checks:
 
 - A link to a file of the repository: the file exists, and so does the heading behind `#`. Links to other hosts are not followed.
 - A path in a code span or a code block (`crates/cb_link/src/joined.rt`, `cb_link/specs/Joined.antt`, `joined.rt`): the file exists. A
-  name like `Turns..` or `Inner*.antt` stands for all files that begin so.
+  name like `Turns..` or `Inner*.antt` stands for all files that begin so, and NAME, FOLDER, PATH and CRATE for any name.
 - A crate (`cb_link`): `crates.txt` lists it. docs/ARCHITECTURE.md and docs/PROOFS.md must name every crate that is listed.
 - A name in a code span (`run_command`, `IsAnswer`, `Store`): some source declares it, or it is a word of Java, of a command or of a format
   (lists below, and the names of docs/LIBRARY.md). `--names` prints where each was found.
@@ -40,7 +40,9 @@ abstract static final public private protected switch try catch throw throws new
 invokedynamic wide jsr ret monitorenter monitorexit monitor E1 E2 E3 E4 E5 E6 E7 E8 E9
 FOLDER MAIN ARGS PATH NAME MEMBER METHOD PC ITEM MAJOR N LIVE ASKED LIMIT CLASS MESSAGE STATUS CRATE OWN RT_JOBS
 class implements field method end limits label catch frame text locals stack
-ArrayList HashMap Thread Appendable Byte Short FileReader ClassNode javax Serial nproc autogroup
+ArrayList HashMap Thread Appendable Byte Short WeakReference ClassNode finally trim nanoTime printStackTrace countI
+expect expect-requires loop-i-preserved FIRST_PROOFS.md SHORTER_PROOFS.md getLocalizedMessage fillInStackTrace initCause nproc autogroup SIGSTOP Display AllocError push-pop
+field_info method_info attribute_info ACC_ bit0 u1 u2 u4 u8 s1 s2 s4 inline
 Code ConstantValue StackMapTable Class String Utf8 Integer Long Float Double Fieldref Methodref InterfaceMethodref NameAndType
 MethodHandle MethodType InvokeDynamic Gap Nothing Number Pool Local Increase Branch Table Lookup Interface ArrayCode Dimensions
 now entry exit initial thiserror itoa indexmap bitflags Vec Option Result None Some Ok Err Box bool unreachable
@@ -122,6 +124,9 @@ class Sources:
         opcodes = (TOP / "crates/cb_insn/src/opcode.rt").read_text()
         self.opcodes = {name.lower() for name in re.findall(r"const (\w+)", opcodes)}
         self.java = set(re.findall(r"[A-Za-z_]\w*", (TOP / "docs/LIBRARY.md").read_text()))
+        for file in self.files:
+            if file.startswith("crates/cb_library/specs/"):
+                self.java.update(re.findall(r'"(\w+)"', (TOP / file).read_text()))
         self.plain = set()
         for file in self.files:
             path = pathlib.PurePath(file)
@@ -129,11 +134,13 @@ class Sources:
 
     def path_found(self, path, crate):
         """Whether a path leads to a file or a folder, from the top, from crates/, or as the name of a file of some crate."""
-        path = path.rstrip("/").removeprefix("./")
+        path = re.sub(r"\b(NAME|FOLDER|PATH|CRATE|[A-Z]+_[A-Z_]+)\b", "*", path.rstrip("/").removeprefix("./"))
+        if path in ENDINGS or path.removeprefix("*").removeprefix("/") in ("", *(f"*{ending}" for ending in ENDINGS)):
+            return True
         if path.endswith(".."):
             path = path[:-2] + "*"
         if "*" in path:
-            return any(fnmatch.fnmatch(file, f"*/{path}") or fnmatch.fnmatch(file, f"crates/{path}") for file in self.files)
+            return any(fnmatch.fnmatch(one, f"{start}{path}") for one in (*self.files, *self.folders) for start in ("", "*/", "crates/"))
         tries = [path, f"crates/{path}", f"docs/{path}", f"bench/{path}", *(f"crates/{crate}/{part}/{path}" for part in ("", "src", "specs", "proofs"))]
         if any(one.replace("//", "/") in self.files or one in self.folders for one in tries):
             return True
@@ -221,7 +228,7 @@ class Document:
         if " " in span:
             self.block(number, span)
         elif span.endswith(ENDINGS) or span.startswith(("crates/", "docs/", "bench/", "examples/", "cb_")) and "/" in span:
-            if PATH.match(span) and not self.sources.path_found(span, self.crate):
+            if PATH.match(span) and span not in WORDS and not self.sources.path_found(span, self.crate):
                 self.fault(number, f"no file {span}")
         elif span.endswith("..") and NAME.match(span[:-2]):
             if not any(name.startswith(span[:-2]) for name in self.sources.where):
