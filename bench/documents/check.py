@@ -290,6 +290,20 @@ def names_in(cell):
     return [name for name in re.findall(r"`([^`]+)`", cell) if NAME.match(name.rpartition("::")[2])]
 
 
+def out_of_order(crates):
+    """The crates that stand in the tables of docs/ARCHITECTURE.md above one on which they stand."""
+    text = (TOP / "docs/ARCHITECTURE.md").read_text()
+    places = {crate: text.find(f"\n| `{crate}`") for crate in crates}
+    places.update({crate: place for crate in crates if places[crate] < 0 and (place := text.find(f"`{crate}`")) >= 0})
+    found = []
+    for line in (TOP / "crates.txt").read_text().splitlines():
+        crate, _, below = line.partition(":")
+        found += [(crate, one) for one in below.split() if one in places and places[crate] < places[one]]
+    for crate, one in found:
+        print(f"docs/ARCHITECTURE.md: {crate} stands on {one}, which stands behind it")
+    return found
+
+
 def main():
     words = [word for word in sys.argv[1:] if word != "--names"]
     documents = words or ["README.md", "CONTRIBUTING.md", *sorted(str(path.relative_to(TOP)) for path in (TOP / "docs").glob("*.md"))]
@@ -303,6 +317,8 @@ def main():
                 if f"`{crate}`" not in text:
                     print(f"{document}: says nothing of {crate}")
                     faults.append(crate)
+    if "docs/ARCHITECTURE.md" in documents:
+        faults += out_of_order(sources.crates)
     print(f"{len(documents)} documents, {len(faults)} faults")
     sys.exit(1 if faults else 0)
 
