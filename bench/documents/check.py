@@ -11,7 +11,8 @@ What it checks:
 - A link to a file of the repository: the file exists, and so does the heading behind `#`. Links to other hosts are not followed.
 - A path in a code span or a code block (`crates/cb_link/src/joined.rt`, `cb_link/specs/Joined.antt`, `joined.rt`): the file exists. A
   name like `Turns..` or `Inner*.antt` stands for all files that begin so, and NAME, FOLDER, PATH and CRATE for any name.
-- A crate (`cb_link`): `crates.txt` lists it. docs/ARCHITECTURE.md and docs/PROOFS.md must name every crate that is listed.
+- A crate (`cb_link`): `crates.txt` lists it. docs/ARCHITECTURE.md and docs/PROOFS.md must name every crate that is listed, and
+  the first of them in an order in which each crate stands behind those that it stands on.
 - A name in a code span (`run_command`, `IsAnswer`, `Store`): some source declares it, or it is a word of Java, of a command or of a format
   (lists below, and the names of docs/LIBRARY.md). `--names` prints where each was found.
 - A table with the columns "call" and "clause": the calls are public in the crate of the heading above, and the clauses are theirs.
