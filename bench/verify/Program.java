@@ -39,7 +39,7 @@ final class Program {
 
     private Verdict run(Path at, String main) throws IOException, InterruptedException {
         Path said = folder.resolve("said");
-        Process process = new ProcessBuilder(program, "run", at.toString(), main.replace('/', '.'))
+        Process process = new ProcessBuilder(program, "run", "--steps", "1", at.toString(), main.replace('/', '.'))
             .redirectInput(ProcessBuilder.Redirect.from(Path.of("/dev/null").toFile()))
             .redirectOutput(ProcessBuilder.Redirect.DISCARD).redirectError(said.toFile()).start();
         if (!process.waitFor(60, TimeUnit.SECONDS)) {

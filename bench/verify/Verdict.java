@@ -26,13 +26,13 @@ record Verdict(Kind kind, String method, int place, String text) {
             thrown.getClass().getSimpleName() + ": " + line + (reason.isEmpty() ? "" : ": " + reason));
     }
 
-    /** That of the program, by its last line. A class that it can't run yet is accepted, and so is one that it runs. */
+    /** That of the program, by its last line. A class of which a step is made, the one that it is given, is accepted. */
     static Verdict ofLine(int status, String line) {
         Matcher failed = E7.matcher(line);
         if (failed.matches()) {
             return new Verdict(Kind.NOT_VERIFIED, failed.group(2), Integer.parseInt(failed.group(3)), line);
         }
-        boolean isAccepted = status == 0 || line.startsWith("cbvm: E4 unsupported not yet");
+        boolean isAccepted = status == 0 || line.startsWith("cbvm: budget spent");
         return isAccepted ? new Verdict(Kind.ACCEPTED, "", -1, "accepted") : new Verdict(Kind.OTHER, "", -1, line);
     }
 

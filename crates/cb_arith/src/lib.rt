@@ -1,7 +1,8 @@
 //! The arithmetic of the Java Virtual Machine on ints and longs (JVMS §2.11.3, §2.11.4).
 //!
-//! Each operation has a value over whole numbers, and its result is what is left of that in 32 or 64 bits, in two's
-//! complement. `ineg` and `lneg` are a difference from 0. Nothing here takes memory.
+//! It promises that each operation gives exactly its definition's result: a value over whole numbers, and what is left of that in 32 or 64
+//! bits, in two's complement; none exactly if zero would divide. `ineg` and `lneg` are a difference from 0. The definitions are in `specs/`
+//! (`Ints`, `Longs`, `Shifts`, `Narrowing`, `Order`), and `Laws` says once more what they come to. Nothing here takes memory.
 #![tactic(auto)]
 
 mod int;

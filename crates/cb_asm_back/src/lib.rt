@@ -1,4 +1,4 @@
-//! A listing assembles to the record that it lists.
+//! One law: the listing of a record that a text assembled to assembles to it. The definitions are those of `cb_asm_record` and `cb_asm_list`.
 #![tactic(auto)]
 
 mod law;

@@ -1,7 +1,8 @@
-//! The assembly format of class files: its lines, each read exactly from its words and written.
+//! The assembly format of class files: its lines.
 //!
-//! `specs/` has the format: what a text says as a tree, and how its lines are spelled. No clause says that memory is to be
-//! had: that no call always gives up is shown by tests alone.
+//! It promises that each line is read exactly from its words and written as it is read. `specs/` has the format: what a text says as a tree, and
+//! how its lines are spelled (`Statements`, `Operands`, `Spelling`, and `Lines` to `Flags` for what a line is made of). It doesn't promise that
+//! memory is to be had: that no call always gives up is shown by tests alone.
 #![tactic(auto)]
 
 mod arity;

@@ -1,7 +1,7 @@
 //! Class records listed as texts of the assembly format.
 //!
-//! `specs/` has frames in full and the program that is read off a record. No clause says that memory is to be had: that no
-//! call always gives up is shown by tests alone.
+//! It promises exactly the listing of a record. `specs/` has frames in full (`Expansion`) and the program that is read off a record (`Listing`). It
+//! doesn't promise that memory is to be had: that no call always gives up is shown by tests alone.
 #![tactic(auto)]
 
 mod body;

@@ -1,4 +1,4 @@
-//! Lines that begin a program of the assembly format, closed in a shortest way, so that they are all of one.
+//! One law: lines that begin a program of the assembly format, closed in one of four shortest ways, are all of one (`Closing` in `specs/`).
 #![tactic(auto)]
 
 mod law;

@@ -1,7 +1,8 @@
 //! The class record of a program of the assembly format.
 //!
-//! `specs/` has the constants that a program uses and their indices, the places of its labels, and its record. No clause
-//! says that memory is to be had: that no call always gives up is shown by tests alone.
+//! It promises exactly the record that the definitions say, or none. `specs/` has the constants that a program uses and their indices (`Uses`,
+//! `Constants`), the places of its labels (`Labels`), and its record (`Record`). It doesn't promise that memory is to be had: that no call always
+//! gives up is shown by tests alone.
 #![tactic(auto)]
 
 mod body;

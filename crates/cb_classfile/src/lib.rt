@@ -1,9 +1,10 @@
-//! Class files: the records that the bytes of whole class files spell, read exactly by their grammar (JVMS chapter 4),
-//! the rules of the grammar beyond its tables, each as a question, and the first item, if any, that this machine leaves
-//! out.
+//! Class files: the records that the bytes of whole class files spell (JVMS chapter 4).
 //!
-//! `specs/` has the grammar, a file for each table of the standard, and the profile. No clause says that memory is to
-//! be had: that no call always gives up is shown by tests alone.
+//! It promises that a class is read exactly if the bytes spell one, with the reason otherwise; that bytes spell at most one class; each rule beyond
+//! the tables as a question answered in both directions; and the first item, if any, that this machine leaves out. `specs/` has the grammar, a
+//! file for each table of the standard (`Class`, `Members`, `Code`, `FrameMap`, `Attributes`, `Pool`), and the profile (`Profile`).
+//!
+//! It doesn't promise that memory is to be had: that no call always gives up is shown by tests alone.
 #![tactic(auto)]
 
 pub mod array_code;

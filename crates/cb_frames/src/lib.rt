@@ -1,11 +1,12 @@
-//! The roots of a machine that runs: frames with their local variables and stacks, static fields, tables of objects that there are once,
-//! and how far each class is initialised. Contracts see them as the record of the machine's definitions, with places in place of serials.
+//! The roots of a machine that runs: frames with their local variables and stacks, static fields, tables of objects that there are once, and how far
+//! each class is initialised.
 //!
-//! `specs/` says what each call does to that record (`Tops`, and `Roots` of `cb_plain`), how the roots are counted through (`Entries`), and
-//! what they are at first (`Beginning`).
+//! It promises that each call does to the record of the machine's roots what its definition says, with places in place of serials, that frames are
+//! refused exactly if the definition of depth has no room, and that walking over all entries finds exactly the roots. `specs/` says what each
+//! call does (`Tops`, and `Roots` of `cb_plain`), how the roots are counted through (`Entries`), and what they are at first (`Beginning`).
 //!
-//! No clause says that memory is to be had: that `make` doesn't always give up is shown by tests alone. Nor does a clause say that no
-//! other call takes memory.
+//! It doesn't promise that memory is to be had: that `make` doesn't always give up is shown by tests alone. Nor does a clause say that no other
+//! call takes memory.
 #![tactic(auto)]
 
 mod arguments;

@@ -1,9 +1,9 @@
-//! Classes, interfaces, methods and fields as numbers: which classes can't be in a hierarchy, where a member is found, and which
-//! method is selected on an object (JVMS chapter 5).
+//! Classes, interfaces, methods and fields as numbers (JVMS chapter 5).
 //!
-//! Classes name their superclass and superinterfaces by number, and members their class and their signature, which is the
-//! number of a name with a descriptor. `specs/` has a file for each notion of the standard. No clause says that memory is to
-//! be had: that no call always gives up is shown by tests alone.
+//! It promises exactly which classes can't be in a hierarchy, where a member is found, which method is selected on an object, what is initialised
+//! before a class, and where fields lie. Classes name their superclass and superinterfaces by number, and members their class and their
+//! signature, which is the number of a name with a descriptor. `specs/` has a file for each notion of the standard (`Classes`, `Bad`, `Resolution`,
+//! `Selection`, `Initial`, `Layout`). It doesn't promise that memory is to be had: that no call always gives up is shown by tests alone.
 #![tactic(auto)]
 
 mod ancestors;

@@ -1,8 +1,11 @@
-//! The code array of a method, read exactly by its grammar and written back (JVMS §4.7.3, §4.9.1, chapter 6).
+//! The code array of a method (JVMS §4.7.3, §4.9.1, chapter 6).
 //!
-//! `specs/` has the form of each opcode's operand, the bytes of instructions and of code, and what is wrong with bytes
-//! that spell none; `Inner.antt` alone is for the crate itself. No clause says that memory is to be had: that no call
-//! always gives up is shown by tests alone. Nor does one speak of room: contracts see a list with it as one without.
+//! It promises that code is read exactly by its grammar, that the first fault of other bytes is told at its place, and that what is written is
+//! read back as the same code. `specs/` has the form of each opcode's operand (`Forms`), the bytes of instructions and of code (`Grammar`,
+//! `Writing`), and what is wrong with bytes that spell none (`Faults`); `Inner` is for the crate itself.
+//!
+//! It doesn't promise that memory is to be had: that no call always gives up is shown by tests alone. Nor does a clause speak of room: contracts
+//! see a list with it as one without.
 #![tactic(auto)]
 
 mod decoder;

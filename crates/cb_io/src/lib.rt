@@ -1,13 +1,13 @@
 //! The outside of the machine: a folder of files, a source of bytes and a sink for bytes.
 //!
-//! Each is a trait with a written meaning, which an implementation may leave untold, and a count of faults that
-//! never falls and rises exactly in the calls that fail. Clauses on a count hold while it is below 2^64 - 1.
-//! The `Mem..` objects keep everything in memory and fail at listed calls, the `Sure..` objects never fail, and
-//! `DirFolder`, `StreamSource` and `StreamSink` lead to the real outside and, as objects of their traits, tell nothing
-//! of content.
+//! Each is a trait with a written meaning, which an implementation may leave untold, and a count of faults. The traits promise that the count
+//! never falls and rises exactly in the calls that fail, while it is below 2^64 - 1, and that files, bytes read and bytes taken are as the
+//! meaning says. The `Mem..` objects keep everything in memory and fail at listed calls, the `Sure..` objects never fail, and `DirFolder`,
+//! `StreamSource` and `StreamSink` lead to the real outside and tell nothing of content. The definitions are in `specs/` (`Faults`, `Folder`,
+//! `Sink`, `System`, `Utf8`).
 //!
-//! Tests alone show what no clause can say: that `DirFolder` gives what stands outside, where one that always answers
-//! `Absent` is proved too, and that a call doesn't give up for want of memory.
+//! Tests alone show what no clause can say: that `DirFolder` gives what stands outside, though one that always answers `Absent` is proved too,
+//! and that a call doesn't give up for want of memory.
 #![tactic(auto)]
 
 mod calls;

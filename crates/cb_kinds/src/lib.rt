@@ -1,9 +1,9 @@
-//! Kinds of objects by name and number, and the types in descriptors: texts that are kept once and found by number, the kinds
-//! that a name or a type has, and what values of a type are (JVMS §4.3, §4.4.1). Texts, and pairs of a name and a descriptor,
-//! are numbered too where the first of equal ones counts.
+//! Kinds of objects by name and number, and the types in descriptors (JVMS §4.3, §4.4.1).
 //!
-//! Names and descriptors are lists of UTF-16 units. No clause says that memory is to be had: that no call always gives up is
-//! shown by tests alone.
+//! It promises that texts are kept once and found by number, the kinds that a name or a type has, and what values of a type are. Texts, and pairs of
+//! a name and a descriptor, are numbered too where the first of equal ones counts. The definitions are in `specs/` (`Kinds`, `Basics`,
+//! `Descriptors`, `Texts`). Names and descriptors are lists of UTF-16 units. It doesn't promise that memory is to be had: that no call always gives
+//! up is shown by tests alone.
 #![tactic(auto)]
 
 mod basic;

@@ -1,8 +1,10 @@
-//! Linking (JVMS chapter 5): the program that classes are, once they are loaded: its hierarchy, kinds of objects, members, sites
-//! and texts, by numbers, and what a running machine asks of them. `cb_load` finds the classes in a folder.
+//! Linking (JVMS chapter 5): the program that classes are, once they are loaded. `cb_load` finds the classes in a folder.
 //!
-//! `specs/` has a file for each notion. No clause says that memory is to be had, nor how much the tables take; that no call
-//! always gives up is shown by cases of `cb_cases`.
+//! It promises that classes are made a program exactly if they are one, and are refused for the first reason otherwise (`Judging` in `specs/`);
+//! and that what a running machine asks of a program, its kinds, members, sites, texts and instructions by numbers, is answered from tables as
+//! the definitions say (`Program`, `Subtypes`, `Slots`, `Named`, `Calls`, `Special`, `Decoding`; the files `Inner..` are for the crate itself).
+//!
+//! It doesn't promise that memory is to be had, nor how much the tables take; that no call always gives up is shown by cases of `cb_cases`.
 #![tactic(auto)]
 
 mod all_tables;

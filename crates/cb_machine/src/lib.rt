@@ -1,13 +1,13 @@
-//! The meaning of programs.
+//! The meaning of programs: what a linked and typed program does, on a machine that never frees an object. There is no code but the answer of how a
+//! run ends.
 //!
-//! `specs/` says what a linked and typed program does: the machine that never frees an object. Its files are to be read in this order: in
-//! `cb_plain` the state, what can be reached, states with one thing changed, how deep frames go and how room is asked for (`State`,
-//! `Reach`, `Roots`, `Updates`, `Depth`, `Requests`); machines, numbers of classes and sites (`Machine`, `Library`, `Sites`); what a step
-//! places and leaves (`Plans`); values, and where a machine stands at an instruction (`Values`, `Standing`); exceptions, strings, the entry
-//! of methods, initialisation and handlers (`Throwing`, `Strings`, `Entering`, `Initialising`, `Unwinding`); the shapes of instructions
-//! (`Computing`, `Locals`, `Branching`, `Arrays`, `Fields`, `Creating`, `Testing`); the natives (`Performing`, `Texts`, `Builders`,
-//! `Boxes`, `Copying`, `Outside`, `Answering`, `Enums`, `Natives`); calls (`Calling`); the step, the start and runs (`Steps`, `Starting`,
-//! `Runs`). Small programs (`Laid`, `Small`) are computed by the check. There is no code but the answer of how a run ends.
+//! It is definitions alone, and promises what the check computes of small programs (`Laid`, `Small`). The files of `specs/` are to be read in this
+//! order: in `cb_plain` the state, what can be reached, states with one thing changed, how deep frames go and how room is asked for (`State`,
+//! `Reach`, `Roots`, `Updates`, `Depth`, `Requests`); machines, numbers of classes and sites (`Machine`, `Library`, `Sites`); what a step places
+//! and leaves (`Plans`); values, and where a machine stands at an instruction (`Values`, `Standing`); exceptions, strings, the entry of methods,
+//! initialisation and handlers (`Throwing`, `Strings`, `Entering`, `Initialising`, `Unwinding`); the shapes of instructions (`Computing`,
+//! `Locals`, `Branching`, `Arrays`, `Fields`, `Creating`, `Testing`); the natives (`Performing`, `Texts`, `Builders`, `Boxes`, `Copying`,
+//! `Outside`, `Answering`, `Enums`, `Natives`); calls (`Calling`); the step, the start and runs (`Steps`, `Starting`, `Runs`).
 #![tactic(auto)]
 
 mod law;

@@ -1,7 +1,8 @@
-//! Names and descriptors of class files, as lists of UTF-16 units: which texts are names of classes and of members
-//! (JVMS §4.2), which are descriptors of fields and methods, and the types that these say (JVMS §4.3).
+//! Names and descriptors of class files, as lists of UTF-16 units (JVMS §4.2, §4.3).
 //!
-//! `specs/` has their grammars. Only `method_type` takes memory. What borrows a text holds the names of classes in it.
+//! It promises, in both directions, which texts are names of classes and members and which are descriptors, and the types that descriptors say.
+//! The grammars are in `specs/` (`Names`, `Types`, `Descriptors`). Only `method_type` takes memory. What borrows a text holds the names of
+//! classes in it.
 #![tactic(auto)]
 
 mod base;

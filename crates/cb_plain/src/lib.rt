@@ -1,9 +1,12 @@
-//! Plain types that the layers of the machine share: lists as contracts see them, names, values, shapes of objects, requests for room, and
-//! want of memory; and for a heap in parts what is known of each (`Facts`), sets of them, flows through them, and counters of steps. `specs/`
-//! has besides the state of a machine (`State`), roots and states with one thing changed (`Roots`, `Updates`), the frame of a method that is
-//! entered (`Depth`), what can be reached (`Reach`), and how many words of a part are reckoned to survive a collection (`Estimates`).
+//! Plain types that the layers of the machine share: lists as contracts see them, names, values, shapes of objects, requests for room, and want
+//! of memory; and for a heap in parts what is known of each part (`Facts`), sets of parts, flows through them, and counters of steps.
 //!
-//! No clause says that memory is to be had: that `push`, `with_capacity`, `Name::of`, `PlaceTable::of`, `Set::make` and `Flow::make` don't
+//! It promises that each call does to its list, request, set, flow or counter exactly what its definition says. The definitions of the machine
+//! begin here, in `specs/`: its state (`State`), roots and states with one thing changed (`Roots`, `Updates`), the frame of a method that is entered
+//! (`Depth`), what can be reached (`Reach`), requests (`Requests`), and how many words of a part are estimated to survive a collection
+//! (`Estimates`).
+//!
+//! It doesn't promise that memory is to be had: that `push`, `with_capacity`, `Name::of`, `PlaceTable::of`, `Set::make` and `Flow::make` don't
 //! always give up is shown by tests alone. Nor does a clause speak of the room that `with_capacity` takes.
 #![tactic(auto)]
 

@@ -1,7 +1,8 @@
 //! What the instructions of the profile do, by shape: instructions of one shape differ by a table alone (JVMS chapter 6).
 //!
-//! Typing, the machine's step and the points-to rules go by these shapes, so that each of them has one rule a shape. No call
-//! takes memory, and each takes constant time.
+//! It promises the shape of each instruction by its opcode and operand, and the entries of the tables. Typing and the machine's step go by these
+//! shapes, so that each of them has one rule a shape. The definitions are in `specs/`: `Shapes`, with a file for each group of opcodes and
+//! each table. No call takes memory, and each takes constant time.
 #![tactic(auto)]
 
 mod action;

@@ -1,9 +1,11 @@
-//! Text and constants of class files: modified UTF-8 and the constant pool, read exactly by their grammars and
-//! written back (JVMS §4.4). A pool tells what an index names, and is read from bytes or made constant by constant.
+//! Text and constants of class files: modified UTF-8 and the constant pool (JVMS §4.4).
 //!
-//! `specs/` has the grammars: the spelling of a text, the bytes of a constant, what a pool is, and what an index names.
-//! No clause says that memory is to be had: that no call always gives up is shown by tests alone. Nor does a clause
-//! speak of the room that `List::with_capacity` takes.
+//! It promises that texts and pools are read exactly by their grammars, that what is written is read back as the same, and what each index of a
+//! pool names, in both directions. A pool is read from bytes or made constant by constant. The grammars are in `specs/`: the spelling of a
+//! text (`Text`), the bytes of a constant and what a pool is (`Pool`), what an index names (`Naming`).
+//!
+//! It doesn't promise that memory is to be had: that no call always gives up is shown by tests alone. Nor does a clause speak of the room that
+//! `List::with_capacity` takes.
 #![tactic(auto)]
 
 mod admitting;

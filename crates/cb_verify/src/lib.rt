@@ -1,9 +1,10 @@
 //! The verifier by type checking (JVMS §4.10.1).
 //!
-//! `verify` says whether a program is typed, and gives the frame before each instruction. `specs/` has a file a notion: verification
-//! types and frames (`Types`, `Frames`), what a method's instructions are typed in (`Within`), what each instruction leaves of a frame
-//! (`Rules`, `Calls`, `Leaving`, with `Members`), the frames that a method declares (`Expansion`), and whether a program is typed
-//! (`Typed`, with `Framed` and `Refused`); the other files are for the crate itself. No clause says that memory is to be had.
+//! `verify` promises that a program is accepted exactly if it is typed, with the frame before each instruction, and otherwise names the first method
+//! that isn't and the least of its places that fails. `specs/` has a file a notion: verification types and frames (`Types`, `Frames`), what a
+//! method's instructions are typed in (`Within`), what each instruction leaves of a frame (`Rules`, `Calls`, `Leaving`, with `Members`), the
+//! frames that a method declares (`Expansion`), and whether a program is typed (`Typed`, with `Framed` and `Refused`); the other files are for the
+//! crate itself. It doesn't promise that memory is to be had.
 #![tactic(auto)]
 
 mod access;

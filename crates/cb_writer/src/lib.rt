@@ -1,8 +1,9 @@
-//! Class files written back: the bytes that spell a record and have nothing to skip (JVMS chapter 4), and whether a
-//! record has any.
+//! Class files written back (JVMS chapter 4).
 //!
-//! The grammar is that of `cb_classfile`. No clause says that memory is to be had: that `write_class` doesn't always give
-//! up is shown by tests alone.
+//! It promises the bytes that spell a record and have nothing to skip, that the readers give the record back, and whether a record has any bytes
+//! at all. The definitions are the grammar of `cb_classfile` and the functions beside it (`class_bytes` and its like).
+//!
+//! It doesn't promise that memory is to be had: that `write_class` doesn't always give up is shown by tests alone.
 #![tactic(auto)]
 
 mod attribute_names;
