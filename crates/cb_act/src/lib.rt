@@ -1,16 +1,16 @@
-//! What an instruction does, as a whole step over the roots of a running machine and any store of objects.
+//! What an instruction does, as a whole step over the roots of a running machine and any store of objects; and the laws that turns over a store come
+//! to what is kept of the machine that never frees.
 //!
-//! `act` does an instruction, or tells what has to be done in its place (`Need`); `specs/Acting` says what it leaves, `Here` what that is as
-//! a step of the machine, and `Suited` what it asks of roots and objects, which typed states have. It is made of calls for each kind, and
-//! `specs/` says what each leaves, and `None` where what it takes isn't there: of the roots `Effects`, `Framing` (those that change the topmost
-//! frame alone, as whole steps) and `Going` (switches, static fields, returns); of roots and objects `Objects` (fields and elements),
-//! `Classes` (casts) and `Placing` (exceptions and new objects). `Steps` says what that has to do with the machine's step. No call takes
-//! memory, and each takes constant time where it doesn't say otherwise.
+//! `act` promises that an instruction is done as the machine's step, or that nothing has changed and it tells what has to be done in its place
+//! (`Need`). `Acting` says what it leaves, `Here` what that is as a step of the machine, and `Suited` what it asks of roots and objects, which
+//! typed states have. It is made of calls for each kind, and `specs/` says what each leaves, and `None` if what it takes isn't there: of the roots
+//! `Effects`, `Framing` (those that change the topmost frame alone, as whole steps) and `Going` (switches, static fields, returns); of roots and
+//! objects `Objects` (fields and elements), `Classes` (casts) and `Placing` (exceptions and new objects). `Steps` says what that has to do with the
+//! machine's step. No call takes memory, and each takes constant time unless it says otherwise.
 //!
-//! Turns of a run are defined here too (`Turning`), since they hold over any lawful store: room is made for what the next step places, by
-//! whatever rule the store has, and the step is made. That turns come to what is kept of the state of the machine that never frees is a law
-//! (`turns_stand`), which rests on what a step does to what is kept of a state (`Keeping`, `Changing`, `Within`), at every instruction and
-//! native.
+//! Turns of a run are defined here too (`Turning`), since they hold over any store: room is made for what the next step places, by the store's own
+//! rule, and the step is made. `turns_stand` rests on what a step does to what is kept of a state (`Keeping`, `Changing`, `Within`), at every
+//! instruction and native.
 #![tactic(auto)]
 
 mod acting;

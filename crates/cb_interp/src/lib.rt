@@ -1,13 +1,14 @@
 //! The machine's run, over the roots of a running machine and any store of objects: turns, the start, and the run.
 //!
-//! A run goes by turns (`Turning` of `cb_act`): room is made for what the next step places, by whatever rule the store has, and the step is
-//! made. An instruction is done by `act` of `cb_act`, which typed states of a linked program allow (`typed_states_act`), or in turns of its
-//! own: those in which an exception is thrown or unwinds, an object or an array is made (`Making`) or arrays of several dimensions are
-//! (`Nested`), a class begins or goes on to be initialised (`Initials`), and a switch is done; `Fit` says what a linked program says of what
-//! they place.
+//! `run` promises that so many turns were made, that what is kept at their end stands for the machine's state after as many steps, that just what
+//! these steps print went out, and why it ended (`Running` in `specs/`). `start` promises that what is kept of new roots and an empty store is the
+//! start of the machine (`Starting`). Today `run` asks that the store isn't of fixed size, and both ask that each object may refer to each.
 //!
-//! `start` makes of new roots and an empty store what is kept of the start of the machine (`Starting`), and `run` makes a turn for each step
-//! until the program ends, its steps are spent, room is refused, or a call of the input or a write fails (`Running`, `Reading`).
+//! A turn (`Turning` of `cb_act`) makes room for what the next step places, by the store's own rule, and makes the step. An instruction is done by
+//! `act` of `cb_act`, which typed states of a linked program allow (`typed_states_act`), or in a turn of its own: an exception is thrown or unwinds,
+//! an object or an array is made (`Making`), arrays of several dimensions are (`Nested`), a class begins or goes on to be initialised
+//! (`Initials`), a switch is resolved, a native is performed (`Performing`, `Answering`, `Printing`, `Reading`). `Fit` says what a linked program
+//! says of what they place.
 #![tactic(auto)]
 
 mod answer_turns;

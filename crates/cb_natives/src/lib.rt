@@ -1,12 +1,13 @@
 //! What the library's natives do (Java SE 8 API, java.lang and java.io), over any store of objects.
 //!
-//! `answer` does those that give a number or nothing. Those that place objects or change them are done in two calls, `plan_native`, which
-//! tells the room that they ask for, and `run_native`, once that room was made. `find_constant` does `Enum.valueOf`, which also asks for a
-//! class to be initialised. `plan_copy` tells what `System.arraycopy` copies and throws, and `copy_planned` copies it.
-//! `read_byte` does `InputStream.read()`; `range_to_read` tells the range of `read(byte[], int, int)`, and `read_into` reads into it.
+//! It promises that each native answers and leaves what the machine's call does. `answer` does those that give a number or nothing. Those that
+//! place objects or change them are done in two calls, `plan_native`, which tells the room that they ask for, and `run_native`, once that room
+//! was made. `find_constant` does `Enum.valueOf`, which may also ask for a class to be initialised. `plan_copy` tells what `System.arraycopy`
+//! copies and throws, and `copy_planned` copies it. `read_byte` does `InputStream.read()`; `range_to_read` tells the range of
+//! `read(byte[], int, int)`, and `read_into` reads into it.
 //!
-//! `specs/` says what is known of the arguments of each (`Given`), what one answers that places nothing but an exception (`Answers`), and
-//! what the others ask for and perform (`Making`, and by group the files that begin so). No call takes memory but the store's.
+//! `specs/` says what is known of the arguments of each (`Given`), what one answers that places nothing but an exception (`Answers`), and what the
+//! others ask for and perform (`Making`, and by group the files that begin so). No call takes memory but the store's.
 #![tactic(auto)]
 
 mod answering;

@@ -1,7 +1,11 @@
 //! The top call of the machine: all that the program does, over the outside that it is handed.
 //!
-//! It links, verifies and runs classes, lists class files and assembles texts. A program runs over a store that never lets an object go,
-//! until it ends or comes to a step that isn't done yet.
+//! `run_command` promises one thing, `IsAnswer` in `specs/Answer`: how a call ends, what it prints and reads, and its cause, for every folder, input,
+//! outputs and words. `specs/` has besides the words (`Words`), endings and statuses (`Ending`, `Messages`), and how each command ends (`Run` with
+//! `Running`, `List`, `Asm`); `Inner` is for the crate itself. The laws say single facts of the answer.
+//!
+//! It links, verifies and runs classes, lists class files and assembles texts. A program runs over a store that never lets an object go, until it
+//! ends, its steps are spent, memory runs out, the heap is full, or the outside fails.
 #![tactic(auto)]
 
 mod arguments;

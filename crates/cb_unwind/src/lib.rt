@@ -1,9 +1,9 @@
-//! What a machine does where no instruction runs: a class begins to be initialised, an initialisation takes a step, a pending exception
-//! looks for its handler, and a constant string gets its object, over the roots of a running machine and any store of objects.
+//! What a machine does when no instruction runs: a class begins to be initialised, an initialisation takes a step, a pending exception looks for its
+//! handler, and a constant string gets its object, over the roots of a running machine and any store of objects.
 //!
-//! `specs/` says what each leaves: of the roots `Begun` and `Initialised`, of roots and objects `Unwound` and `Strings`; and `Steps` what
-//! that has to do with the machine's step. A string that is the constant of a static field isn't set by `begin_init`, which asks that there
-//! is none. No call takes memory, and each takes constant time where it doesn't say otherwise.
+//! It promises that each call leaves what the machine's step leaves. `specs/` says what that is: of the roots `Begun` and `Initialised`, of roots
+//! and objects `Unwound` and `Strings`; and `Steps` what that has to do with the machine's step. A string that is the constant of a static field
+//! isn't set by `begin_init`, which asks that there is none. No call takes memory, and each takes constant time unless it says otherwise.
 #![tactic(auto)]
 
 mod answers;
