@@ -25,14 +25,10 @@ mod parents_first;
 mod reach;
 mod resolution;
 mod rule;
-#[cfg(test)]
-mod samples;
 mod selected;
 mod selection;
 mod specific;
 mod tables;
-#[cfg(test)]
-mod tests;
 mod upward;
 
 pub use bad::first_bad;
