@@ -1,243 +1,178 @@
-// What the objects do at small inputs, in memory and over real files.
-use crate::rows::check;
+// What the objects in memory do at small inputs.
 use cb_io::{
-    DirFolder, Failed, Folder, FolderError, Found, MemFolder, MemSink, MemSource, Sink, Source,
-    StreamSink, StreamSource, SureFolder, SureSink, SureSource, text_of, utf8_of, write_all,
+    Failed, Folder, FolderError, Found, MemFolder, MemSink, MemSource, Sink, Source, SureFolder,
+    SureSink, SureSource, text_of, utf8_of, write_all,
 };
 use cb_plain::{Numbers, OutOfMemory};
-use std::alloc::Global;
-use std::fs;
-use std::os::unix::fs::symlink;
-use std::process::Abort;
-use std::test::Fail;
+use cb_rows::{Trouble, number_of};
+use std::alloc::{AllocError, Global};
 
+pub(crate) fn tell(
+    alloc: Global,
+    told: &mut String,
+    table: &str,
+    row: &str,
+) -> Result<(), Trouble> {
+    match table {
+        "source" => tell_source(alloc, told, row),
+        "sink" => tell_sink(alloc, told),
+        "folder" => tell_folder(alloc, told, row),
+        "second file" => tell_second(alloc, told, row),
+        "sure" => tell_sure(alloc, told, row),
+        "words" => Ok(write!(told, "{}, {}", Failed, FolderError::Failed)?),
+        "utf-8" => tell_utf8(alloc, told, row),
+        "utf-8 into a failing sink" => tell_cut_utf8(alloc, told),
+        _ => Err(Trouble::NotUnderstood),
+    }
+}
+
+/// A list of the number of one call.
 fn call(alloc: Global, number: u32) -> Result<Numbers, OutOfMemory> {
     let mut failing = Numbers::new(alloc);
     failing.push(number)?;
     Ok(failing)
 }
 
-fn two_files(alloc: Global) -> Result<SureFolder, Fail> {
+/// Adds bytes as a text in quotes.
+pub(crate) fn push_text(told: &mut String, bytes: &[u8]) -> Result<(), Trouble> {
+    let text = str::from_utf8(bytes).map_err(|_| Trouble::Refused)?;
+    Ok(write!(told, "{text:?}")?)
+}
+
+/// Adds what a call answered, and bytes behind it.
+pub(crate) fn push_call(
+    told: &mut String,
+    answer: Result<usize, Failed>,
+    bytes: &[u8],
+) -> Result<(), Trouble> {
+    match answer {
+        Ok(count) => write!(told, "{count} ")?,
+        Err(Failed) => told.push_str("failed ")?,
+    }
+    push_text(told, bytes)?;
+    Ok(told.push(' ')?)
+}
+
+/// Five reads of a source of these bytes, which gives two at most and fails at the second call, and what is left. A read has four bytes to
+/// fill, of which the first two are told.
+fn tell_source(alloc: Global, told: &mut String, row: &str) -> Result<(), Trouble> {
+    let bytes = Vec::from_slice(alloc, row.as_bytes())?;
+    let mut source = MemSource::new(bytes, 2, call(alloc, 2)?);
+    let mut buf = [0; 4];
+    for _ in 0..5 {
+        let answer = source.read(&mut buf);
+        push_call(told, answer, &buf[..2])?;
+    }
+    push_text(told, source.remaining())
+}
+
+/// Two writes to a sink that takes a byte at a time and fails at the second call, the second one through a loan, and what the sink then has.
+fn tell_sink(alloc: Global, told: &mut String) -> Result<(), Trouble> {
+    let mut sink = MemSink::new(alloc, 1, call(alloc, 2)?);
+    write!(told, "{:?} ", write_all(&mut sink, b"42\n").is_ok())?;
+    push_text(told, sink.bytes())?;
+    let mut lent = &mut sink;
+    write!(told, " {:?} ", write_all(&mut lent, b"2\n").is_ok())?;
+    push_text(told, sink.bytes())
+}
+
+/// A folder with two files.
+fn two_files(alloc: Global) -> Result<SureFolder, Trouble> {
     let mut files = SureFolder::new(alloc);
     files.put("a/B.class", Vec::from_slice(alloc, b"abc")?)?;
     files.put("empty", Vec::new(alloc))?;
     Ok(files)
 }
 
-/// What a folder answers, in words: the bytes behind `has`, which are ASCII.
-fn told(alloc: Global, found: &Result<Found, FolderError>) -> Result<String, Fail> {
-    let word = match found {
+/// Adds what a folder answers, in words: the bytes behind `has`, which are ASCII.
+fn push_found(told: &mut String, found: &Result<Found, FolderError>) -> Result<(), Trouble> {
+    match found {
         Ok(Found::Bytes(bytes)) => {
-            let text = str::from_utf8(bytes.as_slice())?;
-            return Ok(format!(in alloc; "has {text}")?);
+            told.push_str("has ")?;
+            push_text(told, bytes.as_slice())?;
         }
-        Ok(Found::Absent) => "absent",
-        Ok(Found::TooLong) => "too long",
-        Err(FolderError::Failed) => "failed",
-        Err(FolderError::OutOfMemory) => return Err(Fail::new("out of memory")),
-    };
-    Ok(String::from_str(alloc, word)?)
+        Ok(Found::Absent) => told.push_str("absent")?,
+        Ok(Found::TooLong) => told.push_str("too long")?,
+        Err(FolderError::Failed) => told.push_str("failed")?,
+        Err(FolderError::OutOfMemory) => return Err(Trouble::OutOfMemory),
+    }
+    Ok(told.push(' ')?)
 }
 
-/// Reads the file of each row, which has a limit, a path and the answer.
-fn check_folder<F: Folder>(
-    rt: &impl Abort,
+/// Adds the answers of a folder to the reads of a row, one behind the other: each has a limit and a path.
+pub(crate) fn push_reads<F: Folder>(
     alloc: Global,
+    told: &mut String,
     folder: &mut F,
-    rows: &str,
-) -> Result<(), Fail> {
-    for row in rows.trim().lines() {
-        let (limit, row) = row.trim().split_once(' ').ok_or("no limit")?;
-        let (path, want) = row.split_once('|').ok_or("no bar")?;
-        let found = folder.read(alloc, path.trim(), limit.parse()?);
-        assert_eq!(rt; told(alloc, &found)?.trim(), want.trim(), "at {row}");
+    row: &str,
+) -> Result<(), Trouble> {
+    for read in row.split(", ") {
+        let (limit, path) = read.split_once(' ').ok_or(Trouble::NotUnderstood)?;
+        push_found(told, &folder.read(alloc, path, number_of(limit)?))?;
     }
     Ok(())
 }
 
-#[test]
-fn a_source_gives_its_most_and_fails_at_a_listed_call(rt: HostRuntime) -> Result<(), Fail> {
-    let bytes = Vec::from_slice(rt.alloc(), b"abcde")?;
-    let mut source = MemSource::new(bytes, 2, call(rt.alloc(), 2)?);
-    let mut buf = [0; 4];
-    for (want, now) in [
-        (Ok(2), b"ab"),
-        (Err(Failed), b"ab"),
-        (Ok(2), b"cd"),
-        (Ok(1), b"ed"),
-        (Ok(0), b"ed"),
-    ] {
-        assert_eq!(rt; source.read(&mut buf), want);
-        assert_eq!(rt; &buf[..2], now.as_slice());
-    }
-    assert_eq!(rt; source.remaining(), b"".as_slice());
-    Ok(())
+/// Reads of a folder in memory that fails at the first call.
+fn tell_folder(alloc: Global, told: &mut String, row: &str) -> Result<(), Trouble> {
+    let mut folder = MemFolder::new(two_files(alloc)?, call(alloc, 1)?);
+    push_reads(alloc, told, &mut folder, row)
 }
 
-#[test]
-fn a_sink_keeps_what_it_took_before_a_failed_call(rt: HostRuntime) -> Result<(), Fail> {
-    let mut sink = MemSink::new(rt.alloc(), 1, call(rt.alloc(), 2)?);
-    assert_eq!(rt; write_all(&mut sink, b"42\n"), Err(Failed));
-    assert_eq!(rt; sink.bytes(), b"4".as_slice());
-    let mut lent = &mut sink;
-    assert_eq!(rt; write_all(&mut lent, b"2\n"), Ok(()));
-    assert_eq!(rt; sink.bytes(), b"42\n".as_slice());
-    Ok(())
+/// Reads of a folder that has a second file at the path of the first one.
+fn tell_second(alloc: Global, told: &mut String, row: &str) -> Result<(), Trouble> {
+    let mut folder = two_files(alloc)?;
+    folder.put("a/B.class", Vec::from_slice(alloc, b"xy")?)?;
+    push_reads(alloc, told, &mut folder, row)
 }
 
-#[test]
-fn a_folder_in_memory_fails_once_and_keeps_to_the_limit(rt: HostRuntime) -> Result<(), Fail> {
-    let mut folder = MemFolder::new(two_files(rt.alloc())?, call(rt.alloc(), 1)?);
-    let rows = "
-        3 a/B.class | failed
-        3 a/B.class | has abc
-        2 a/B.class | too long
-        0 empty     | has
-        3 a         | absent
-    ";
-    check_folder(&rt, rt.alloc(), &mut folder, rows)
-}
-
-#[test]
-fn the_second_file_at_a_path_takes_its_place(rt: HostRuntime) -> Result<(), Fail> {
-    let mut folder = two_files(rt.alloc())?;
-    folder.put("a/B.class", Vec::from_slice(rt.alloc(), b"xy")?)?;
-    let rows = "
-        9 a/B.class | has xy
-        9 empty     | has
-    ";
-    check_folder(&rt, rt.alloc(), &mut folder, rows)
-}
-
-#[test]
-fn sure_objects_move_all_that_they_can(rt: HostRuntime) -> Result<(), Fail> {
-    let mut source = SureSource::new(Vec::from_slice(rt.alloc(), b"abc")?);
+/// A read of two bytes of a source that never fails, what is left, and a write to a sink that never fails.
+fn tell_sure(alloc: Global, told: &mut String, row: &str) -> Result<(), Trouble> {
+    let mut source = SureSource::new(Vec::from_slice(alloc, row.as_bytes())?);
     let mut buf = [0; 2];
-    assert_eq!(rt; source.read(&mut buf), Ok(2));
-    assert_eq!(rt; buf.as_slice(), b"ab".as_slice());
-    assert_eq!(rt; source.remaining(), b"c".as_slice());
+    let answer = source.read(&mut buf);
+    push_call(told, answer, &buf)?;
+    push_text(told, source.remaining())?;
     let mut sink = SureSink::new();
-    assert_eq!(rt; sink.write(b"42\n"), Ok(3));
-    Ok(())
-}
-
-/// A folder with a file, a folder, a link to the file and a link to itself.
-fn make_folder(rt: &HostRuntime) -> Result<(), Fail> {
-    fs::create_dir(rt, "plain")?;
-    fs::create_dir(rt, "plain/folder")?;
-    fs::write(rt, "plain/file", "abc")?;
-    symlink(rt, "file", "plain/link")?;
-    symlink(rt, "loop", "plain/loop")?;
-    Ok(())
-}
-
-#[test]
-fn a_folder_of_the_system_has_plain_files_alone(rt: HostRuntime) -> Result<(), Fail> {
-    make_folder(&rt)?;
-    let rows = "
-        4 plain/file    | has abc
-        3 plain/file    | has abc
-        2 plain/file    | too long
-        3 plain/link    | has abc
-        3 plain/missing | absent
-        3 plain/folder  | absent
-        3 plain/file/x  | absent
-        3 plain/file\0  | absent
-        3 plain/loop    | failed
-    ";
-    check_folder(&rt, rt.alloc(), &mut DirFolder::new(&rt), rows)?;
-    fs::remove_dir_all(&rt, "plain")?;
-    Ok(())
-}
-
-#[test]
-fn a_folder_of_the_system_has_no_file_of_too_long_a_name(rt: HostRuntime) -> Result<(), Fail> {
-    let long = "x".repeat(rt.alloc(), 256)?;
-    let found = DirFolder::new(&rt).read(rt.alloc(), long.as_str(), 3);
-    assert_eq!(rt; told(rt.alloc(), &found)?.as_str(), "absent");
-    Ok(())
-}
-
-#[test]
-fn streams_lead_to_real_files(rt: HostRuntime) -> Result<(), Fail> {
-    let mut sink = StreamSink::new(fs::create(&rt, "stream")?);
-    assert_eq!(rt; write_all(&mut sink, b"42\n"), Ok(()));
-    let mut source = StreamSource::new(fs::open(&rt, "stream")?);
-    let mut buf = [0; 4];
-    assert_eq!(rt; source.read(&mut buf), Ok(3));
-    assert_eq!(rt; &buf[..3], b"42\n".as_slice());
-    assert_eq!(rt; source.read(&mut buf), Ok(0));
-    fs::remove_file(&rt, "stream")?;
-    Ok(())
-}
-
-#[test]
-fn streams_that_fail_or_take_nothing_are_faults(rt: HostRuntime) -> Result<(), Fail> {
-    fs::create_dir(&rt, "unread")?;
-    let mut source = StreamSource::new(fs::open(&rt, "unread")?);
-    let mut buf = [0; 4];
-    assert_eq!(rt; source.read(&mut buf), Err(Failed));
-    let mut no_room = [0u8; 0];
-    let mut sink = StreamSink::new(no_room.as_mut_slice());
-    assert_eq!(rt; sink.write(b"4"), Err(Failed));
-    assert_eq!(rt; sink.write(b""), Ok(0));
-    fs::remove_dir(&rt, "unread")?;
-    Ok(())
-}
-
-#[test]
-fn errors_are_told_in_words(rt: HostRuntime) -> Result<(), Fail> {
-    let words = format!(in rt.alloc(); "{}, {}", Failed, FolderError::Failed)?;
-    assert_eq!(rt; words.as_str(), "an outside call failed, the folder failed");
+    write!(told, " {:?}", sink.write(b"42\n"))?;
     Ok(())
 }
 
 /// The units that hexadecimal digits tell.
-fn units_of(alloc: Global, digits: &str) -> Result<Vec<u16>, Fail> {
+fn units_of(alloc: Global, digits: &str) -> Result<Vec<u16>, Trouble> {
     let mut units = Vec::new(alloc);
     for word in digits.split_whitespace() {
-        units.push(u16::from_str_radix(word, 16)?)?;
+        let unit = u16::from_str_radix(word, 16).map_err(|_| Trouble::NotUnderstood)?;
+        units.push(unit)?;
     }
     Ok(units)
 }
 
-/// The bytes of units in UTF-8, in hexadecimal digits.
-fn told_utf8(alloc: Global, text: &str) -> Result<String, Fail> {
-    let units = units_of(alloc, text)?;
-    let mut sink = MemSink::new(alloc, 3, Numbers::new(alloc));
-    utf8_of(&units, &mut sink)?;
-    if text_of(alloc, &units)?.as_bytes() != sink.bytes() {
-        return Err(Fail::new("the text differs"));
+/// Adds bytes in hexadecimal digits.
+fn push_digits(told: &mut String, bytes: &[u8]) -> Result<(), AllocError> {
+    for byte in bytes {
+        write!(told, "{byte:02X} ")?;
     }
-    let mut out = String::new(alloc);
-    for byte in sink.bytes() {
-        write!(out, "{byte:02X} ")?;
-    }
-    Ok(out)
-}
-
-#[test]
-fn units_are_written_as_utf_8(rt: HostRuntime) -> Result<(), Fail> {
-    // Behind the fourth row U+10437, the least and the greatest pair, and behind those surrogates without their partners.
-    let rows = "
-        0024 00A2                | 24 C2 A2
-        20AC                     | E2 82 AC
-        0000 FFFF                | 00 EF BF BF
-                                 |
-        D801 DC37                | F0 90 90 B7
-        D800 DC00                | F0 90 80 80
-        DBFF DFFF                | F4 8F BF BF
-        D800                     | 3F
-        DC00 D800                | 3F 3F
-        D800 0041 D800 D800 DC00 | 3F 41 3F F0 90 80 80
-    ";
-    check(&rt, rt.alloc(), rows, told_utf8)
-}
-
-#[test]
-fn units_stop_where_the_sink_fails(rt: HostRuntime) -> Result<(), Fail> {
-    let mut sink = MemSink::new(rt.alloc(), 1, call(rt.alloc(), 3)?);
-    assert_eq!(rt; utf8_of(&[0x41, 0xA2, 0x42], &mut sink), Err(Failed));
-    assert_eq!(rt; sink.bytes(), b"A\xC2".as_slice());
     Ok(())
+}
+
+/// The bytes of units in UTF-8, which are those of the text.
+fn tell_utf8(alloc: Global, told: &mut String, row: &str) -> Result<(), Trouble> {
+    let units = units_of(alloc, row)?;
+    let mut sink = MemSink::new(alloc, 3, Numbers::new(alloc));
+    if utf8_of(&units, &mut sink).is_err() {
+        return Err(Trouble::Refused);
+    }
+    if text_of(alloc, &units)?.as_bytes() != sink.bytes() {
+        told.push_str("the text differs: ")?;
+    }
+    Ok(push_digits(told, sink.bytes())?)
+}
+
+/// What a sink has that takes a byte at a time and fails at the third call.
+fn tell_cut_utf8(alloc: Global, told: &mut String) -> Result<(), Trouble> {
+    let mut sink = MemSink::new(alloc, 1, call(alloc, 3)?);
+    let is_ok = utf8_of(&[0x41, 0xA2, 0x42], &mut sink).is_ok();
+    write!(told, "{is_ok} ")?;
+    Ok(push_digits(told, sink.bytes())?)
 }

@@ -1,12 +1,44 @@
 // Natives of each form, and the laws called.
 use cb_library::{
-    Native, NativeForm, fifty_classes, flags_of_methods, four_constructors, marked, natives_once,
-    one_method, sound_bodies,
+    Native, fifty_classes, flags_of_methods, four_constructors, marked, natives_once, one_method,
+    sound_bodies,
 };
-use std::test::Fail;
+use cb_rows::Trouble;
 
-#[test]
-fn natives_have_their_forms(rt: HostRuntime) -> Result<(), Fail> {
+/// Natives of each form.
+const NATIVES: [Native; 9] = [
+    Native::StringConcat,
+    Native::StringBuilderSetLength,
+    Native::BooleanNew,
+    Native::IntegerValueOf,
+    Native::ThrowableGetSuppressed,
+    Native::SystemGc,
+    Native::StringBuilderLength,
+    Native::Flush,
+    Native::EnumValueOf,
+];
+
+pub(crate) fn tell(told: &mut String, table: &str, row: &str) -> Result<(), Trouble> {
+    match (table, row) {
+        ("forms", "natives") => tell_forms(told),
+        ("laws", "") => {
+            call_laws();
+            Ok(told.push_str("called")?)
+        }
+        _ => Err(Trouble::NotUnderstood),
+    }
+}
+
+/// The form of each native.
+fn tell_forms(told: &mut String) -> Result<(), Trouble> {
+    for native in NATIVES {
+        write!(told, "\n{native:?} {:?}", native.form())?;
+    }
+    Ok(())
+}
+
+/// Calls the laws.
+fn call_laws() {
     fifty_classes();
     flags_of_methods();
     four_constructors();
@@ -14,19 +46,4 @@ fn natives_have_their_forms(rt: HostRuntime) -> Result<(), Fail> {
     natives_once();
     one_method();
     sound_bodies();
-    let cases = [
-        (Native::StringConcat, NativeForm::Text),
-        (Native::StringBuilderSetLength, NativeForm::OwnFields),
-        (Native::BooleanNew, NativeForm::OwnFields),
-        (Native::IntegerValueOf, NativeForm::Table),
-        (Native::ThrowableGetSuppressed, NativeForm::Array),
-        (Native::SystemGc, NativeForm::Outside),
-        (Native::StringBuilderLength, NativeForm::Answer),
-        (Native::Flush, NativeForm::Answer),
-        (Native::EnumValueOf, NativeForm::Answer),
-    ];
-    for (native, form) in cases {
-        assert_eq!(rt; native.form(), form);
-    }
-    Ok(())
 }

@@ -1,103 +1,127 @@
 // Arrays and stacks of numbers, with ample memory.
 use cb_persistent::{PersistentArray, PersistentStack};
-use cb_plain::OutOfMemory;
-use std::alloc::Global;
+use cb_rows::{Trouble, number_of};
+use std::alloc::{AllocError, Global};
 
-/// Whether an array has just these items.
-fn array_has(array: &PersistentArray<u32>, items: &[u32]) -> bool {
-    if array.len() != items.len() || array.is_empty() != items.is_empty() {
-        return false;
+pub(crate) fn tell(
+    alloc: Global,
+    told: &mut String,
+    table: &str,
+    row: &str,
+) -> Result<(), Trouble> {
+    match table {
+        "change" => tell_change(alloc, told, row),
+        "filled" => tell_filled(alloc, told, row),
+        "doubled" => tell_doubled(alloc, told, row),
+        "stack" => tell_stack(alloc, told, row),
+        "push" => tell_push(alloc, told, row),
+        "growth" => tell_growth(alloc, told, row),
+        _ => Err(Trouble::NotUnderstood),
     }
-    for (place, item) in items.iter().enumerate() {
-        if array.get(place) != *item {
-            return false;
-        }
-    }
-    true
 }
 
-#[test]
-fn a_change_leaves_the_array_that_it_came_from(rt: HostRuntime) -> Result<(), OutOfMemory> {
-    let given = [3, 1, 4, 1, 5, 9, 2];
-    let array = PersistentArray::of(rt.alloc(), &given)?;
-    for place in 0..7 {
-        let changed = array.with(rt.alloc(), place, 70)?.share()?;
-        let mut want = given;
-        want[place] = 70;
-        assert!(rt; array_has(&array, &given), "with a change at {place}");
-        assert!(rt; array_has(&changed, &want), "changed at {place}");
+/// The numbers of a row, one behind the other.
+fn numbers(alloc: Global, row: &str) -> Result<Vec<u64>, Trouble> {
+    let mut numbers = Vec::new(alloc);
+    for word in row.split_whitespace() {
+        numbers.push(number_of(word)?)?;
+    }
+    Ok(numbers)
+}
+
+/// Adds the items of an array, and whether it has none.
+fn push_array(told: &mut String, array: &PersistentArray<u64>) -> Result<(), AllocError> {
+    write!(told, "{}:", array.is_empty())?;
+    for place in 0..array.len() {
+        write!(told, " {}", array.get(place))?;
     }
     Ok(())
 }
 
-#[test]
-fn arrays_of_one_item_have_it_everywhere(rt: HostRuntime) -> Result<(), OutOfMemory> {
-    let items = [8; 20];
-    for len in 0..20 {
-        let array = PersistentArray::filled(rt.alloc(), len, 8_u32)?;
-        assert!(rt; array_has(&array, &items[..len]), "of {len}");
+/// Adds the items of a stack, the topmost first, and whether it has none.
+fn push_stack(told: &mut String, stack: &PersistentStack<u64>) -> Result<(), AllocError> {
+    write!(told, "{}:", stack.is_empty())?;
+    for depth in 0..stack.len() {
+        write!(told, " {}", stack.top(depth))?;
     }
     Ok(())
 }
 
-#[test]
-fn a_doubled_array_has_the_item_in_front(rt: HostRuntime) -> Result<(), OutOfMemory> {
-    let items = [3, 3, 3, 3, 3, 3, 3, 3, 8, 8, 8, 8, 8, 8, 8, 8];
-    for len in 0..9 {
-        let array = PersistentArray::filled(rt.alloc(), len, 8_u32)?;
-        let doubled = array.doubled(rt.alloc(), 3)?;
-        assert!(rt; array_has(&doubled, &items[8 - len..8 + len]), "of {len}");
+/// An array with an item changed to 70, and the array that it came from.
+fn tell_change(alloc: Global, told: &mut String, row: &str) -> Result<(), Trouble> {
+    let (items, at) = row.split_once(':').ok_or(Trouble::NotUnderstood)?;
+    let array = PersistentArray::of(alloc, numbers(alloc, items)?.as_slice())?;
+    let at = number_of(at.trim())?;
+    if at >= array.len() {
+        return Err(Trouble::NotUnderstood);
     }
+    let changed = array.with(alloc, at, 70)?.share()?;
+    push_array(told, &changed)?;
+    told.push_str(", of ")?;
+    push_array(told, &array)?;
     Ok(())
 }
 
-/// Whether a stack has just these items, the topmost first.
-fn has(stack: &PersistentStack<u32>, items: &[u32]) -> bool {
-    if stack.len() != items.len() || stack.is_empty() != items.is_empty() {
-        return false;
-    }
-    for (place, item) in items.iter().enumerate() {
-        if stack.top(place) != *item {
-            return false;
-        }
-    }
-    true
+/// An array of so many times 8.
+fn tell_filled(alloc: Global, told: &mut String, row: &str) -> Result<(), Trouble> {
+    let array = PersistentArray::filled(alloc, number_of(row)?, 8_u64)?;
+    Ok(push_array(told, &array)?)
 }
 
-/// The items 5, 6 and 7, one behind the other.
-fn three(alloc: Global) -> Result<PersistentStack<u32>, OutOfMemory> {
+/// The same with as many times 3 in front.
+fn tell_doubled(alloc: Global, told: &mut String, row: &str) -> Result<(), Trouble> {
+    let array = PersistentArray::filled(alloc, number_of(row)?, 8_u64)?;
+    let doubled = array.doubled(alloc, 3)?;
+    Ok(push_array(told, &doubled)?)
+}
+
+/// A stack onto which numbers were pushed.
+fn pushed(alloc: Global, row: &str) -> Result<PersistentStack<u64>, Trouble> {
     let mut stack = PersistentStack::empty();
-    for item in [5, 6, 7] {
-        stack = stack.push(alloc, item)?;
+    for word in row.split_whitespace() {
+        stack = stack.push(alloc, number_of(word)?)?;
     }
     Ok(stack)
 }
 
-#[test]
-fn a_stack_has_its_topmost_item_first(rt: HostRuntime) -> Result<(), OutOfMemory> {
-    assert!(rt; has(&PersistentStack::empty(), &[]));
-    let three = three(rt.alloc())?;
-    assert!(rt; has(&three.share()?, &[7, 6, 5]));
-    Ok(())
+/// A stack onto which the numbers of a row were pushed.
+fn tell_stack(alloc: Global, told: &mut String, row: &str) -> Result<(), Trouble> {
+    let stack = pushed(alloc, row)?.share()?;
+    Ok(push_stack(told, &stack)?)
 }
 
-#[test]
-fn a_push_leaves_the_stack_that_it_came_from(rt: HostRuntime) -> Result<(), OutOfMemory> {
-    let three = three(rt.alloc())?;
-    assert!(rt; three.len() == 3);
-    let rest = three.below(1)?;
-    let other = rest.push(rt.alloc(), 70)?;
-    assert!(rt; has(&rest, &[6, 5]) && has(&other, &[70, 6, 5]) && has(&three, &[7, 6, 5]));
-    Ok(())
-}
-
-#[test]
-fn a_stack_grows(rt: HostRuntime) -> Result<(), OutOfMemory> {
-    let mut stack = PersistentStack::empty();
-    for item in 0..40_u32 {
-        stack = stack.push(rt.alloc(), item)?;
-        assert_eq!(rt; stack.top(0), item);
+/// What is below the topmost item of a stack.
+fn below(stack: &PersistentStack<u64>) -> Result<PersistentStack<u64>, Trouble> {
+    if stack.is_empty() {
+        Err(Trouble::NotUnderstood)
+    } else {
+        Ok(stack.below(1)?)
     }
-    assert_eq!(rt; stack.len(), 40);
+}
+
+/// What is below the topmost item of a stack, that with 70 pushed, and the stack.
+fn tell_push(alloc: Global, told: &mut String, row: &str) -> Result<(), Trouble> {
+    let stack = pushed(alloc, row)?;
+    let rest = below(&stack)?;
+    let other = rest.push(alloc, 70)?;
+    push_stack(told, &rest)?;
+    told.push_str(", then ")?;
+    push_stack(told, &other)?;
+    told.push_str(", of ")?;
+    push_stack(told, &stack)?;
+    Ok(())
+}
+
+/// The topmost item behind each push of a number from 0 on, and how many there are then.
+fn tell_growth(alloc: Global, told: &mut String, row: &str) -> Result<(), Trouble> {
+    let mut stack = PersistentStack::empty();
+    let count: u64 = number_of(row)?;
+    for item in 0..count {
+        stack = stack.push(alloc, item)?;
+        if !stack.is_empty() {
+            write!(told, "{} ", stack.top(0))?;
+        }
+    }
+    write!(told, "of {}", stack.len())?;
     Ok(())
 }
