@@ -182,7 +182,7 @@ class Document:
 
     def __init__(self, path, sources, tell):
         self.path, self.sources, self.tell = path, sources, tell
-        self.crate, self.columns, self.fenced = None, None, False
+        self.crate, self.columns, self.fenced, self.listed = None, None, False, False
 
     def fault(self, number, text):
         print(f"{self.path}:{number}: {text}")
@@ -192,9 +192,11 @@ class Document:
         for number, line in enumerate((TOP / self.path).read_text().splitlines(), 1):
             if line.startswith("```"):
                 self.fenced = not self.fenced
-            elif self.fenced or line.startswith("    "):
+            elif self.fenced or line.startswith("    ") and not self.listed:
                 self.block(number, line)
             else:
+                if line and not line.startswith(" ") or re.match(r" *(-|\d+\.) ", line):
+                    self.listed = bool(re.match(r" *(-|\d+\.) ", line))
                 self.prose(number, line)
 
     def block(self, number, line):
