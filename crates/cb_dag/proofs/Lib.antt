@@ -1,0 +1,5 @@
+mod Among
+mod Grids
+mod Paths
+mod Searches
+mod Unpacked

@@ -1,0 +1,4 @@
+pub mod Graphs
+pub mod Marks
+pub mod Parts
+pub mod Search

@@ -1,0 +1,9 @@
+//! x
+#![tactic(auto)]
+
+mod bits;
+mod grid;
+mod search;
+mod stack;
+
+pub use grid::Grid;
