@@ -1,5 +1,11 @@
 mod Among
+mod Components
+mod Copies
+mod EdgePlaces
+mod Gathers
 mod Grids
+mod Listings
+mod Numberings
 mod Paths
 mod Searches
 mod Unpacked

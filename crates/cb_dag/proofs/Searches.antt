@@ -198,3 +198,8 @@ went_back rows seen cursors trail left rest left' node search top none was is =
         inl early ↦ search.tried node b (in_top trail node top) early edge
         | inr late ↦ none b late edge
       ]))
+
+pub left_within : (rows : List (List Bool)) (seen : List Bool) (cursors trail left : List ℕ) → IsSearch rows seen cursors trail left → (node : ℕ) → is_in node left ≡ true → node < length rows
+left_within rows seen cursors trail left search node there =
+    let on : node < length seen = marked_within seen node (search.were_left node there) in
+    omega (arith, on, search.seen_count)

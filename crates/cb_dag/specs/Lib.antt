@@ -1,4 +1,9 @@
+pub mod Faults
 pub mod Graphs
+pub mod Listing
 pub mod Marks
+pub mod Numbers
 pub mod Parts
+pub mod Places
 pub mod Search
+pub mod Stored

@@ -51,6 +51,11 @@ pub record AreRoots (rows : List (List Bool)) (roots : List ℕ) : Type 0 where
   pub alike : (a b : ℕ) → a < length rows → b < length rows → slice_index roots a < length rows → Mutual (HasEdge rows) a b
       → slice_index roots b ≡ slice_index roots a
 
+-- what leads to a node is in one part with it, or with one that has a root
+abbrev pub ComesBack : List (List Bool) → List ℕ → ℕ → Type 0
+ComesBack rows roots node =
+    (a : ℕ) → a < length rows → Leads (HasEdge rows) a node → (c : ℕ) × (c < length rows) × Mutual (HasEdge rows) a c × ((c ≡ node) ⊎ (slice_index roots c < length rows))
+
 -- the second search, from a root: nodes that lead to it get it as their root, unless they have one. Edges to these lead from nodes with a root,
 -- unless they are still waiting; to one of them only those were looked at that lead from nodes up to one
 pub record IsGathering (rows : List (List Bool)) (old now : List ℕ) (root : ℕ) (waiting : List ℕ) (node from : ℕ) : Type 0 where

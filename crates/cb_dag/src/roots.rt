@@ -2,7 +2,7 @@
 ghost use Rattle.std.specs.Prelude.{◌≡◌, ◌<◌, ◌≤◌, true, ℕ, List, [], ◌∷◌, length, slice_index, IfOk, OnOk};
 ghost use Rattle.std.specs.List.{All};
 ghost use Rattle.cb_dag.specs.Graphs.{HasEdge};
-ghost use Rattle.cb_dag.specs.Search.{AreRoots, IsFinishing, IsGathering, IsTurned, is_in, roots_left};
+ghost use Rattle.cb_dag.specs.Search.{AreRoots, ComesBack, IsFinishing, IsGathering, IsTurned, is_in, roots_left};
 
 use crate::Grid;
 use crate::stack::Stack;
@@ -15,6 +15,7 @@ use std::alloc::Global;
 pub(crate) fn roots(alloc: Global, grid: &Grid, left: Stack) -> Result<Vec<u32>, OutOfMemory>
     requires finishing { IsFinishing (HasEdge grid.now) (length grid.now) left }
     requires all { (node : ℕ) → node < length grid.now → is_in node left ≡ true }
+    requires nodes { (node : ℕ) → is_in node left ≡ true → node < length grid.now }
     ensures roots { IfOk result (λ roots. AreRoots grid.now roots.items) }
     ensures within { IfOk result (λ roots. All (λ root. root < length grid.now) roots.items) }
 {
@@ -33,11 +34,13 @@ pub(crate) fn roots(alloc: Global, grid: &Grid, left: Stack) -> Result<Vec<u32>,
 fn gather(grid: &Grid, turned: &Grid, root: u32, roots: &mut Vec<u32>, waiting: &mut Stack) -> Result<(), OutOfMemory>
     requires turned { IsTurned grid.now turned.now }
     requires within { root < length grid.now }
-    requires each { length roots.old.items ≡ length grid.now }
+    requires before { AreRoots grid.now roots.old.items }
+    requires back { ComesBack grid.now roots.old.items root }
     requires none { waiting.old ≡ [] }
+    ensures roots { OnOk result (AreRoots grid.now roots.new.items) }
+    ensures known { OnOk result (slice_index roots.new.items root < length grid.now) }
+    ensures kept { OnOk result ((node : ℕ) → node < length grid.now → slice_index roots.old.items node < length grid.now → slice_index roots.new.items node < length grid.now) }
     ensures none { OnOk result (waiting.new ≡ []) }
-    ensures known { OnOk result (slice_index roots.old.items root < length grid.now → roots.new.items ≡ roots.old.items) }
-    ensures gathered { OnOk result (length grid.now ≤ slice_index roots.old.items root → IsGathering grid.now roots.old.items roots.new.items root [] (length grid.now) 0) }
 {
     let nodes = grid.nodes();
     if roots[root as usize] < nodes {

@@ -24,6 +24,7 @@ struct Search {
 pub(crate) fn nodes_left(alloc: Global, grid: &Grid) -> Result<Stack, OutOfMemory>
     ensures finishing { IfOk result (IsFinishing (HasEdge grid.now) (length grid.now)) }
     ensures all { IfOk result (λ left. (node : ℕ) → node < length grid.now → is_in node left ≡ true) }
+    ensures nodes { IfOk result (λ left. (node : ℕ) → is_in node left ≡ true → node < length grid.now) }
 {
     let nodes = grid.nodes();
     let mut search = Search {
