@@ -1,6 +1,6 @@
 -- Nodes among others, and marks of nodes.
-use Rattle.std.proofs.Common.{◌≡◌, ◌≢◌, ◌∙◌, sym, ap, refl, subst, inl, inr, arith, ℕ, ◌+◌, ◌*◌, ◌<◌, ◌≤◌, ◌⊎◌, ◌||◌, Bool, true, false, not, List, [], ◌∷◌, length, get_or, set, eqb, count_by, zero, suc}
-use Rattle.std.proofs.lemmas.Bool.{both_ways, cases_Bool, cases_eq, cases_lt, eq-eqb, eqb-false, eqb-true, false_from_ne_true, ne_eqb, or_cases, or_from, or_left, or_parts, or_right}
+use Rattle.std.proofs.Common.{◌≡◌, ◌≢◌, ◌∙◌, sym, ap, refl, subst, inl, inr, ℕ, ◌<◌, ◌⊎◌, Bool, true, false, List, ◌∷◌, length, set, eqb}
+use Rattle.std.proofs.lemmas.Bool.{both_ways, cases_eq, cases_lt, eq-eqb, eqb-false, eqb-true, ne_eqb, or_cases, or_from, or_left, or_parts, or_right}
 use Rattle.std.proofs.lemmas.List.{get_or-set_other, get_or-set_same, get_or_past}
 use Rattle.cb_dag.specs.Marks.{marked}
 use Rattle.cb_dag.specs.Search.{is_in}
@@ -34,11 +34,10 @@ marked-set_same marks node within = get_or-set_same marks node true false within
 
 pub marked-set_kept : (marks : List Bool) (node other : ℕ) → marked marks other ≡ true → marked (set marks node true) other ≡ true
 marked-set_kept marks node other on = elim (cases_eq other node) [
-    inl same ↦ ap (marked (set marks node true)) same ∙ marked-set_same marks node (subst (λ n. n < length marks) same (marked_within marks other on))
-    | inr apart ↦ get_or-set_other marks node other true false apart ∙ on
-  ]
+  | inl same ↦ ap (marked (set marks node true)) same ∙ marked-set_same marks node (subst (λ n. n < length marks) same (marked_within marks other on))
+  | inr apart ↦ get_or-set_other marks node other true false apart ∙ on
+]
 
 pub marked-set_cases : (marks : List Bool) (node other : ℕ) → marked (set marks node true) other ≡ true → (other ≡ node) ⊎ (marked marks other ≡ true)
 marked-set_cases marks node other on =
     elim (cases_eq other node) [ inl same ↦ inl same | inr apart ↦ inr (sym (get_or-set_other marks node other true false apart) ∙ on) ]
-

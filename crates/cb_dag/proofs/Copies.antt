@@ -1,9 +1,9 @@
 -- Edges put at other places, one by one.
-use Rattle.std.proofs.Common.{◌≡◌, ◌≢◌, ◌∙◌, sym, ap, refl, subst, inl, inr, arith, ℕ, ◌+◌, ◌<◌, ◌≤◌, ◌⊎◌, Bool, true, false, List, [], ◌∷◌, length, get_or, set, Option, Some, None, replicate}
+use Rattle.std.proofs.Common.{◌≡◌, sym, subst, inl, inr, arith, ℕ, ◌+◌, ◌<◌, ◌≤◌, Bool, false, List, length, Some, None, replicate}
 use Rattle.std.proofs.lemmas.Bool.{both_ways, cases_eq, cases_lt}
 use Rattle.cb_dag.specs.Graphs.{HasEdge, IsSquare, with_edge}
 use Rattle.cb_dag.specs.Marks.{IsNextEdge}
-use Rattle.cb_dag.specs.Search.{IsCopy, IsTurned, UpTo, turned_place}
+use Rattle.cb_dag.specs.Search.{IsCopy, IsTurned, turned_place}
 use Rattle.cb_dag.proofs.Grids.{edge_from, empty_grid, no_edge, with_edge_cases, with_edge_kept, with_edge_same}
 
 module _ (rows copy : List (List Bool)) (size : ℕ) (place : ℕ → ℕ → ℕ × ℕ) where
@@ -22,20 +22,20 @@ module _ (rows copy : List (List Bool)) (size : ℕ) (place : ℕ → ℕ → �
     nodes = count;
     square = square;
     listed = λ p q edge. elim (with_edge_cases copy (place node other).0 (place node other).1 p q (omega (arith, first, before.nodes)) (subst (λ grid. HasEdge grid p q) is edge)) [
-        inl here ↦ (node, other, next.2, here.0, here.1)
-        | inr there ↦ before.listed p q there
-      ];
+      | inl here ↦ (node, other, next.2, here.0, here.1)
+      | inr there ↦ before.listed p q there
+    ];
     all = λ a b edge up. subst (λ grid. HasEdge grid (place a b).0 (place a b).1) (sym is)
-      (elim up [
-        inl early ↦ kept a b (before.all a b edge (inl early))
-        | inr late ↦ elim (cases_eq b other) [
-          inl same ↦ here a b late.0 same
-          | inr apart ↦ elim (cases_lt b from) [
-            inl l ↦ kept a b (before.all a b edge (inr (late.0, l)))
-            | inr p ↦ absurd (both_ways _ (next.3 b p (omega (arith, late.1, apart))) (subst (λ n. HasEdge rows n b) late.0 edge))
+        (elim up [
+          | inl early ↦ kept a b (before.all a b edge (inl early))
+          | inr late ↦ elim (cases_eq b other) [
+            | inl same ↦ here a b late.0 same
+            | inr apart ↦ elim (cases_lt b from) [
+              | inl l ↦ kept a b (before.all a b edge (inr (late.0, l)))
+              | inr p ↦ absurd (both_ways _ (next.3 b p (omega (arith, late.1, apart))) (subst (λ n. HasEdge rows n b) late.0 edge))
+            ]
           ]
-        ]
-      ]);
+        ]);
   }
     where
       kept : (a b : ℕ) → HasEdge copy (place a b).0 (place a b).1 → HasEdge (with_edge copy (place node other).0 (place node other).1) (place a b).0 (place a b).1
@@ -45,7 +45,7 @@ module _ (rows copy : List (List Bool)) (size : ℕ) (place : ℕ → ℕ → �
       here a b one two =
           subst (λ n. HasEdge (with_edge copy (place node other).0 (place node other).1) (place n b).0 (place n b).1) (sym one)
           (subst (λ n. HasEdge (with_edge copy (place node other).0 (place node other).1) (place node n).0 (place node n).1) (sym two)
-            (with_edge_same copy (place node other).0 (place node other).1 before.square (omega (arith, first, before.nodes)) (omega (arith, second, before.nodes))))
+          (with_edge_same copy (place node other).0 (place node other).1 before.square (omega (arith, first, before.nodes)) (omega (arith, second, before.nodes))))
 
   pub copy_row : (node from : ℕ) → IsCopy rows copy size place node from → IsNextEdge rows node from None → IsCopy rows copy size place (node + 1) 0
   copy_row node from before none = record {
@@ -53,12 +53,12 @@ module _ (rows copy : List (List Bool)) (size : ℕ) (place : ℕ → ℕ → �
     square = before.square;
     listed = before.listed;
     all = λ a b edge up. elim (cases_eq a node) [
-        inl same ↦ elim (cases_lt b from) [
-          inl l ↦ before.all a b edge (inr (same, l))
-          | inr p ↦ absurd (both_ways _ (none b p) (subst (λ n. HasEdge rows n b) same edge))
-        ]
-        | inr apart ↦ before.all a b edge (inl (elim up [ inl early ↦ omega (arith, early, apart) | inr late ↦ (let no : b < 0 = late.1 in omega (arith, no)) ]))
-      ];
+      | inl same ↦ elim (cases_lt b from) [
+        | inl l ↦ before.all a b edge (inr (same, l))
+        | inr p ↦ absurd (both_ways _ (none b p) (subst (λ n. HasEdge rows n b) same edge))
+      ]
+      | inr apart ↦ before.all a b edge (inl (elim up [ inl early ↦ omega (arith, early, apart) | inr late ↦ (let no : b < 0 = late.1 in omega (arith, no)) ]))
+    ];
   }
 
   pub copy_all : (node : ℕ) → length rows ≤ node → IsCopy rows copy size place node 0 → (a b : ℕ) → HasEdge rows a b → HasEdge copy (place a b).0 (place a b).1

@@ -1,6 +1,7 @@
 mod Among
 mod Components
 mod Copies
+mod Duality
 mod EdgePlaces
 mod Gathers
 mod Grids
@@ -8,4 +9,5 @@ mod Listings
 mod Numberings
 mod Paths
 mod Searches
+mod Totals
 mod Unpacked

@@ -1,5 +1,5 @@
 -- Edges listed one by one.
-use Rattle.std.proofs.Common.{◌≡◌, ◌≢◌, ◌∙◌, sym, ap, refl, subst, inl, inr, arith, ℕ, ◌+◌, ◌<◌, ◌≤◌, ◌⊎◌, Bool, true, false, List, [], ◌∷◌, ◌++◌, length, get_or, Option, Some, None}
+use Rattle.std.proofs.Common.{◌≡◌, ◌≢◌, ◌∙◌, sym, ap, subst, inl, inr, arith, ℕ, ◌+◌, ◌<◌, ◌≤◌, ◌⊎◌, Bool, List, [], ◌∷◌, ◌++◌, length, get_or, Some, None}
 use Rattle.std.specs.List.{Contains}
 use Rattle.std.proofs.lemmas.Bool.{both_ways, cases_eq, cases_lt}
 use Rattle.std.proofs.lemmas.List.{get_or_append_left, get_or_push, length_push}
@@ -25,7 +25,7 @@ ascending_push edges last ascending before = λ i j order within.
     let low : i < length edges = omega (arith, order, up) in
     subst (λ pair. Before pair (get_or (edges ++ last ∷ []) j (0, 0))) (sym (get_or_append_left edges (last ∷ []) (0, 0) i low))
     (elim (cases_lt j (length edges)) [
-      inl l ↦ subst (λ pair. Before (get_or edges i (0, 0)) pair) (sym (get_or_append_left edges (last ∷ []) (0, 0) j l)) (ascending i j order l)
+      | inl l ↦ subst (λ pair. Before (get_or edges i (0, 0)) pair) (sym (get_or_append_left edges (last ∷ []) (0, 0) j l)) (ascending i j order l)
       | inr p ↦ subst (λ pair. Before (get_or edges i (0, 0)) pair) (sym (get_or_push edges last (0, 0) j (let at : length edges ≡ j = omega (arith, up, p) in at))) (before i low)
     ])
 
@@ -34,22 +34,22 @@ module _ (rows : List (List Bool)) (edges : List (ℕ × ℕ)) (node from : ℕ)
   up_before other past i within =
       let pair = get_or edges i (0, 0) in
       elim (before.listed pair.0 pair.1 (Contains-get_or edges i (0, 0) within)).2 [
-        inl early ↦ inl early
+        | inl early ↦ inl early
         | inr late ↦ inr (late.0, omega (arith, late.1, past))
       ]
 
   module _ (other : ℕ) (next : IsNextEdge rows node from (Some other)) where
     near : (a b : ℕ) → HasEdge rows a b → UpTo a b node (other + 1) → UpTo a b node from ⊎ ((a ≡ node) × (b ≡ other))
     near a b edge up = elim up [
-        inl early ↦ inl (inl early)
-        | inr late ↦ elim (cases_eq b other) [
-          inl same ↦ inr (late.0, same)
-          | inr apart ↦ elim (cases_lt b from) [
-            inl l ↦ inl (inr (late.0, l))
-            | inr p ↦ absurd (both_ways _ (next.3 b p (omega (arith, late.1, apart))) (subst (λ n. HasEdge rows n b) late.0 edge))
-          ]
+      | inl early ↦ inl (inl early)
+      | inr late ↦ elim (cases_eq b other) [
+        | inl same ↦ inr (late.0, same)
+        | inr apart ↦ elim (cases_lt b from) [
+          | inl l ↦ inl (inr (late.0, l))
+          | inr p ↦ absurd (both_ways _ (next.3 b p (omega (arith, late.1, apart))) (subst (λ n. HasEdge rows n b) late.0 edge))
         ]
       ]
+    ]
 
     further : (a b : ℕ) → UpTo a b node from → UpTo a b node (other + 1)
     further a b up = elim up [ inl early ↦ inl early | inr late ↦ inr (late.0, omega (arith, late.1, next.0)) ]
@@ -60,31 +60,31 @@ module _ (rows : List (List Bool)) (edges : List (ℕ × ℕ)) (node from : ℕ)
       ascending = before.ascending;
       listed = λ a b there. let was = before.listed a b there in (was.0, was.1, further a b was.2);
       all = λ a b differ edge up. elim (near a b edge up) [
-          inl earlier ↦ before.all a b differ edge earlier
-          | inr here ↦ absurd (differ (here.0 ∙ sym same ∙ sym here.1))
-        ];
+        | inl earlier ↦ before.all a b differ edge earlier
+        | inr here ↦ absurd (differ (here.0 ∙ sym same ∙ sym here.1))
+      ];
       few = before.few;
     }
 
     listed_more : other ≢ node → (a b : ℕ) → HasPair (edges ++ (node, other) ∷ []) a b → (a ≢ b) × HasEdge rows a b × UpTo a b node (other + 1)
     listed_more differ a b there = elim (Contains-push_cases edges (node, other) (a, b) there) [
-        inl earlier ↦ let was = before.listed a b earlier in (was.0, was.1, further a b was.2)
-        | inr last ↦
+      | inl earlier ↦ let was = before.listed a b earlier in (was.0, was.1, further a b was.2)
+      | inr last ↦
           let one : node ≡ a = ap (λ (p : ℕ × ℕ). p.0) last in
           let two : other ≡ b = ap (λ (p : ℕ × ℕ). p.1) last in
           (λ same. differ (two ∙ sym same ∙ sym one), subst (λ n. HasEdge rows n b) one (subst (λ n. HasEdge rows node n) two next.2), inr (sym one, omega (arith, two)))
-      ]
+    ]
 
     pub list_more : other ≢ node → (edges' : List (ℕ × ℕ)) → edges' ≡ edges ++ (node, other) ∷ [] → length edges < most_edges → IsListing rows edges' node (other + 1)
     list_more differ edges' is few = subst (λ all. IsListing rows all node (other + 1)) (sym is) (record {
-        ascending = ascending_push edges (node, other) before.ascending (up_before other next.0);
-        listed = listed_more differ;
-        all = λ a b apart edge up. elim (near a b edge up) [
-            inl earlier ↦ Contains-append_left edges ((node, other) ∷ []) (a, b) (before.all a b apart edge earlier)
-            | inr here ↦ subst (λ (p : ℕ × ℕ). Contains (edges ++ (node, other) ∷ []) p) (sym (pair here.0 here.1)) (Contains-push edges (node, other))
-          ];
-        few = omega (arith, few, length_push edges (node, other));
-      })
+      ascending = ascending_push edges (node, other) before.ascending (up_before other next.0);
+      listed = listed_more differ;
+      all = λ a b apart edge up. elim (near a b edge up) [
+        | inl earlier ↦ Contains-append_left edges ((node, other) ∷ []) (a, b) (before.all a b apart edge earlier)
+        | inr here ↦ subst (λ (p : ℕ × ℕ). Contains (edges ++ (node, other) ∷ []) p) (sym (pair here.0 here.1)) (Contains-push edges (node, other))
+      ];
+      few = omega (arith, few, length_push edges (node, other));
+    })
       where
         pair : {a b : ℕ} → a ≡ node → b ≡ other → ◌≡◌ {A = ℕ × ℕ} (a, b) (node, other)
         pair one two = cc
@@ -101,16 +101,16 @@ module _ (rows : List (List Bool)) (edges : List (ℕ × ℕ)) (node from : ℕ)
   list_row_end none = record {
     ascending = before.ascending;
     listed = λ a b there. let was = before.listed a b there in
-      (was.0, was.1, inl (elim was.2 [ inl early ↦ omega (arith, early) | inr late ↦ omega (arith, late.0) ]));
+        (was.0, was.1, inl (elim was.2 [ inl early ↦ omega (arith, early) | inr late ↦ omega (arith, late.0) ]));
     all = λ a b differ edge up. before.all a b differ edge (elim up [
-        inl early ↦ elim (cases_eq a node) [
-          inl same ↦ elim (cases_lt b from) [
-            inl l ↦ inr (same, l)
-            | inr p ↦ absurd (both_ways _ (none b p) (subst (λ n. HasEdge rows n b) same edge))
-          ]
-          | inr apart ↦ inl (omega (arith, early, apart))
+      | inl early ↦ elim (cases_eq a node) [
+        | inl same ↦ elim (cases_lt b from) [
+          | inl l ↦ inr (same, l)
+          | inr p ↦ absurd (both_ways _ (none b p) (subst (λ n. HasEdge rows n b) same edge))
         ]
-        | inr late ↦ absurd (let no : b < 0 = late.1 in omega (arith, no))
-      ]);
+        | inr apart ↦ inl (omega (arith, early, apart))
+      ]
+      | inr late ↦ absurd (let no : b < 0 = late.1 in omega (arith, no))
+    ]);
     few = before.few;
   }

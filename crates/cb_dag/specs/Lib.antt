@@ -1,4 +1,6 @@
+pub mod Closed
 pub mod Faults
+pub mod Flows
 pub mod Graphs
 pub mod Listing
 pub mod Marks

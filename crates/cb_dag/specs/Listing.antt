@@ -1,5 +1,5 @@
 -- The edges of a grid, listed row by row.
-use Rattle.std.specs.Prelude.{◌≡◌, ◌≢◌, ◌⊎◌, ℕ, ◌<◌, ◌≤◌, Bool, List, length}
+use Rattle.std.specs.Prelude.{◌≢◌, ℕ, ◌<◌, ◌≤◌, Bool, List, length}
 use Rattle.cb_dag.specs.Graphs.{HasEdge}
 use Rattle.cb_dag.specs.Parts.{HasPair, IsAscending, most_edges}
 use Rattle.cb_dag.specs.Search.{UpTo}

@@ -36,7 +36,12 @@ impl Dag {
     ghost use Rattle.cb_dag.specs.Stored.{IsGraph};
 
     /// The graph with these parts and edges.
-    pub(crate) fn of(alloc: Global, parts: u32, part_of: Vec<u32>, edges: Vec<(u32, u32)>) -> Result<Dag, OutOfMemory>
+    pub(crate) fn of(
+        alloc: Global,
+        parts: u32,
+        part_of: Vec<u32>,
+        edges: Vec<(u32, u32)>,
+    ) -> Result<Dag, OutOfMemory>
         requires few_parts { parts ≤ most_parts }
         requires few_edges { length edges.items ≤ most_edges }
         requires below { All (λ part. part < parts) part_of.items }

@@ -11,7 +11,12 @@ use std::alloc::Global;
 
 /// The graph of the parts of a graph, with edges from parts to themselves. Takes time in the edges and in the squares of the nodes and the parts
 /// over 64. `OutOfMemory` where memory was not to be had.
-pub(crate) fn between_parts(alloc: Global, grid: &Grid, parts: u32, part_of: &[u32]) -> Result<Grid, OutOfMemory>
+pub(crate) fn between_parts(
+    alloc: Global,
+    grid: &Grid,
+    parts: u32,
+    part_of: &[u32],
+) -> Result<Grid, OutOfMemory>
     requires each { length part_of.now ≡ length grid.now }
     requires below { All (λ part. part < parts) part_of.now }
     ensures { IfOk result (λ joined. IsCopy grid.now joined parts (part_place part_of.now) (length grid.now) 0) }
@@ -73,7 +78,13 @@ fn list_row(joined: &Grid, node: u32, edges: &mut Vec<(u32, u32)>) -> Result<(),
 }
 
 /// Lists one edge more.
-fn list_edge(joined: &Grid, node: u32, other: u32, from: u32, edges: &mut Vec<(u32, u32)>) -> Result<(), DagFault>
+fn list_edge(
+    joined: &Grid,
+    node: u32,
+    other: u32,
+    from: u32,
+    edges: &mut Vec<(u32, u32)>,
+) -> Result<(), DagFault>
     requires before { IsListing joined.now edges.old.items node from }
     requires next { IsNextEdge joined.now node from (Some other) }
     requires differ { other ≢ node }

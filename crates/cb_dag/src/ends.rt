@@ -29,7 +29,12 @@ impl End {
 
 /// For each part the indices of the edges that have it as this end, in ascending order. Takes time and memory in the parts and edges. `OutOfMemory`
 /// where memory was not to be had.
-pub fn edges_by_end(alloc: Global, parts: u32, edges: &[(u32, u32)], end: End) -> Result<Vec<Numbers>, OutOfMemory>
+pub fn edges_by_end(
+    alloc: Global,
+    parts: u32,
+    edges: &[(u32, u32)],
+    end: End,
+) -> Result<Vec<Numbers>, OutOfMemory>
     requires within { AreWithin parts edges.now }
     requires few { length edges.now < 2 ^ 32 }
     ensures { IfOk result (λ lists. AreEdgesAt end parts edges.now lists.items) }

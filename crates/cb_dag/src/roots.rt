@@ -31,7 +31,13 @@ pub(crate) fn roots(alloc: Global, grid: &Grid, left: Stack) -> Result<Vec<u32>,
 }
 
 /// Makes a node the root of those that lead to it and have none, unless it has one itself.
-fn gather(grid: &Grid, turned: &Grid, root: u32, roots: &mut Vec<u32>, waiting: &mut Stack) -> Result<(), OutOfMemory>
+fn gather(
+    grid: &Grid,
+    turned: &Grid,
+    root: u32,
+    roots: &mut Vec<u32>,
+    waiting: &mut Stack,
+) -> Result<(), OutOfMemory>
     requires turned { IsTurned grid.now turned.now }
     requires within { root < length grid.now }
     requires before { AreRoots grid.now roots.old.items }
@@ -55,7 +61,14 @@ fn gather(grid: &Grid, turned: &Grid, root: u32, roots: &mut Vec<u32>, waiting: 
 }
 
 /// Gives the nodes from which edges lead to a node its root, unless they have one, and lets them wait for the same.
-fn take_in(grid: &Grid, turned: &Grid, node: u32, root: u32, roots: &mut Vec<u32>, waiting: &mut Stack) -> Result<(), OutOfMemory>
+fn take_in(
+    grid: &Grid,
+    turned: &Grid,
+    node: u32,
+    root: u32,
+    roots: &mut Vec<u32>,
+    waiting: &mut Stack,
+) -> Result<(), OutOfMemory>
     requires turned { IsTurned grid.now turned.now }
     requires node { node < length grid.now }
     requires root { root < length grid.now }

@@ -1,4 +1,4 @@
-use Rattle.std.proofs.Common.{◌∙◌, ap, arith, ◌*◌, ◌%◌, ◌^◌, ◌-◌, min, bit_and}
+use Rattle.std.proofs.Common.{◌∙◌, ap, arith, ◌^◌, ◌-◌, min, bit_and}
 use Rattle.std.specs.Int.{bit_at}
 use Rattle.std.proofs.lemmas.Nat.Bits.{bit_at-lt, bit_at_and, bit_at_mask_below, bit_at_mask_inside, ones_shl}
 use Rattle.cb_dag.proofs.bits.high_bits.Goals as goal

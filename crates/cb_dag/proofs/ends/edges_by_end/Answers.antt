@@ -1,4 +1,4 @@
-use Rattle.std.proofs.Common.{◌≡◌, ◌<◌, ◌++◌, ◌∷◌, [], ◌∙◌, ap, arith, refl, subst, sym, length, get_or}
+use Rattle.std.proofs.Common.{◌<◌, ◌++◌, ◌∷◌, [], ◌∙◌, ap, arith, refl, subst, sym, length, get_or}
 use Rattle.std.proofs.lemmas.List.{get_or_read}
 use Rattle.cb_dag.specs.Places.{end_of}
 use Rattle.cb_dag.proofs.EdgePlaces.{edges_more, end_within}
@@ -12,5 +12,5 @@ loop-index-preserved c =
     edges_more c.args.end c.args.parts c.args.edges.now c.loop-index.lists.items _ c.loop-index.index c.of-part.result c.push-in-loop-index.new.self within c.loop-index.invariant
     part c.of-part.ensures
     (c.in_ok-push-2.ensures.ok ∙ ap (λ front. front ++ c.loop-index.index ∷ [])
-      (get_or_read c.loop-index.lists.items c.of-part.result c.index_mut.result.now (omega (arith, part, c.loop-index.invariant.each)) c.index_mut.ensures.value []))
+    (get_or_read c.loop-index.lists.items c.of-part.result c.index_mut.result.now (omega (arith, part, c.loop-index.invariant.each)) c.index_mut.ensures.value []))
     refl

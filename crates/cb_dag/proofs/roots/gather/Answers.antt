@@ -1,4 +1,4 @@
-use Rattle.std.proofs.Common.{◌≡◌, ◌≤◌, ◌∙◌, ap, arith, refl, subst, sym, true, length, get_or, ◌∷◌, []}
+use Rattle.std.proofs.Common.{◌≡◌, ◌∙◌, ap, arith, refl, subst, sym, true, length, ◌∷◌}
 use Rattle.std.proofs.lemmas.List.{get_or_read}
 use Rattle.cb_dag.specs.Search.{IsGathering}
 use Rattle.cb_dag.proofs.Among.{in_front}

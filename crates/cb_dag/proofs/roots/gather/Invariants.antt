@@ -1,4 +1,4 @@
-use Rattle.std.proofs.Common.{◌≡◌, length}
+use Rattle.std.proofs.Common.{length}
 use Rattle.cb_dag.specs.Search.{IsGathering, roots_left}
 use Rattle.cb_dag.proofs.roots.gather.Given as goal
 

@@ -1,4 +1,4 @@
-use Rattle.std.proofs.Common.{◌≡◌, ◌<◌, ◌∙◌, arith, subst, sym, true, false, refl, length, get_or}
+use Rattle.std.proofs.Common.{◌≡◌, ◌<◌, arith, subst, sym, true, false, refl, length}
 use Rattle.std.proofs.lemmas.List.{get_or_default}
 use Rattle.cb_dag.proofs.Among.{in_front, in_rest}
 use Rattle.cb_dag.proofs.Gathers.{known_but}
@@ -17,10 +17,10 @@ returns-clause-within c = λ k d within.
 
 pub loop-root-preserved : goal.loop-root-preserved
 loop-root-preserved c = (
-    c.in_ok-gather.ensures.roots,
-    (subst (IsFinishing (HasEdge c.args.grid.now) (length c.args.grid.now)) c.in-Some.ensures c.loop-root.invariant.1).1,
-    c.in_ok-gather.ensures.none,
-    known_but c.args.grid.now c.loop-root.roots.items c.gather.new.roots.items c.loop-root.left c.pop.new.self c.in-Some.root c.in-Some.ensures c.loop-root.invariant.3
+  c.in_ok-gather.ensures.roots,
+  (subst (IsFinishing (HasEdge c.args.grid.now) (length c.args.grid.now)) c.in-Some.ensures c.loop-root.invariant.1).1,
+  c.in_ok-gather.ensures.none,
+  known_but c.args.grid.now c.loop-root.roots.items c.gather.new.roots.items c.loop-root.left c.pop.new.self c.in-Some.root c.in-Some.ensures c.loop-root.invariant.3
       c.in_ok-gather.ensures.known c.in_ok-gather.ensures.kept,
-    λ node there. c.loop-root.invariant.4 node (subst (λ nodes. is_in node nodes ≡ true) (sym c.in-Some.ensures) (in_rest node c.in-Some.root c.pop.new.self there)),
-  )
+  λ node there. c.loop-root.invariant.4 node (subst (λ nodes. is_in node nodes ≡ true) (sym c.in-Some.ensures) (in_rest node c.in-Some.root c.pop.new.self there)),
+)

@@ -1,4 +1,4 @@
-use Rattle.std.proofs.Common.{arith, ◌*◌, length, ap, subst, Some, None, subst}
+use Rattle.std.proofs.Common.{arith, subst, Some, None, subst}
 use Rattle.cb_dag.specs.Marks.{IsNextBit}
 use Rattle.cb_dag.proofs.Unpacked.{next_far, next_found, next_none, next_past}
 use Rattle.cb_dag.proofs.bits.Bits.next.Goals as goal

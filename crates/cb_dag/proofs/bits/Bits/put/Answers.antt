@@ -1,4 +1,4 @@
-use Rattle.std.proofs.Common.{◌∙◌, sym, ap, arith, ◌/◌, ◌%◌}
+use Rattle.std.proofs.Common.{◌∙◌, ap, arith, ◌/◌}
 use Rattle.std.specs.Int.{bit_at}
 use Rattle.std.proofs.lemmas.List.{get_or_read}
 use Rattle.cb_dag.proofs.Unpacked.{length_seen, unpacked-set}
@@ -14,5 +14,5 @@ pub returns : goal.returns
 returns c =
     unpacked-set c.self.inside.words.items c.args.place c.with_bit.result (omega (arith, length_seen _ _ _ c.self.view_is, c.self.invariant)) c.with_bit.ensures.same
     (λ other small apart. c.with_bit.ensures.others other small apart ∙ ap (λ word. bit_at word other)
-      (get_or_read c.self.inside.words.items (c.args.place / 64) c.index-word.result.now (omega (arith, length_seen _ _ _ c.self.view_is, c.self.invariant)) c.index-word.ensures 0))
+    (get_or_read c.self.inside.words.items (c.args.place / 64) c.index-word.result.now (omega (arith, length_seen _ _ _ c.self.view_is, c.self.invariant)) c.index-word.ensures 0))
     c.self.inside.len c.args.self.now c.self.view_is c.requires

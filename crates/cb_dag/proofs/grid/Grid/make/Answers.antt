@@ -1,4 +1,4 @@
-use Rattle.std.proofs.Common.{◌∙◌, ap, arith, false, replicate, ◌≡◌, ◌≤◌}
+use Rattle.std.proofs.Common.{◌∙◌, ap, arith, false, replicate, ◌≡◌}
 use Rattle.cb_dag.proofs.Grids.{empty_grid}
 use Rattle.cb_dag.proofs.grid.Grid.make.Goals as goal
 
