@@ -5,6 +5,7 @@ mod Duality
 mod EdgePlaces
 mod Gathers
 mod Grids
+pub mod Laws
 mod Listings
 mod Numberings
 mod Paths

@@ -7,21 +7,23 @@
 #![tactic(auto)]
 
 mod bits;
+mod certificates;
 mod condensing;
 mod dag;
 mod edges;
 mod ends;
 mod fault;
+mod gains;
 mod grid;
-mod laws;
 mod numbers;
 mod roots;
 mod search;
 mod stack;
 
+pub use certificates::{all_and_none_are_closed, certificates_show, reached_parts_are_best};
 pub use condensing::condense;
 pub use dag::Dag;
 pub use ends::{End, edges_by_end};
 pub use fault::{DagFault, MOST_EDGES, MOST_PARTS};
+pub use gains::{gain_of, negative_part, positive_part};
 pub use grid::Grid;
-pub use laws::{all_and_none_are_closed, certificates_show, reached_parts_are_best};

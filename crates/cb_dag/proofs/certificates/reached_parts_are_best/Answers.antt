@@ -1,5 +1,5 @@
 use Rattle.cb_dag.proofs.Duality.{reached_best, reached_shown}
-use Rattle.cb_dag.proofs.laws.reached_parts_are_best.Goals as goal
+use Rattle.cb_dag.proofs.certificates.reached_parts_are_best.Goals as goal
 
 pub returns-clause-certificate : goal.returns-clause-certificate
 returns-clause-certificate c = reached_shown

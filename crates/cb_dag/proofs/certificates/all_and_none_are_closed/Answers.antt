@@ -1,5 +1,5 @@
 use Rattle.cb_dag.proofs.Duality.{all_closed, none_closed, nothing_best}
-use Rattle.cb_dag.proofs.laws.all_and_none_are_closed.Goals as goal
+use Rattle.cb_dag.proofs.certificates.all_and_none_are_closed.Goals as goal
 
 pub returns-clause-all : goal.returns-clause-all
 returns-clause-all c = all_closed
