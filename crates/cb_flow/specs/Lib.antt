@@ -1,0 +1,3 @@
+pub mod Linkeds
+pub mod Networks
+pub mod Visits

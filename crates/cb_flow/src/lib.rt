@@ -1,0 +1,6 @@
+//! Greatest flows.
+#![tactic(auto)]
+
+mod graph;
+mod search;
+mod visit;
