@@ -1,1 +1,4 @@
+mod Empty
+mod Moved
+mod Reaching
 mod Visiting

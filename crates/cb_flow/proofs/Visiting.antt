@@ -22,9 +22,9 @@ marked_within marks part on =
 
 marked-set_kept : (marks : List Bool) (part other : ℕ) → marked marks other ≡ true → marked (set marks part true) other ≡ true
 marked-set_kept marks part other on = elim (cases_eq other part) [
-    inl same ↦ ap (marked (set marks part true)) same ∙ get_or-set_same marks part true false (subst (λ n. n < length marks) same (marked_within marks other on))
-    | inr apart ↦ get_or-set_other marks part other true false apart ∙ on
-  ]
+  | inl same ↦ ap (marked (set marks part true)) same ∙ get_or-set_same marks part true false (subst (λ n. n < length marks) same (marked_within marks other on))
+  | inr apart ↦ get_or-set_other marks part other true false apart ∙ on
+]
 
 marked-set_cases : (marks : List Bool) (part other : ℕ) → marked (set marks part true) other ≡ true → (other ≡ part) ⊎ (marked marks other ≡ true)
 marked-set_cases marks part other on =
@@ -87,37 +87,37 @@ pub visited_more : (gains : List ℤ) (edges : List (ℕ × ℕ)) (flow : Amount
     → IsSearch gains edges flow visits count seen → IsVisit gains edges flow visits count visit → marked seen visit.part ≡ false
     → IsSearch gains edges flow (set visits count visit) (count + 1) (set seen visit.part true)
 visited_more gains edges flow visits count seen visit search is new = record {
-    visit_each = length-set visits count visit ∙ search.visit_each;
-    seen_each = length-set seen visit.part true ∙ search.seen_each;
-    counted = marks_more seen visit.part inside new ∙ ap (λ n. n + 1) search.counted;
-    apart = λ x y low high same. elim (cases_lt x count) [
-        inl l ↦ elim (cases_lt y count) [
-          inl m ↦ search.apart x y l m (sym (ap (λ (v : Visit). v.part) (old x l)) ∙ same ∙ ap (λ (v : Visit). v.part) (old y m))
-          | inr q ↦ absurd (not_new x l (same ∙ at_last y (omega (arith, high, q))))
-        ]
-        | inr p ↦ elim (cases_lt y count) [
-          inl m ↦ absurd (not_new y m (sym same ∙ at_last x (omega (arith, low, p))))
-          | inr q ↦ omega (arith, low, high, p, q)
-        ]
-      ];
-    marks = λ x low. elim (cases_lt x count) [
-        inl l ↦ marked-set_kept seen visit.part (part_at (set visits count visit) x) (subst (λ (v : Visit). marked seen v.part ≡ true) (sym (old x l)) (search.marks x l))
-        | inr p ↦ ap (marked (set seen visit.part true)) (at_last x (omega (arith, low, p))) ∙ get_or-set_same seen visit.part true false inside
-      ];
-    visited = λ part on. elim (marked-set_cases seen visit.part part on) [
-        inl same ↦ (count, omega arith, at_last count refl ∙ sym same)
-        | inr before ↦ let found = search.visited part before in (found.0, omega (arith, found.1), ap (λ (v : Visit). v.part) (old found.0 found.1) ∙ found.2)
-      ];
-    are = λ x low. elim (cases_lt x count) [
-        inl l ↦ subst (IsVisit gains edges flow (set visits count visit) x) (sym (old x l))
-          (visit_kept gains edges flow visits (set visits count visit) x x (visit_at visits x) (omega arith) (λ y below. old y (omega (arith, below, l))) (search.are x l))
-        | inr p ↦
-          let last : x ≡ count = omega (arith, low, p) in
-          subst (λ n. IsVisit gains edges flow (set visits count visit) n (visit_at (set visits count visit) n)) (sym last)
-          (subst (IsVisit gains edges flow (set visits count visit) count) (sym here)
-            (visit_kept gains edges flow visits (set visits count visit) count count visit (omega arith) (λ y below. old y below) is))
-      ];
-  }
+  visit_each = length-set visits count visit ∙ search.visit_each;
+  seen_each = length-set seen visit.part true ∙ search.seen_each;
+  counted = marks_more seen visit.part inside new ∙ ap (λ n. n + 1) search.counted;
+  apart = λ x y low high same. elim (cases_lt x count) [
+    | inl l ↦ elim (cases_lt y count) [
+      | inl m ↦ search.apart x y l m (sym (ap (λ (v : Visit). v.part) (old x l)) ∙ same ∙ ap (λ (v : Visit). v.part) (old y m))
+      | inr q ↦ absurd (not_new x l (same ∙ at_last y (omega (arith, high, q))))
+    ]
+    | inr p ↦ elim (cases_lt y count) [
+      | inl m ↦ absurd (not_new y m (sym same ∙ at_last x (omega (arith, low, p))))
+      | inr q ↦ omega (arith, low, high, p, q)
+    ]
+  ];
+  marks = λ x low. elim (cases_lt x count) [
+    | inl l ↦ marked-set_kept seen visit.part (part_at (set visits count visit) x) (subst (λ (v : Visit). marked seen v.part ≡ true) (sym (old x l)) (search.marks x l))
+    | inr p ↦ ap (marked (set seen visit.part true)) (at_last x (omega (arith, low, p))) ∙ get_or-set_same seen visit.part true false inside
+  ];
+  visited = λ part on. elim (marked-set_cases seen visit.part part on) [
+    | inl same ↦ (count, omega arith, at_last count refl ∙ sym same)
+    | inr before ↦ let found = search.visited part before in (found.0, omega (arith, found.1), ap (λ (v : Visit). v.part) (old found.0 found.1) ∙ found.2)
+  ];
+  are = λ x low. elim (cases_lt x count) [
+    | inl l ↦ subst (IsVisit gains edges flow (set visits count visit) x) (sym (old x l))
+        (visit_kept gains edges flow visits (set visits count visit) x x (visit_at visits x) (omega arith) (λ y below. old y (omega (arith, below, l))) (search.are x l))
+    | inr p ↦
+        let last : x ≡ count = omega (arith, low, p) in
+        subst (λ n. IsVisit gains edges flow (set visits count visit) n (visit_at (set visits count visit) n)) (sym last)
+        (subst (IsVisit gains edges flow (set visits count visit) count) (sym here)
+        (visit_kept gains edges flow visits (set visits count visit) count count visit (omega arith) (λ y below. old y below) is))
+  ];
+}
   where
     inside : visit.part < length seen
     inside = omega (arith, is.within, search.seen_each)
@@ -141,8 +141,8 @@ visited_more gains edges flow visits count seen visit search is new = record {
 
 -- the visits along an edge from one
 module _ (gains : List ℤ) (edges : List (ℕ × ℕ)) (flow : Amounts) (visits0 : List Visit) (count0 : ℕ) (seen0 : List Bool) (visits : List Visit) (count : ℕ) (seen : List Bool)
-  (search : IsSearch gains edges flow visits count seen) (grew : Grows visits0 count0 seen0 visits count seen) (at : ℕ) (low : at < count0) (from : Visit) (is : from ≡ visit_at visits0 at)
-  (edge : ℕ) (pair : ℕ × ℕ) (within : edge < length edges) (there : get_or edges edge (0, 0) ≡ pair) where
+    (search : IsSearch gains edges flow visits count seen) (grew : Grows visits0 count0 seen0 visits count seen) (at : ℕ) (low : at < count0) (from : Visit) (is : from ≡ visit_at visits0 at)
+    (edge : ℕ) (pair : ℕ × ℕ) (within : edge < length edges) (there : get_or edges edge (0, 0) ≡ pair) where
   now : visit_at visits at ≡ from
   now = grew.same at low ∙ sym is
 

@@ -33,28 +33,28 @@ loop-edge-preserved c =
     let flows = get_or_from_slice_get c.args.flow.now.arcs (get_or c.out_of-edges.result.now c.loop-edge.edge-index 0) c.arc-back.result 0 c.arc-back.ensures in
     let from = get_or_read c.args.self.now.visits.items c.args.at c.index.result.now (omega (arith, c.requires.at, count_room c.args.self.now.seen.items _ c.requires.before.counted, c.requires.before.seen_each, c.requires.before.visit_each)) c.index.ensures no_visit in
     elim c.if-back-gt0.branch [
-      then-back-gt0 w ↦
-        let there = get_or_from_slice_get c.args.graph.now.edges (get_or c.out_of-edges.result.now c.loop-edge.edge-index 0) w.edge.result (0, 0) w.edge.ensures in
-        let small = subst (λ (e : ℕ × ℕ). (e.0 < c.args.graph.now.parts) × (e.1 < c.args.graph.now.parts)) there (c.parts-parts.ensures.within (get_or c.out_of-edges.result.now c.loop-edge.edge-index 0) (0, 0) low) in
-        let search = w.reach.ensures.search c.args.gains.now c.args.graph.now.edges c.args.flow.now c.loop-edge.invariant.0
+      | then-back-gt0 w ↦
+          let there = get_or_from_slice_get c.args.graph.now.edges (get_or c.out_of-edges.result.now c.loop-edge.edge-index 0) w.edge.result (0, 0) w.edge.ensures in
+          let small = subst (λ (e : ℕ × ℕ). (e.0 < c.args.graph.now.parts) × (e.1 < c.args.graph.now.parts)) there (c.parts-parts.ensures.within (get_or c.out_of-edges.result.now c.loop-edge.edge-index 0) (0, 0) low) in
+          let search = w.reach.ensures.search c.args.gains.now c.args.graph.now.edges c.args.flow.now c.loop-edge.invariant.0
           (given_visit c.args.gains.now c.args.graph.now.edges c.args.flow.now c.args.self.now.visits.items c.args.self.now.count c.args.self.now.seen.items
-            c.loop-edge.self.visits.items c.loop-edge.self.count c.loop-edge.self.seen.items c.loop-edge.invariant.0 c.loop-edge.invariant.1 c.args.at c.requires.at c.index.result.now from
-            (get_or c.out_of-edges.result.now c.loop-edge.edge-index 0) w.edge.result low there (ap (λ (e : ℕ × ℕ). e.0) (sym there) ∙ end) (omega (arith, small.1, c.requires.each))
-            c.arc-back.result w.min.result w.if-back-gt0.true flows w.min.ensures) in
-        let grows = grown_on c.args.self.now.visits.items c.loop-edge.self.visits.items w.reach.new.self.visits.items c.args.self.now.count c.loop-edge.self.count w.reach.new.self.count
+          c.loop-edge.self.visits.items c.loop-edge.self.count c.loop-edge.self.seen.items c.loop-edge.invariant.0 c.loop-edge.invariant.1 c.args.at c.requires.at c.index.result.now from
+          (get_or c.out_of-edges.result.now c.loop-edge.edge-index 0) w.edge.result low there (ap (λ (e : ℕ × ℕ). e.0) (sym there) ∙ end) (omega (arith, small.1, c.requires.each))
+          c.arc-back.result w.min.result w.if-back-gt0.true flows w.min.ensures) in
+          let grows = grown_on c.args.self.now.visits.items c.loop-edge.self.visits.items w.reach.new.self.visits.items c.args.self.now.count c.loop-edge.self.count w.reach.new.self.count
           c.args.self.now.seen.items c.loop-edge.self.seen.items w.reach.new.self.seen.items c.loop-edge.invariant.1 w.reach.ensures.grows in
-        let marks = below_more (λ k. 0 < get_or c.args.flow.now.arcs (get_or c.out_of-edges.result.now k 0) 0 → marked w.reach.new.self.seen.items (get_or c.args.graph.now.edges (get_or c.out_of-edges.result.now k 0) (0, 0)).1 ≡ true) c.loop-edge.edge-index
+          let marks = below_more (λ k. 0 < get_or c.args.flow.now.arcs (get_or c.out_of-edges.result.now k 0) 0 → marked w.reach.new.self.seen.items (get_or c.args.graph.now.edges (get_or c.out_of-edges.result.now k 0) (0, 0)).1 ≡ true) c.loop-edge.edge-index
           (λ k early some. w.reach.ensures.grows.still _ (c.loop-edge.invariant.2 k early some))
           (λ some. subst (λ (e : ℕ × ℕ). marked w.reach.new.self.seen.items e.1 ≡ true) (sym there) w.reach.ensures.reached) in
-        subst (λ (s : Search). IsSearch c.args.gains.now c.args.graph.now.edges c.args.flow.now s.visits.items s.count s.seen.items
+          subst (λ (s : Search). IsSearch c.args.gains.now c.args.graph.now.edges c.args.flow.now s.visits.items s.count s.seen.items
           × Grows c.args.self.now.visits.items c.args.self.now.count c.args.self.now.seen.items s.visits.items s.count s.seen.items
           × ((k : ℕ) → k < c.loop-edge.edge-index + 1 → 0 < get_or c.args.flow.now.arcs (get_or c.out_of-edges.result.now k 0) 0 → marked s.seen.items (get_or c.args.graph.now.edges (get_or c.out_of-edges.result.now k 0) (0, 0)).1 ≡ true))
           (sym w.self-is) (search, grows, marks)
       | else-back-gt0 w ↦
-        let marks = below_more (λ k. 0 < get_or c.args.flow.now.arcs (get_or c.out_of-edges.result.now k 0) 0 → marked c.loop-edge.self.seen.items (get_or c.args.graph.now.edges (get_or c.out_of-edges.result.now k 0) (0, 0)).1 ≡ true) c.loop-edge.edge-index
+          let marks = below_more (λ k. 0 < get_or c.args.flow.now.arcs (get_or c.out_of-edges.result.now k 0) 0 → marked c.loop-edge.self.seen.items (get_or c.args.graph.now.edges (get_or c.out_of-edges.result.now k 0) (0, 0)).1 ≡ true) c.loop-edge.edge-index
           (λ k early some. c.loop-edge.invariant.2 k early some)
           (λ some. absurd (omega (arith, some, flows, w.if-back-gt0.false))) in
-        subst (λ (s : Search). IsSearch c.args.gains.now c.args.graph.now.edges c.args.flow.now s.visits.items s.count s.seen.items
+          subst (λ (s : Search). IsSearch c.args.gains.now c.args.graph.now.edges c.args.flow.now s.visits.items s.count s.seen.items
           × Grows c.args.self.now.visits.items c.args.self.now.count c.args.self.now.seen.items s.visits.items s.count s.seen.items
           × ((k : ℕ) → k < c.loop-edge.edge-index + 1 → 0 < get_or c.args.flow.now.arcs (get_or c.out_of-edges.result.now k 0) 0 → marked s.seen.items (get_or c.args.graph.now.edges (get_or c.out_of-edges.result.now k 0) (0, 0)).1 ≡ true))
           (sym w.self-is) (c.loop-edge.invariant.0, c.loop-edge.invariant.1, marks)
@@ -64,4 +64,4 @@ pub returns-clause-given_back : goal.returns-clause-given_back
 returns-clause-given_back c =
     let from = get_or_read c.args.self.now.visits.items c.args.at c.index.result.now (omega (arith, c.requires.at, count_room c.args.self.now.seen.items _ c.requires.before.counted, c.requires.before.seen_each, c.requires.before.visit_each)) c.index.ensures no_visit in
     λ i low end some. finishes_seen c.args.graph.now.edges c.args.flow.now.arcs c.loop-edge.self.seen.items c.index.result.now.part c.out_of-edges.result.now c.out_of-edges.ensures
-      (λ k within more. c.loop-edge.invariant.2 k (omega (arith, within)) more) i low (end ∙ ap (λ (v : Visit). v.part) (sym from)) some
+    (λ k within more. c.loop-edge.invariant.2 k (omega (arith, within)) more) i low (end ∙ ap (λ (v : Visit). v.part) (sym from)) some
