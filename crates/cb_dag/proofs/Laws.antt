@@ -1,12 +1,12 @@
 -- What crates above may cite.
-use Rattle.std.proofs.Common.{◌≡◌, ◌≢◌, ◌∙◌, sym, ap, refl, subst, inl, inr, arith, ℕ, zero, suc, ◌+◌, ◌<◌, ◌≤◌, ◌⊎◌, Bool, true, false, List, [], ◌∷◌, length, get_or, cond, eqb, replicate}
-use Rattle.std.specs.Prelude.{ℤ, pos, ◌≤ℤ◌}
+use Rattle.std.proofs.Common.{◌≡◌, ◌∙◌, sym, ap, refl, subst, arith, ℕ, zero, suc, ◌+◌, ◌<◌, ◌≤◌, Bool, true, false, List, [], ◌∷◌, length, get_or, cond, eqb}
+use Rattle.std.specs.Prelude.{ℤ}
 use Rattle.std.specs.List.{All, Contains, sum_by}
-use Rattle.std.proofs.lemmas.Bool.{both_ways, cases_Bool, cases_eq, eq-eqb, eqb-true}
+use Rattle.std.proofs.lemmas.Bool.{eq-eqb, eqb-true}
 use Rattle.std.proofs.lemmas.List.Elements.{All-cons, All-nil, All-weaker}
 use Rattle.std.proofs.lemmas.List.Sums.{sum_by-cons}
 use Rattle.cb_plain.specs.Amounts.{Amounts}
-use Rattle.cb_dag.specs.Closed.{IsBest, IsClosed, NoneGainsMore}
+use Rattle.cb_dag.specs.Closed.{IsBest, NoneGainsMore}
 use Rattle.cb_dag.specs.Flows.{IsCertificate, IsCutOff, IsFlow, IsGreatest, IsReachedSet, amount_at}
 use Rattle.cb_dag.specs.Parts.{AreWithin}
 use Rattle.cb_dag.specs.Places.{edges_at, end_of, places}

@@ -4,32 +4,19 @@ ghost use Rattle.cb_plain.specs.Estimates.{AreFacts, survive};
 ghost use Rattle.cb_plain.specs.declared.facts.Facts.{Facts as FactsSeen};
 
 use cb_plain::{Facts, Name};
-use std::marker::Model;
 
 /// What reckons survivors.
 pub type Estimate = Box<dyn Fn(Facts) -> u64>;
 
-/// A rule by which survivors are reckoned: its name, the code of the estimate, and what answers it. Contracts see it as its name and its code. It keeps that
-/// it answers the survivors of its code wherever it is moved.
+/// A rule by which survivors are reckoned: its name, the code of the estimate, and what answers it, which it keeps with the fact that it answers the
+/// survivors of this code, wherever the rule is moved.
 #[derive(Drop)]
 pub struct Rule {
-    name: Name,
-    code: u32,
+    pub name: Name,
+    pub code: u32,
     call: Estimate,
-}
-
-impl Model for Rule {
-    ghost use Rattle.std.specs.Prelude.{◌≡◌, ℕ, Some};
-    ghost use Rattle.cb_plain.specs.Estimates.{AreFacts, survive};
-    ghost use Rattle.cb_plain.specs.declared.facts.Facts.{Facts as FactsSeen};
-    ghost use Rattle.cb_estimator.specs.Rules.{Named};
-
-    ghost Value = { Named };
-
-    ghost view = { λ rule. record { name = rule.name; code = rule.code } };
-
-    ghost invariant = { λ rule. ((facts : FactsSeen) → AreFacts facts → Estimate.pre rule.call facts)
-        × ((facts : FactsSeen) (answer : ℕ) → AreFacts facts → Estimate.post rule.call facts answer → survive rule.code facts ≡ Some answer) };
+    ghost callable: { (facts : FactsSeen) → AreFacts facts → Estimate.pre call facts },
+    ghost answers: { (facts : FactsSeen) (answer : ℕ) → AreFacts facts → Estimate.post call facts answer → survive code facts ≡ Some answer },
 }
 
 impl Rule {
@@ -38,7 +25,8 @@ impl Rule {
     pub fn make(name: Name, code: u32, call: Estimate) -> Rule
         requires callable { (facts : FactsSeen) → AreFacts facts → Estimate.pre call facts }
         requires answers { (facts : FactsSeen) (answer : ℕ) → AreFacts facts → Estimate.post call facts answer → survive code facts ≡ Some answer }
-        ensures { result ≡ record { name = name; code = code } }
+        ensures name { result.name ≡ name }
+        ensures code { result.code ≡ code }
     {
         Rule { name, code, call }
     }

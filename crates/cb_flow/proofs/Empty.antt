@@ -1,12 +1,11 @@
 -- Networks through which nothing flows.
-use Rattle.std.proofs.Common.{◌≡◌, ◌∙◌, sym, ap, refl, subst, inl, inr, arith, ℕ, zero, suc, ◌+◌, ◌<◌, ◌≤◌, Bool, true, false, List, [], ◌∷◌, length, get_or, replicate, cond, eqb, sum}
-use Rattle.std.specs.Prelude.{ℤ, pos, negsuc}
-use Rattle.std.specs.List.{All}
+use Rattle.std.proofs.Common.{◌≡◌, ◌∙◌, sym, ap, refl, subst, inl, inr, arith, ℕ, Bool, true, false, List, [], ◌∷◌, length, get_or, replicate, cond, eqb}
+use Rattle.std.specs.Prelude.{ℤ, pos}
 use Rattle.std.proofs.lemmas.Bool.{cases_lt}
 use Rattle.std.proofs.lemmas.List.{get_or-replicate, get_or_past, length-replicate}
 use Rattle.cb_plain.specs.Amounts.{Amounts}
 use Rattle.cb_plain.specs.Flows.{no_flow}
-use Rattle.cb_dag.specs.Flows.{IsCutOff, IsFlow, IsGreatest, IsReachedSet, amount_at, gain_at, negative, positive}
+use Rattle.cb_dag.specs.Flows.{IsCutOff, IsGreatest, IsReachedSet, amount_at, negative, positive}
 use Rattle.cb_dag.specs.Parts.{AreWithin}
 use Rattle.cb_dag.specs.Places.{end_of}
 use Rattle.cb_dag.specs.declared.ends.End.{End}

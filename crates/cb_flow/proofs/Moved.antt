@@ -6,11 +6,11 @@ use Rattle.std.proofs.lemmas.Option.{get_or_from_slice_get}
 use mir.Syntax.{w64}
 use mir.Val.{of_z, to_z}
 use Rattle.std.proofs.lemmas.Bool.{cases_eq, cond-false, cond-true, eq-eqb, ne_eqb}
-use Rattle.std.proofs.lemmas.List.{get_or-set_other, get_or-set_same, get_or_past, length-set}
+use Rattle.std.proofs.lemmas.List.{get_or-set_other, get_or-set_same, length-set}
 use Rattle.std.proofs.lemmas.List.Sums.{sum_by-cons, sum_by-le, sum_by-set}
 use Rattle.cb_plain.specs.Amounts.{Amounts}
 use Rattle.cb_plain.specs.Flows.{with_arc, with_sink, with_source}
-use Rattle.cb_dag.specs.Flows.{IsFlow, amount_at, gain_at, inflow, negative, outflow, positive}
+use Rattle.cb_dag.specs.Flows.{IsFlow, amount_at, gain_at, negative, positive}
 use Rattle.cb_dag.specs.Places.{end_of}
 use Rattle.cb_dag.specs.declared.ends.End.{End}
 use Rattle.cb_dag.specs.declared.ends.End.TheVariants.{Finish, Start}

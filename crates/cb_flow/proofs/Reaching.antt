@@ -1,5 +1,5 @@
 -- Searches that came to their end.
-use Rattle.std.proofs.Common.{◌≡◌, ◌≢◌, ◌∙◌, sym, ap, refl, subst, inl, inr, arith, ℕ, zero, suc, ◌+◌, ◌<◌, ◌≤◌, Bool, true, false, List, [], ◌∷◌, length, get_or, cond, count_by}
+use Rattle.std.proofs.Common.{◌≡◌, ◌∙◌, sym, ap, refl, subst, arith, ℕ, zero, suc, ◌<◌, Bool, true, false, List, [], ◌∷◌, length, get_or, cond, count_by}
 use Rattle.std.specs.Prelude.{ℤ}
 use Rattle.std.proofs.lemmas.Bool.{both_ways}
 use Rattle.std.proofs.lemmas.List.Sums.{sum_by-cons}
@@ -9,7 +9,7 @@ use Rattle.cb_dag.specs.Marks.{marked}
 use Rattle.cb_flow.specs.declared.visit.Visit.{Visit}
 use Rattle.cb_flow.specs.declared.visit.Way.{Way}
 use Rattle.cb_flow.specs.declared.visit.Way.TheVariants.{FromSource, GivenBack, Onwards}
-use Rattle.cb_flow.specs.Visits.{Grows, IsExplored, IsSearch, IsVisit, WayHolds, part_at, visit_at}
+use Rattle.cb_flow.specs.Visits.{IsExplored, IsSearch, WayHolds, part_at, visit_at}
 
 -- nothing seen yet
 none_counted : (marks : List Bool) → ((part : ℕ) → marked marks part ≡ false) → ◌≡◌ {A = ℕ} (count_by (λ mark. mark) marks) 0

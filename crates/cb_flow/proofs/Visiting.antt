@@ -1,8 +1,8 @@
 -- One visit more.
-use Rattle.std.proofs.Common.{◌≡◌, ◌≢◌, ◌∙◌, sym, ap, refl, subst, inl, inr, arith, ℕ, ◌+◌, ◌<◌, ◌≤◌, ◌⊎◌, Bool, true, false, List, [], ◌∷◌, length, get_or, set, cond, count_by, min}
+use Rattle.std.proofs.Common.{◌≡◌, ◌∙◌, sym, ap, refl, subst, inl, inr, arith, ℕ, ◌+◌, ◌<◌, ◌≤◌, ◌⊎◌, Bool, true, false, List, [], ◌∷◌, length, get_or, set, cond, count_by, min}
 use Rattle.std.specs.Prelude.{ℤ}
 use Rattle.std.specs.List.{Contains}
-use Rattle.std.proofs.lemmas.Bool.{both_ways, cases_Bool, cases_eq, cases_lt, cond-false}
+use Rattle.std.proofs.lemmas.Bool.{both_ways, cases_eq, cases_lt, cond-false}
 use Rattle.std.proofs.lemmas.List.{get_or-set_other, get_or-set_same, get_or_default, get_or_past, length-set}
 use Rattle.std.proofs.lemmas.List.Sums.{sum_by-set, sum_by-cons}
 use Rattle.cb_plain.specs.Amounts.{Amounts}
@@ -13,7 +13,7 @@ use Rattle.cb_dag.proofs.Laws.{edges_at_all}
 use Rattle.cb_flow.specs.declared.visit.Visit.{Visit}
 use Rattle.cb_flow.specs.declared.visit.Way.{Way}
 use Rattle.cb_flow.specs.declared.visit.Way.TheVariants.{FromSource, GivenBack, Onwards}
-use Rattle.cb_flow.specs.Visits.{Grows, IsExplored, IsSearch, IsVisit, WayHolds, no_visit, part_at, visit_at}
+use Rattle.cb_flow.specs.Visits.{Grows, IsSearch, IsVisit, WayHolds, no_visit, part_at, visit_at}
 
 -- marks
 marked_within : (marks : List Bool) (part : ℕ) → marked marks part ≡ true → part < length marks

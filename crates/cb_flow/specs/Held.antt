@@ -1,7 +1,6 @@
 -- Networks as they are kept.
-use Rattle.std.specs.Prelude.{◌≡◌, ℕ, ◌≤◌, ℤ, Bool, List, length}
+use Rattle.std.specs.Prelude.{◌≡◌, ℕ, ℤ, Bool, List, length}
 use Rattle.cb_plain.specs.Amounts.{Amounts}
-use Rattle.cb_dag.specs.Parts.{AreWithin, most_edges, most_parts}
 use Rattle.cb_flow.specs.Networks.{AreGains, IsHeld}
 use Rattle.cb_flow.specs.declared.visit.Visit.{Visit}
 

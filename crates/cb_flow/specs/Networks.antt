@@ -1,9 +1,8 @@
 -- Networks: edges between parts, gains and a flow.
-use Rattle.std.specs.Prelude.{◌≡◌, ℕ, ◌≤◌, ◌<◌, ◌^◌, ℤ, Bool, List, length, slice_index, sum}
+use Rattle.std.specs.Prelude.{◌≡◌, ℕ, ◌≤◌, ◌^◌, ℤ, Bool, List, length, slice_index, sum}
 use Rattle.std.specs.List.{All}
 use Rattle.cb_plain.specs.Amounts.{Amounts}
 use Rattle.cb_dag.specs.Flows.{IsFlow, negative, positive}
-use Rattle.cb_dag.specs.Parts.{AreWithin}
 
 -- edges between so many parts
 pub record Linked : Type 0 where

@@ -1,12 +1,11 @@
-use Rattle.std.proofs.Common.{◌≡◌, ◌≤◌, ◌<◌, ◌+◌, ◌∙◌, ◌^◌, arith, ap, subst, sym, refl, get_or, length, sum, Some, None, Option, ℕ}
+use Rattle.std.proofs.Common.{◌≡◌, ◌<◌, ◌+◌, ◌∙◌, arith, ap, subst, sym, refl, get_or, length}
 use Rattle.std.proofs.lemmas.List.{get_or_read}
 use Rattle.std.proofs.lemmas.List.Sums.{get_or-le-sum_by}
 use Rattle.std.proofs.lemmas.Option.{get_or_from_slice_get}
 use Rattle.cb_plain.specs.Amounts.{Amounts}
-use Rattle.cb_plain.specs.Flows.{with_sink, with_source}
+use Rattle.cb_plain.specs.Flows.{with_source}
 use Rattle.cb_flow.specs.Visits.{CanCarry, IsMoving, carried, no_visit, parent_of, visit_at}
 use Rattle.cb_flow.specs.declared.visit.Visit.{Visit}
-use Rattle.cb_flow.specs.declared.visit.Way.TheVariants.{FromSource}
 use Rattle.cb_flow.proofs.Moved.{arrived, can_carry, first_move, flows_little, moved, no_parent, small_amount, some_amount}
 use Rattle.cb_flow.proofs.Visiting.{count_room}
 use Rattle.cb_flow.proofs.moving.flow_along.Goals as goal

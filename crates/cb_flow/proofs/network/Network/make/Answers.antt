@@ -1,4 +1,4 @@
-use Rattle.std.proofs.Common.{◌≡◌, ◌∙◌, ap, arith, subst, sym, length}
+use Rattle.std.proofs.Common.{◌≡◌, ◌∙◌, ap, subst, sym, length}
 use Rattle.cb_plain.specs.Flows.{no_flow}
 use Rattle.cb_flow.specs.Networks.{AreGains, Linked}
 use Rattle.cb_flow.proofs.Empty.{no_gains_are, nothing_held}

@@ -1,12 +1,12 @@
-use Rattle.std.proofs.Common.{◌≡◌, ◌∙◌, ◌<◌, arith, ap, sym, subst, inl, inr, refl, length, get_or, ℕ, true, below_more}
+use Rattle.std.proofs.Common.{◌≡◌, ◌∙◌, ◌<◌, arith, ap, sym, subst, length, get_or, ℕ, true, below_more}
 use Rattle.std.specs.List.{All}
 use Rattle.std.proofs.lemmas.List.{get_or_read}
 use Rattle.std.proofs.lemmas.Option.{get_or_from_slice_get}
 use Rattle.cb_dag.specs.Marks.{marked}
-use Rattle.cb_dag.specs.Places.{edges_at, end_of}
+use Rattle.cb_dag.specs.Places.{end_of}
 use Rattle.cb_dag.specs.declared.ends.End.TheVariants.{Finish}
 use Rattle.cb_dag.proofs.Laws.{edges_at_below, edges_at_part}
-use Rattle.cb_flow.specs.Visits.{no_visit, visit_at}
+use Rattle.cb_flow.specs.Visits.{no_visit}
 use Rattle.cb_flow.specs.declared.visit.Visit.{Visit}
 use Rattle.cb_flow.proofs.Visiting.{count_room, grown_on, onwards_visit, starts_seen}
 use Rattle.cb_flow.proofs.search.Search.go_on.Goals as goal

@@ -1,7 +1,7 @@
 use Rattle.std.proofs.Common.{◌≡◌, ◌∙◌, arith, sym, false}
 use Rattle.std.proofs.lemmas.List.{get_or_read}
 use Rattle.cb_dag.specs.Marks.{marked}
-use Rattle.cb_flow.proofs.Visiting.{marks_room, visited_more, grown, not_grown}
+use Rattle.cb_flow.proofs.Visiting.{marks_room, visited_more}
 use Rattle.cb_flow.proofs.search.Search.reach.Goals as goal
 
 pub index_mut-requires : goal.index_mut-requires

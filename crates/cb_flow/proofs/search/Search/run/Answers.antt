@@ -1,10 +1,7 @@
-use Rattle.std.proofs.Common.{◌≡◌, ◌<◌, ◌+◌, ◌∙◌, arith, ap, subst, sym, ℕ, true, get_or, below_more}
-use Rattle.std.proofs.lemmas.List.{get_or_read}
-use Rattle.cb_dag.specs.Marks.{marked}
-use Rattle.cb_flow.specs.Visits.{IsExplored, no_visit, part_at, visit_at}
+use Rattle.std.proofs.Common.{arith, subst, sym, below_more}
+use Rattle.cb_flow.specs.Visits.{IsExplored, part_at}
 use Rattle.cb_flow.specs.declared.visit.Visit.{Visit}
 use Rattle.cb_flow.proofs.Reaching.{cut_off, explored_kept, reached_exactly}
-use Rattle.cb_flow.proofs.Visiting.{count_room}
 use Rattle.cb_flow.proofs.search.Search.run.Goals as goal
 
 pub loop-head-init : goal.loop-head-init

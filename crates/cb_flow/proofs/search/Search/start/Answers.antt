@@ -1,5 +1,4 @@
-use Rattle.std.proofs.Common.{◌≡◌, ◌<◌, ◌+◌, arith, ap, subst, sym, ℕ, List, [], true, get_or, below_more}
-use Rattle.std.proofs.lemmas.Option.{get_or_from_slice_get}
+use Rattle.std.proofs.Common.{◌≡◌, ◌<◌, ◌+◌, arith, subst, sym, ℕ, List, [], true, get_or, below_more}
 use Rattle.cb_dag.specs.Flows.{gain_at, positive}
 use Rattle.cb_dag.specs.Marks.{marked}
 use Rattle.cb_flow.specs.Visits.{IsSearch}
