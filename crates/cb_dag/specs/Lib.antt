@@ -1,0 +1,11 @@
+pub mod Closed
+pub mod Faults
+pub mod Flows
+pub mod Graphs
+pub mod Listing
+pub mod Marks
+pub mod Numbers
+pub mod Parts
+pub mod Places
+pub mod Search
+pub mod Stored

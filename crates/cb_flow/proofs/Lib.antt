@@ -1,0 +1,4 @@
+mod Empty
+mod Moved
+mod Reaching
+mod Visiting

@@ -1,0 +1,79 @@
+-- Searches that came to their end.
+use Rattle.std.proofs.Common.{◌≡◌, ◌∙◌, sym, ap, refl, subst, arith, ℕ, zero, suc, ◌<◌, Bool, true, false, List, [], ◌∷◌, length, get_or, cond, count_by}
+use Rattle.std.specs.Prelude.{ℤ}
+use Rattle.std.proofs.lemmas.Bool.{both_ways}
+use Rattle.std.proofs.lemmas.List.Sums.{sum_by-cons}
+use Rattle.cb_plain.specs.Amounts.{Amounts}
+use Rattle.cb_dag.specs.Flows.{FromSource as SourceReached, GivenBack as GivenReached, IsCutOff, IsReached, IsReachedSet, Onwards as OnwardsReached, gain_at, negative, positive}
+use Rattle.cb_dag.specs.Marks.{marked}
+use Rattle.cb_flow.specs.declared.visit.Visit.{Visit}
+use Rattle.cb_flow.specs.declared.visit.Way.{Way}
+use Rattle.cb_flow.specs.declared.visit.Way.TheVariants.{FromSource, GivenBack, Onwards}
+use Rattle.cb_flow.specs.Visits.{IsExplored, IsSearch, WayHolds, part_at, visit_at}
+
+-- nothing seen yet
+none_counted : (marks : List Bool) → ((part : ℕ) → marked marks part ≡ false) → ◌≡◌ {A = ℕ} (count_by (λ mark. mark) marks) 0
+none_counted [] none = refl
+none_counted (true ∷ marks) none = absurd (both_ways true (none 0) refl)
+none_counted (false ∷ marks) none = omega (arith, sum_by-cons (λ mark. cond mark 1 0) false marks, none_counted marks (λ part. none (suc part)))
+
+pub nothing_seen : (gains : List ℤ) (edges : List (ℕ × ℕ)) (flow : Amounts) (visits : List Visit) (seen : List Bool) → length visits ≡ length gains → length seen ≡ length gains
+    → ((part : ℕ) → marked seen part ≡ false) → IsSearch gains edges flow visits 0 seen
+nothing_seen gains edges flow visits seen visit_each seen_each none = record {
+  visit_each = visit_each;
+  seen_each = seen_each;
+  counted = none_counted seen none;
+  apart = λ x y low. absurd (omega (arith, low));
+  marks = λ x low. absurd (omega (arith, low));
+  visited = λ part on. absurd (both_ways (marked seen part) (none part) on);
+  are = λ x low. absurd (omega (arith, low));
+}
+
+pub explored_kept : (gains : List ℤ) (edges : List (ℕ × ℕ)) (flow : Amounts) (seen seen' : List Bool) (part : ℕ) → ((p : ℕ) → marked seen p ≡ true → marked seen' p ≡ true)
+    → IsExplored gains edges flow seen part → IsExplored gains edges flow seen' part
+explored_kept gains edges flow seen seen' part still is = record {
+  onwards = λ i low end. still (get_or edges i (0, 0)).0 (is.onwards i low end);
+  given_back = λ i low end some. still (get_or edges i (0, 0)).1 (is.given_back i low end some);
+  full = is.full;
+}
+
+module _ (gains : List ℤ) (edges : List (ℕ × ℕ)) (flow : Amounts) (visits : List Visit) (count : ℕ) (seen : List Bool) (search : IsSearch gains edges flow visits count seen) where
+  reached_by : (x : ℕ) (way : Way) → x < count → ((y : ℕ) → y < x → IsReached gains edges flow (part_at visits y)) → WayHolds gains edges flow visits x (visit_at visits x) way
+      → IsReached gains edges flow (part_at visits x)
+  reached_by x FromSource low earlier holds =
+      let some = (search.are x low).some in
+      SourceReached (part_at visits x) (search.are x low).within (omega (arith, some, holds))
+  reached_by x Onwards low earlier holds =
+      OnwardsReached (part_at visits x) (part_at visits (visit_at visits x).parent) (visit_at visits x).edge (earlier (visit_at visits x).parent holds.0) holds.1 holds.2
+  reached_by x GivenBack low earlier holds =
+      GivenReached (part_at visits (visit_at visits x).parent) (part_at visits x) (visit_at visits x).edge (earlier (visit_at visits x).parent holds.0) holds.1 holds.2
+      (let some = (search.are x low).some in omega (arith, some, holds.4))
+
+  reached_below : (n x : ℕ) → x < n → x < count → IsReached gains edges flow (part_at visits x)
+  reached_below zero x below low = absurd (omega (arith, below))
+  reached_below (suc n) x below low =
+      reached_by x (visit_at visits x).way low (λ y early. reached_below n y (omega (arith, early, below)) (omega (arith, early, low))) (search.are x low).holds
+
+  pub reached_marked : (part : ℕ) → marked seen part ≡ true → IsReached gains edges flow part
+  reached_marked part on =
+      let found = search.visited part on in
+      subst (IsReached gains edges flow) found.2 (reached_below (suc found.0) found.0 (omega arith) found.1)
+
+  module _ (starts : (part : ℕ) → part < length gains → get_or flow.sources part 0 < positive (gain_at gains part) → marked seen part ≡ true)
+      (explored : (x : ℕ) → x < count → IsExplored gains edges flow seen (part_at visits x)) where
+    marked_reached : (part : ℕ) → IsReached gains edges flow part → marked seen part ≡ true
+    marked_reached goal (SourceReached part low more) = starts part low more
+    marked_reached goal (OnwardsReached p q i path low pair) =
+        let found = search.visited q (marked_reached q path) in
+        subst (λ (e : ℕ × ℕ). marked seen e.0 ≡ true) pair ((explored found.0 found.1).onwards i low (ap (λ (e : ℕ × ℕ). e.1) pair ∙ sym found.2))
+    marked_reached goal (GivenReached p q i path low pair some) =
+        let found = search.visited p (marked_reached p path) in
+        subst (λ (e : ℕ × ℕ). marked seen e.1 ≡ true) pair ((explored found.0 found.1).given_back i low (ap (λ (e : ℕ × ℕ). e.0) pair ∙ sym found.2) some)
+
+    pub reached_exactly : IsReachedSet gains edges flow seen
+    reached_exactly = λ part low. (reached_marked part, marked_reached part)
+
+    pub cut_off : IsCutOff gains edges flow
+    cut_off = λ part low reached.
+        let found = search.visited part (marked_reached part reached) in
+        subst (λ n. get_or flow.sinks n 0 ≡ negative (gain_at gains n)) found.2 ((explored found.0 found.1).full)

@@ -1,0 +1,4 @@
+pub mod Held
+pub mod Linkeds
+pub mod Networks
+pub mod Visits

@@ -1,0 +1,10 @@
+//! Greatest flows.
+#![tactic(auto)]
+
+mod graph;
+mod moving;
+mod network;
+mod search;
+mod visit;
+
+pub use network::Network;
