@@ -1,5 +1,5 @@
 -- Zeros laid over words of which those behind a place are zeros.
-use Rattle.std.proofs.Common.{◌≡◌, ℕ, ◌+◌, ◌-◌, ◌<◌, ◌≤◌, List, ◌++◌, length, take, drop, replicate, get_or, min, refl, arith, rules}
+use Rattle.std.proofs.Common.{◌≡◌, ℕ, ◌+◌, ◌-◌, ◌≤◌, List, ◌++◌, length, replicate, min, arith, rules}
 use Rattle.std.proofs.lemmas.List.{places, same_lists}
 use Rattle.cb_raw.specs.Words.{zeroed}
 

@@ -1,6 +1,6 @@
-use Rattle.std.proofs.Common.{◌≡◌, ◌+◌, ◌-◌, ◌≤◌, ◌∙◌, refl, sym, ap, arith, ℕ, List, ◌++◌, length, replicate, vec_len, length-append}
+use Rattle.std.proofs.Common.{◌≡◌, ◌+◌, ◌-◌, ◌∙◌, sym, ap, arith, ℕ, List, length, vec_len, length-append}
 use Rattle.std.proofs.lemmas.List.{length-replicate, with_items_is}
-use Rattle.cb_raw.specs.Words.{RawWords, zeroed}
+use Rattle.cb_raw.specs.Words.{RawWords}
 use Rattle.cb_raw.proofs.Zeros.{zeroed_in_front}
 use Rattle.cb_raw.proofs.region.Region.zero.Goals as goal
 
