@@ -1,0 +1,11 @@
+mod Paged
+mod Rowed
+mod Tabulated
+mod Tags
+mod Kept
+mod Flat
+mod Laid
+mod Parted
+mod Opened
+mod Changed
+mod Moved

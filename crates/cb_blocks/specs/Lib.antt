@@ -1,0 +1,5 @@
+pub mod Rows
+pub mod FlatRows
+pub mod Holdings
+pub mod PagedRows
+pub mod Parted

@@ -1,0 +1,280 @@
+// The words of a heap's parts.
+ghost use Rattle.std.specs.Prelude.{◌≡◌, ◌+◌, ◌-◌, ◌*◌, ◌%◌, ◌<◌, ◌≤◌, ◌^◌, ◌↔◌, ℕ, length, slice_get, slice_set, IfOk, IsErr, OnErr, OnOk, Some};
+ghost use Rattle.cb_blocks.specs.Parted.{IsAt, IsCleared, IsGrown, IsOpened, IsParted, IsReached, IsTooMuch, blocks_for, empty_parts, taken, with_fewer, with_words};
+ghost use Rattle.cb_raw.specs.Words.{copied};
+ghost use Rattle.cb_blocks.specs.Holdings.{IsHeld};
+ghost use Rattle.cb_blocks.specs.Rows.{held, row};
+
+use crate::flat_rows::FlatRows;
+use crate::holdings::Holdings;
+use crate::paged_rows::PagedRows;
+use cb_plain::OutOfMemory;
+use cb_raw::Region;
+use std::alloc::Global;
+use std::marker::Model;
+
+/// Fewer blocks are free than were asked for.
+#[derive(Clone, Copy, Debug, Drop, Eq, PartialEq)]
+pub struct NoBlocks;
+
+/// The words of so many parts of a heap, in blocks of 256 words of one region. Contracts see them as a list for each part, with
+/// how many blocks there are and which of them each part has.
+///
+/// All memory is taken when it is made.
+#[derive(Drop)]
+pub struct Blocks {
+    region: Region,
+    blocks: Holdings<PagedRows<PagedRows<FlatRows>>>,
+    used: Vec<u64>,
+}
+
+impl Model for Blocks {
+    ghost use Rattle.cb_blocks.specs.Parted.{IsBlocks, Parted};
+    ghost use Rattle.cb_blocks.specs.Rows.{all_paged};
+
+    ghost Value = { Parted };
+
+    ghost view = { λ all. record { blocks = all.blocks.count; rows = all.blocks.rows; words = all_paged 256 all.region.words all.blocks.rows all.used.items } };
+
+    ghost invariant = { λ all. IsBlocks all.region all.blocks all.used.items };
+}
+
+impl Blocks {
+    /// So many blocks for so many parts, none of which has words. `OutOfMemory` where that memory was not to be had.
+    pub fn make(alloc: Global, blocks: u32, parts: u32) -> Result<Blocks, OutOfMemory>
+        requires blocks { blocks ≤ 2 ^ 20 }
+        requires parts { parts ≤ 2 ^ 12 }
+        ensures { IfOk result (λ all. all ≡ empty_parts blocks parts) }
+    {
+        let longest = blocks / 128 + 1;
+        let flat = FlatRows::make(alloc, parts, longest / 128 + 1)?;
+        let middle = PagedRows::make(alloc, flat, parts, blocks / 128 + parts + 1, longest)?;
+        let table = PagedRows::make(alloc, middle, parts, blocks, blocks)?;
+        let held = Holdings::make(alloc, table, blocks, parts)?;
+        let region = Region::make(alloc, blocks as usize * 256)?;
+        let used = vec![in alloc; 0_u64; parts as usize]?;
+        Ok(Blocks {
+            region,
+            blocks: held,
+            used,
+        })
+    }
+
+    /// How many blocks are free.
+    pub fn blocks_free(&self) -> u32
+        ensures free { taken self.now.words + result ≡ self.now.blocks }
+        ensures sound { IsParted self.now }
+    {
+        self.blocks.free()
+    }
+
+    /// How many words a part has.
+    pub fn used(&self, part: u32) -> u64
+        requires { part < length self.now.words }
+        ensures { result ≡ length (row self.now.words part) }
+    {
+        self.used[part as usize]
+    }
+
+    /// A word of a part. Takes a few looks into tables.
+    pub fn word(&self, part: u32, i: u64) -> u64
+        requires part { part < length self.now.words }
+        requires place { i < length (row self.now.words part) }
+        ensures { slice_get (row self.now.words part) i ≡ Some result }
+    {
+        let index = self.index_of(part, i);
+        self.region.read_touched(index as usize)
+    }
+
+    /// Puts another word at a place of a part. Takes a few looks into tables.
+    pub fn set_word(&mut self, part: u32, i: u64, word: u64)
+        requires part { part < length self.old.words }
+        requires place { i < length (row self.old.words part) }
+        ensures { self.new ≡ with_words self.old part (slice_set (row self.old.words part) i word) }
+    {
+        let index = self.index_of(part, i);
+        self.region.write_touched(index as usize, word);
+    }
+
+    /// The place in the region of a word of a part.
+    pub fn index_of(&self, part: u32, i: u64) -> u64
+        requires part { part < length self.now.words }
+        requires place { i < length (row self.now.words part) }
+        ensures { IsAt self.now part i result }
+    {
+        let block = self.blocks.get(part, (i / 256) as u32);
+        block as u64 * 256 + i % 256
+    }
+
+    /// The word at a place in the region, where a word of a part stands.
+    pub fn region_word(&self, index: u64) -> u64
+        requires { (part : ℕ) × (i : ℕ) × IsAt self.now part i index }
+        ensures { (part i : ℕ) → IsAt self.now part i index → slice_get (row self.now.words part) i ≡ Some result }
+    {
+        self.region.read_touched(index as usize)
+    }
+
+    /// Puts another word at a place in the region, where a word of a part stands.
+    pub fn set_region_word(&mut self, index: u64, word: u64)
+        requires { (part : ℕ) × (i : ℕ) × IsAt self.old part i index }
+        ensures { (part i : ℕ) → IsAt self.old part i index → self.new ≡ with_words self.old part (slice_set (row self.old.words part) i word) }
+    {
+        self.region.write_touched(index as usize, word);
+    }
+
+    /// The place in the region of the word so many behind the one at a place, in the same part. Where both stand in one block it is
+    /// found without a table, else by a few looks into tables.
+    pub fn index_past(&self, index: u64, count: u64) -> u64
+        requires { (part : ℕ) × (i : ℕ) × IsReached self.now part i index count }
+        ensures { (part i : ℕ) → IsReached self.now part i index count → IsAt self.now part (i + count) result }
+    {
+        let _region = &self.region;
+        if index % 256 + count < 256 {
+            index + count
+        } else {
+            self.index_far(index, count)
+        }
+    }
+
+    /// The same by the tables.
+    fn index_far(&self, index: u64, count: u64) -> u64
+        requires { (part : ℕ) × (i : ℕ) × IsReached self.now part i index count }
+        ensures { (part i : ℕ) → IsReached self.now part i index count → IsAt self.now part (i + count) result }
+    {
+        let (part, block) = self.blocks.place_of((index / 256) as u32);
+        self.index_of(part, block as u64 * 256 + index % 256 + count)
+    }
+
+    /// Where in its part the word at a place in the region stands.
+    pub fn position(&self, index: u64) -> u64
+        requires { (part : ℕ) × (i : ℕ) × IsAt self.now part i index }
+        ensures { (part i : ℕ) → IsAt self.now part i index → result ≡ i }
+    {
+        let (_, block) = self.blocks.place_of((index / 256) as u32);
+        block as u64 * 256 + index % 256
+    }
+
+    /// Adds so many words that hold 0 at the end of a part, in as many blocks more as they need. Takes time in these. `NoBlocks`
+    /// exactly where fewer blocks are free, and then nothing has changed.
+    pub fn grow(&mut self, part: u32, words: u64) -> Result<(), NoBlocks>
+        requires { part < length self.old.words }
+        ensures grown { OnOk result (IsGrown self.old self.new part words) }
+        ensures refused { OnErr result (self.new ≡ self.old) }
+        ensures room { IsErr result ↔ IsTooMuch self.old part words }
+    {
+        let used = self.used[part as usize].saturating_add(words);
+        let wanted = count_blocks(used);
+        let have = self.blocks.len(part) as u64;
+        if wanted - have > self.blocks.free() as u64 {
+            return Err(NoBlocks);
+        }
+        open(&mut self.blocks, &mut self.region, part, wanted as u32);
+        self.used[part as usize] = used;
+        Ok(())
+    }
+
+    /// Leaves a part so many words, and gives the whole blocks behind them back. Takes time in the blocks that are given back.
+    pub fn shrink(&mut self, part: u32, used: u64)
+        requires part { part < length self.old.words }
+        requires fewer { used ≤ length (row self.old.words part) }
+        ensures { self.new ≡ with_fewer self.old part used }
+    {
+        let _had = self.used[part as usize];
+        self.blocks.keep(part, count_blocks(used) as u32);
+        clear_end(&mut self.region, &self.blocks, part, used);
+        self.used[part as usize] = used;
+    }
+
+    /// Copies so many words of a part from a place to one that isn't behind it, as by way of a second list. Takes time in their number.
+    pub fn move_words(&mut self, part: u32, from: u64, to: u64, count: u64)
+        requires part { part < length self.old.words }
+        requires order { to ≤ from }
+        requires inside { from + count ≤ length (row self.old.words part) }
+        ensures { self.new ≡ with_words self.old part (copied (row self.old.words part) from to count) }
+    {
+        let _used = self.used(part);
+        let mut done = 0;
+        while done < count {
+            let step = piece(from + done, to + done, count - done);
+            self.move_piece(part, from + done, to + done, step);
+            done += step;
+        }
+    }
+
+    /// The same of words that stand in one block, to places that are in one block too.
+    fn move_piece(&mut self, part: u32, from: u64, to: u64, count: u64)
+        requires part { part < length self.old.words }
+        requires order { to ≤ from }
+        requires inside { from + count ≤ length (row self.old.words part) }
+        requires some { 0 < count }
+        requires source { from % 256 + count ≤ 256 }
+        requires target { to % 256 + count ≤ 256 }
+        ensures { self.new ≡ with_words self.old part (copied (row self.old.words part) from to count) }
+    {
+        let source = self.index_of(part, from);
+        let target = self.index_of(part, to);
+        self.region
+            .slide(source as usize, target as usize, count as usize);
+    }
+}
+
+/// How many of so many words from a place on can be copied to another within one block each.
+fn piece(from: u64, to: u64, count: u64) -> u64
+    requires { 0 < count }
+    ensures some { 0 < result }
+    ensures within { result ≤ count }
+    ensures source { from % 256 + result ≤ 256 }
+    ensures target { to % 256 + result ≤ 256 }
+{
+    count.min(256 - from % 256).min(256 - to % 256)
+}
+
+/// How many blocks so many words need.
+fn count_blocks(words: u64) -> u64
+    ensures { result ≡ blocks_for words }
+{
+    words / 256 + (words % 256).min(1)
+}
+
+/// Takes free blocks for a part until it has so many, with 0 in their words.
+fn open(
+    blocks: &mut Holdings<PagedRows<PagedRows<FlatRows>>>,
+    region: &mut Region,
+    part: u32,
+    wanted: u32,
+)
+    requires part { part < length blocks.old.rows }
+    requires free { held blocks.old.rows + (wanted - length (row blocks.old.rows part)) ≤ blocks.old.count }
+    requires short { wanted ≤ blocks.old.longest }
+    requires sound { IsHeld blocks.old }
+    requires whole { length region.old.words ≡ blocks.old.count * 256 }
+    requires touched { region.old.touched ≡ blocks.old.fresh * 256 }
+    ensures { IsOpened region.old blocks.old region.new blocks.new part (wanted - length (row blocks.old.rows part)) }
+{
+    while blocks.len(part) < wanted {
+        let block = blocks.take(part);
+        region.zero(block as usize * 256, 256);
+    }
+}
+
+/// Puts 0 behind so many words of a part, up to the end of its last block.
+fn clear_end(
+    region: &mut Region,
+    blocks: &Holdings<PagedRows<PagedRows<FlatRows>>>,
+    part: u32,
+    used: u64,
+)
+    requires part { part < length blocks.now.rows }
+    requires exact { length (row blocks.now.rows part) ≡ blocks_for used }
+    requires sound { IsHeld blocks.now }
+    requires whole { length region.old.words ≡ blocks.now.count * 256 }
+    requires touched { region.old.touched ≡ blocks.now.fresh * 256 }
+    ensures { IsCleared region.old region.new blocks.now.rows part used }
+{
+    let rest = used % 256;
+    if rest == 0 {
+        return;
+    }
+    let block = blocks.get(part, (used / 256) as u32);
+    region.zero(block as usize * 256 + rest as usize, 256 - rest as usize);
+}
