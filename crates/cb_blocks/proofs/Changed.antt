@@ -64,7 +64,7 @@ zeros_there region blocks used region' blocks' part count i is below opened past
     ]
 
 -- all that stood in the blocks before has the same places
-stays : (rows rows' : List (List ℕ)) (part more other i : ℕ) → part < length rows → IsExtended rows rows' part more → i < length (row rows other) * 256 → place_in 256 (row rows' other) i ≡ place_in 256 (row rows other) i
+pub stays : (rows rows' : List (List ℕ)) (part more other i : ℕ) → part < length rows → IsExtended rows rows' part more → i < length (row rows other) * 256 → place_in 256 (row rows' other) i ≡ place_in 256 (row rows other) i
 stays rows rows' part more other i below extended inside =
     ap (λ n. n * 256 + i % 256) (entry_extended rows rows' part more other (i / 256) below extended (page_of 256 (length (row rows other)) i (lit< tt) inside)).1
 

@@ -1,11 +1,12 @@
+mod Changed
+mod Flat
+mod Kept
+mod Laid
+pub mod Laws
+mod Moved
+mod Opened
 mod Paged
+mod Parted
 mod Rowed
 mod Tabulated
 mod Tags
-mod Kept
-mod Flat
-mod Laid
-mod Parted
-mod Opened
-mod Changed
-mod Moved
