@@ -1,5 +1,5 @@
 -- Searches that came to their end.
-use Rattle.std.proofs.Common.{◌≡◌, ◌∙◌, sym, ap, refl, subst, arith, ℕ, zero, suc, ◌<◌, Bool, true, List, length, get_or, Option, Some, None}
+use Rattle.std.proofs.Common.{◌≡◌, ◌∙◌, sym, ap, subst, arith, ℕ, zero, suc, ◌<◌, Bool, true, List, length, get_or, Option, Some, None}
 use Rattle.std.specs.Prelude.{ℤ, IfNone}
 use Rattle.cb_plain.specs.Amounts.{Amounts}
 use Rattle.cb_dag.specs.Flows.{FromSource as SourceReached, GivenBack as GivenReached, IsCutOff, IsReached, IsReachedSet, Onwards as OnwardsReached, gain_at, negative, positive}

@@ -11,7 +11,8 @@ use cb_dag::negative_part;
 use cb_plain::Flow;
 
 /// Makes a flow the greatest: as long as a walk leads from the source to the sink along which more could flow, as much as may flows along it. Tells
-/// in the search to which parts more could flow then. First walks by way of one part after the other are found, without looking again where none was.
+/// in the search to which parts more could flow then. Walks are found by way of one part after the other, in short searches; the last search, from all
+/// parts at once, shows that none was missed.
 pub(crate) fn flow_most(graph: &Graph, gains: &[i64], flow: &mut Flow, search: &mut Search)
     requires gains { AreGains graph.now.parts gains.now }
     requires held { IsHeld gains.now graph.now.edges flow.old }
@@ -46,8 +47,8 @@ fn flow_from_each(graph: &Graph, gains: &[i64], flow: &mut Flow, search: &mut Se
     }
 }
 
-/// Lets more flow by way of one part, as long as a walk is found that passes no marked part. The parts of the last search, that found none, stay marked:
-/// no other walk adds one that leads from them to the sink.
+/// Lets more flow by way of one part, as long as a walk is found that passes no marked part. The parts of the last search, which found none, stay
+/// marked: no walk that passes none of them can bring about one from them to the sink.
 fn flow_from(graph: &Graph, gains: &[i64], flow: &mut Flow, search: &mut Search, part: u32)
     requires gains { AreGains graph.now.parts gains.now }
     requires held { IsHeld gains.now graph.now.edges flow.old }

@@ -14,7 +14,7 @@ use cb_plain::{Flow, OutOfMemory};
 use std::alloc::Global;
 
 /// A search from the source, part by part, those that are nearest first: the visits in their order, of which so many were made, and the parts that
-/// were seen.
+/// were seen, by this search or by one before it, and aren't visited any more.
 #[derive(Drop)]
 pub(crate) struct Search {
     pub visits: Vec<Visit>,
@@ -193,7 +193,13 @@ impl Search {
 
     /// Visits the parts to which more could flow by way of one to which it flows straight from the source, but for those that are marked, up to one from
     /// which more may flow to the sink: its visit, if there is any.
-    pub fn run_from(&mut self, graph: &Graph, gains: &[i64], flow: &Flow, part: u32) -> Option<usize>
+    pub fn run_from(
+        &mut self,
+        graph: &Graph,
+        gains: &[i64],
+        flow: &Flow,
+        part: u32,
+    ) -> Option<usize>
         requires visit_each { length self.old.visits.items ≡ length gains.now }
         requires seen_each { length self.old.seen.items ≡ length gains.now }
         requires each { length gains.now ≡ graph.now.parts }

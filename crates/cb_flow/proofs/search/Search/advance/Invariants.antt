@@ -1,4 +1,4 @@
-use Rattle.std.proofs.Common.{◌≡◌, ◌<◌, ◌≤◌, ◌-◌, ℕ, length}
+use Rattle.std.proofs.Common.{◌<◌, ◌≤◌, ◌-◌, ℕ, length}
 use Rattle.cb_flow.specs.Visits.{Grows, IsExplored, IsSearch, part_at}
 use Rattle.cb_flow.proofs.search.Search.advance.Given as goal
 
