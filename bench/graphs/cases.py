@@ -49,23 +49,45 @@ def best(parts, edges, gains):
     return [p for p in range(parts) if least >> p & 1]
 
 
-def line(nodes, edges, gains):
-    return " ".join([str(nodes)] + [f"{a}>{b}" for a, b in edges] + [str(g) for g in gains])
+def checked(parts, joins, gains, shown):
+    """What is first wrong with a set and a flow, which have the amounts that are shown."""
+    at = {place: [shown.get((place, k), 0) for k in range(max(parts, len(joins)))] for place in ("source", "sink", "edge", "set")}
+    for k, (p, q) in enumerate(joins):
+        if at["set"][q] and not at["set"][p]:
+            return f"edge {k} leads into the set"
+    for place, sign, first in (("source", 1, 0), ("sink", -1, parts)):
+        for part in range(parts):
+            if at[place][part] > max(sign * gains[part], 0):
+                return f"arc {first + part} is over its capacity"
+    for part in range(parts):
+        into = at["source"][part] + sum(at["edge"][k] for k, (p, q) in enumerate(joins) if p == part)
+        out_of = at["sink"][part] + sum(at["edge"][k] for k, (p, q) in enumerate(joins) if q == part)
+        if into != out_of:
+            return f"as much doesn't flow into part {part} as out of it"
+    gain = sum(gains[part] for part in range(parts) if at["set"][part])
+    bound = sum(max(g, 0) for g in gains) - sum(at["source"])
+    return "shown" if gain == bound else f"the set gains {gain}, and the bound is {bound}"
 
 
-def answer(part_of, joins, chosen):
+def line(nodes, edges, gains, shown={}):
+    words = [f"{place}:{k}={amount}" for (place, k), amount in shown.items()]
+    return " ".join([str(nodes)] + [f"{a}>{b}" for a, b in edges] + [str(g) for g in gains] + words)
+
+
+def answer(part_of, joins, chosen, told="shown"):
     parts = "".join(f"{p} " for p in part_of)
-    return parts + "|" + "".join(f" {p}>{q}" for p, q in joins) + " |" + "".join(f" {p}" for p in chosen) + " | shown"
+    return parts + "|" + "".join(f" {p}>{q}" for p, q in joins) + " |" + "".join(f" {p}" for p in chosen) + " | " + told
 
 
 def main():
     random.seed(55)
     texts, answers = [], []
 
-    def case(nodes, edges, gains):
+    def case(nodes, edges, gains, shown={}):
         parts, part_of, joins = condense(nodes, edges)
-        texts.append(line(nodes, edges, gains))
-        answers.append(answer(part_of, joins, best(parts, joins, (gains + [0] * parts)[:parts])))
+        texts.append(line(nodes, edges, gains, shown))
+        all_gains = (gains + [0] * parts)[:parts]
+        answers.append(answer(part_of, joins, best(parts, joins, all_gains), checked(parts, joins, all_gains, shown) if shown else "shown"))
 
     bound = 2**28
     case(3, [(0, 1), (1, 0), (2, 0)], [1, 1])
@@ -86,6 +108,22 @@ def main():
                     edges.append((a, b))
         size = random.choice([2, 3, 10, 1000, bound])
         case(nodes, edges, [random.randint(-size, size) for _ in range(nodes)])
+    # flows and sets that aren't the chooser's
+    both = {("set", 0): 1, ("set", 1): 1}
+    flows = {("source", 1): 2, ("edge", 0): 2, ("sink", 0): 2}
+    for shown in (
+        {**both, **flows},
+        {**both, **flows, ("edge", 0): 1},
+        {**both, **flows, ("source", 1): 1},
+        {**both, **flows, ("source", 1): 6},
+        {**both, **flows, ("source", 0): 1},
+        {**both, **flows, ("sink", 0): 3},
+        {**both, ("source", 1): 1, ("edge", 0): 1, ("sink", 0): 1},
+        {**flows, ("set", 1): 1},
+        flows,
+        both,
+    ):
+        case(2, [(0, 1)], [-2, 5], shown)
     # a chain: closed sets are its beginnings, of which the shortest of greatest gain is the best
     for last in (4000, 4095, 4096):
         nodes = 4096

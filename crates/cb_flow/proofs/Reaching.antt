@@ -1,33 +1,29 @@
 -- Searches that came to their end.
-use Rattle.std.proofs.Common.{◌≡◌, ◌∙◌, sym, ap, refl, subst, arith, ℕ, zero, suc, ◌<◌, Bool, true, false, List, [], ◌∷◌, length, get_or, cond, count_by}
-use Rattle.std.specs.Prelude.{ℤ}
-use Rattle.std.proofs.lemmas.Bool.{both_ways}
-use Rattle.std.proofs.lemmas.List.Sums.{sum_by-cons}
+use Rattle.std.proofs.Common.{◌≡◌, ◌∙◌, sym, ap, subst, arith, ℕ, zero, suc, ◌<◌, Bool, true, List, length, get_or, Option, Some, None}
+use Rattle.std.specs.Prelude.{ℤ, IfNone}
 use Rattle.cb_plain.specs.Amounts.{Amounts}
 use Rattle.cb_dag.specs.Flows.{FromSource as SourceReached, GivenBack as GivenReached, IsCutOff, IsReached, IsReachedSet, Onwards as OnwardsReached, gain_at, negative, positive}
 use Rattle.cb_dag.specs.Marks.{marked}
 use Rattle.cb_flow.specs.declared.visit.Visit.{Visit}
 use Rattle.cb_flow.specs.declared.visit.Way.{Way}
 use Rattle.cb_flow.specs.declared.visit.Way.TheVariants.{FromSource, GivenBack, Onwards}
-use Rattle.cb_flow.specs.Visits.{IsExplored, IsSearch, WayHolds, part_at, visit_at}
+use Rattle.cb_flow.specs.Visits.{AreVisited, IsExplored, IsSearch, WayHolds, part_at, visit_at}
 
--- nothing seen yet
-none_counted : (marks : List Bool) → ((part : ℕ) → marked marks part ≡ false) → ◌≡◌ {A = ℕ} (count_by (λ mark. mark) marks) 0
-none_counted [] none = refl
-none_counted (true ∷ marks) none = absurd (both_ways true (none 0) refl)
-none_counted (false ∷ marks) none = omega (arith, sum_by-cons (λ mark. cond mark 1 0) false marks, none_counted marks (λ part. none (suc part)))
-
-pub nothing_seen : (gains : List ℤ) (edges : List (ℕ × ℕ)) (flow : Amounts) (visits : List Visit) (seen : List Bool) → length visits ≡ length gains → length seen ≡ length gains
-    → ((part : ℕ) → marked seen part ≡ false) → IsSearch gains edges flow visits 0 seen
-nothing_seen gains edges flow visits seen visit_each seen_each none = record {
+-- a search that begins
+pub none_visited : (gains : List ℤ) (edges : List (ℕ × ℕ)) (flow : Amounts) (visits : List Visit) (seen : List Bool) → length visits ≡ length gains → length seen ≡ length gains
+    → IsSearch gains edges flow visits 0 seen
+none_visited gains edges flow visits seen visit_each seen_each = record {
   visit_each = visit_each;
   seen_each = seen_each;
-  counted = none_counted seen none;
+  counted = omega arith;
   apart = λ x y low. absurd (omega (arith, low));
   marks = λ x low. absurd (omega (arith, low));
-  visited = λ part on. absurd (both_ways (marked seen part) (none part) on);
   are = λ x low. absurd (omega (arith, low));
 }
+
+pub if_none : {A P Q : Type 0} (o : Option A) → (P → Q) → IfNone o P → IfNone o Q
+if_none None weaker is = weaker is
+if_none (Some x) weaker is = is
 
 pub explored_kept : (gains : List ℤ) (edges : List (ℕ × ℕ)) (flow : Amounts) (seen seen' : List Bool) (part : ℕ) → ((p : ℕ) → marked seen p ≡ true → marked seen' p ≡ true)
     → IsExplored gains edges flow seen part → IsExplored gains edges flow seen' part
@@ -37,7 +33,8 @@ explored_kept gains edges flow seen seen' part still is = record {
   full = is.full;
 }
 
-module _ (gains : List ℤ) (edges : List (ℕ × ℕ)) (flow : Amounts) (visits : List Visit) (count : ℕ) (seen : List Bool) (search : IsSearch gains edges flow visits count seen) where
+module _ (gains : List ℤ) (edges : List (ℕ × ℕ)) (flow : Amounts) (visits : List Visit) (count : ℕ) (seen : List Bool) (search : IsSearch gains edges flow visits count seen)
+    (visited : AreVisited visits count seen) where
   reached_by : (x : ℕ) (way : Way) → x < count → ((y : ℕ) → y < x → IsReached gains edges flow (part_at visits y)) → WayHolds gains edges flow visits x (visit_at visits x) way
       → IsReached gains edges flow (part_at visits x)
   reached_by x FromSource low earlier holds =
@@ -56,7 +53,7 @@ module _ (gains : List ℤ) (edges : List (ℕ × ℕ)) (flow : Amounts) (visits
 
   pub reached_marked : (part : ℕ) → marked seen part ≡ true → IsReached gains edges flow part
   reached_marked part on =
-      let found = search.visited part on in
+      let found = visited part on in
       subst (IsReached gains edges flow) found.2 (reached_below (suc found.0) found.0 (omega arith) found.1)
 
   module _ (starts : (part : ℕ) → part < length gains → get_or flow.sources part 0 < positive (gain_at gains part) → marked seen part ≡ true)
@@ -64,10 +61,10 @@ module _ (gains : List ℤ) (edges : List (ℕ × ℕ)) (flow : Amounts) (visits
     marked_reached : (part : ℕ) → IsReached gains edges flow part → marked seen part ≡ true
     marked_reached goal (SourceReached part low more) = starts part low more
     marked_reached goal (OnwardsReached p q i path low pair) =
-        let found = search.visited q (marked_reached q path) in
+        let found = visited q (marked_reached q path) in
         subst (λ (e : ℕ × ℕ). marked seen e.0 ≡ true) pair ((explored found.0 found.1).onwards i low (ap (λ (e : ℕ × ℕ). e.1) pair ∙ sym found.2))
     marked_reached goal (GivenReached p q i path low pair some) =
-        let found = search.visited p (marked_reached p path) in
+        let found = visited p (marked_reached p path) in
         subst (λ (e : ℕ × ℕ). marked seen e.1 ≡ true) pair ((explored found.0 found.1).given_back i low (ap (λ (e : ℕ × ℕ). e.0) pair ∙ sym found.2) some)
 
     pub reached_exactly : IsReachedSet gains edges flow seen
@@ -75,5 +72,5 @@ module _ (gains : List ℤ) (edges : List (ℕ × ℕ)) (flow : Amounts) (visits
 
     pub cut_off : IsCutOff gains edges flow
     cut_off = λ part low reached.
-        let found = search.visited part (marked_reached part reached) in
+        let found = visited part (marked_reached part reached) in
         subst (λ n. get_or flow.sinks n 0 ≡ negative (gain_at gains n)) found.2 ((explored found.0 found.1).full)

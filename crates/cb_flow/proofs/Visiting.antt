@@ -65,15 +65,22 @@ visit_kept gains edges flow visits visits' before before' visit more same is = r
   holds = way_kept gains edges flow visits visits' before before' visit visit.way more same is.holds;
 }
 
-pub grown : (visits : List Visit) (count : ℕ) (seen : List Bool) (visit : Visit) → Grows visits count seen (set visits count visit) (count + 1) (set seen visit.part true)
-grown visits count seen visit = record {
+pub grown : (visits : List Visit) (count : ℕ) (seen : List Bool) (visit : Visit) → count < length visits → Grows visits count seen (set visits count visit) (count + 1) (set seen visit.part true)
+grown visits count seen visit room = record {
   more = omega arith;
-  same = λ x low. get_or-set_other visits count x visit no_visit (λ same. omega (arith, low, same));
+  same = old;
   still = λ part on. marked-set_kept seen visit.part part on;
+  visited = λ are part on. elim (marked-set_cases seen visit.part part on) [
+    | inl same ↦ (count, omega arith, ap (λ (v : Visit). v.part) (get_or-set_same visits count visit no_visit room) ∙ sym same)
+    | inr before ↦ let found = are part before in (found.0, omega (arith, found.1), ap (λ (v : Visit). v.part) (old found.0 found.1) ∙ found.2)
+  ];
 }
+  where
+    old : (x : ℕ) → x < count → visit_at (set visits count visit) x ≡ visit_at visits x
+    old x low = get_or-set_other visits count x visit no_visit (λ same. omega (arith, low, same))
 
 pub not_grown : (visits : List Visit) (count : ℕ) (seen : List Bool) → Grows visits count seen visits count seen
-not_grown visits count seen = record { more = omega arith; same = λ x low. refl; still = λ part on. on }
+not_grown visits count seen = record { more = omega arith; same = λ x low. refl; still = λ part on. on; visited = λ are. are }
 
 pub grown_on : (visits visits' visits'' : List Visit) (count count' count'' : ℕ) (seen seen' seen'' : List Bool) → Grows visits count seen visits' count' seen'
     → Grows visits' count' seen' visits'' count'' seen'' → Grows visits count seen visits'' count'' seen''
@@ -81,6 +88,7 @@ grown_on visits visits' visits'' count count' count'' seen seen' seen'' one othe
   more = omega (arith, one.more, other.more);
   same = λ x low. other.same x (omega (arith, low, one.more)) ∙ one.same x low;
   still = λ part on. other.still part (one.still part on);
+  visited = λ are. other.visited (one.visited are);
 }
 
 pub visited_more : (gains : List ℤ) (edges : List (ℕ × ℕ)) (flow : Amounts) (visits : List Visit) (count : ℕ) (seen : List Bool) (visit : Visit)
@@ -89,7 +97,7 @@ pub visited_more : (gains : List ℤ) (edges : List (ℕ × ℕ)) (flow : Amount
 visited_more gains edges flow visits count seen visit search is new = record {
   visit_each = length-set visits count visit ∙ search.visit_each;
   seen_each = length-set seen visit.part true ∙ search.seen_each;
-  counted = marks_more seen visit.part inside new ∙ ap (λ n. n + 1) search.counted;
+  counted = omega (arith, marks_more seen visit.part inside new, search.counted);
   apart = λ x y low high same. elim (cases_lt x count) [
     | inl l ↦ elim (cases_lt y count) [
       | inl m ↦ search.apart x y l m (sym (ap (λ (v : Visit). v.part) (old x l)) ∙ same ∙ ap (λ (v : Visit). v.part) (old y m))
@@ -103,10 +111,6 @@ visited_more gains edges flow visits count seen visit search is new = record {
   marks = λ x low. elim (cases_lt x count) [
     | inl l ↦ marked-set_kept seen visit.part (part_at (set visits count visit) x) (subst (λ (v : Visit). marked seen v.part ≡ true) (sym (old x l)) (search.marks x l))
     | inr p ↦ ap (marked (set seen visit.part true)) (at_last x (omega (arith, low, p))) ∙ get_or-set_same seen visit.part true false inside
-  ];
-  visited = λ part on. elim (marked-set_cases seen visit.part part on) [
-    | inl same ↦ (count, omega arith, at_last count refl ∙ sym same)
-    | inr before ↦ let found = search.visited part before in (found.0, omega (arith, found.1), ap (λ (v : Visit). v.part) (old found.0 found.1) ∙ found.2)
   ];
   are = λ x low. elim (cases_lt x count) [
     | inl l ↦ subst (IsVisit gains edges flow (set visits count visit) x) (sym (old x l))
@@ -187,5 +191,5 @@ finishes_seen edges arcs seen part list is seen_all i low end some =
     let at : get_or list found.0 0 ≡ i = get_or_default list found.0 0 i found.1 ∙ found.2 in
     subst (λ n. marked seen (get_or edges n (0, 0)).1 ≡ true) at (seen_all found.0 found.1 (subst (λ n. 0 < get_or arcs n 0) (sym at) some))
 
-pub count_room : (seen : List Bool) (count : ℕ) → count_by (λ mark. mark) seen ≡ count → count ≤ length seen
+pub count_room : (seen : List Bool) (count : ℕ) → count ≤ count_by (λ mark. mark) seen → count ≤ length seen
 count_room seen count is = omega (arith, marks_below seen, is)

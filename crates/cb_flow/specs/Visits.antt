@@ -33,21 +33,25 @@ pub record IsVisit (gains : List ℤ) (edges : List (ℕ × ℕ)) (flow : Amount
   pub some : 0 < visit.room
   pub holds : WayHolds gains edges flow visits before visit visit.way
 
--- a search: each part that was seen was visited once
+-- a search: no part was visited twice, and each is marked
 pub record IsSearch (gains : List ℤ) (edges : List (ℕ × ℕ)) (flow : Amounts) (visits : List Visit) (count : ℕ) (seen : List Bool) : Type 0 where
   pub visit_each : length visits ≡ length gains
   pub seen_each : length seen ≡ length gains
-  pub counted : count_by (λ mark. mark) seen ≡ count
+  pub counted : count ≤ count_by (λ mark. mark) seen
   pub apart : (x y : ℕ) → x < count → y < count → part_at visits x ≡ part_at visits y → x ≡ y
   pub marks : (x : ℕ) → x < count → marked seen (part_at visits x) ≡ true
-  pub visited : (part : ℕ) → marked seen part ≡ true → (x : ℕ) × (x < count) × (part_at visits x ≡ part)
   pub are : (x : ℕ) → x < count → IsVisit gains edges flow visits x (visit_at visits x)
 
--- what was visited and seen stays so
+-- all marked parts were visited
+abbrev pub AreVisited : List Visit → (count : ℕ) → List Bool → Type 0
+AreVisited visits count seen = (part : ℕ) → marked seen part ≡ true → (x : ℕ) × (x < count) × (part_at visits x ≡ part)
+
+-- what was visited and seen stays so, and what is seen more was visited
 pub record Grows (visits : List Visit) (count : ℕ) (seen : List Bool) (visits' : List Visit) (count' : ℕ) (seen' : List Bool) : Type 0 where
   pub more : count ≤ count'
   pub same : (x : ℕ) → x < count → visit_at visits' x ≡ visit_at visits x
   pub still : (part : ℕ) → marked seen part ≡ true → marked seen' part ≡ true
+  pub visited : AreVisited visits count seen → AreVisited visits' count' seen'
 
 -- all was seen that more could flow to from a part, and as much flows from it to the sink as may
 pub record IsExplored (gains : List ℤ) (edges : List (ℕ × ℕ)) (flow : Amounts) (seen : List Bool) (part : ℕ) : Type 0 where

@@ -5,13 +5,14 @@ ghost use Rattle.cb_flow.specs.Networks.{AreGains, IsHeld};
 ghost use Rattle.cb_flow.specs.Visits.{CanCarry, IsGreater, IsOpenVisit, carried, parent_of};
 
 use crate::graph::Graph;
-use crate::search::Search;
+use crate::search::{Search, unmark, unmark_visited};
 use crate::visit::{Visit, Way};
 use cb_dag::negative_part;
 use cb_plain::Flow;
 
 /// Makes a flow the greatest: as long as a walk leads from the source to the sink along which more could flow, as much as may flows along it. Tells
-/// in the search to which parts more could flow then.
+/// in the search to which parts more could flow then. Walks are found by way of one part after the other, in short searches; the last search, from all
+/// parts at once, shows that none was missed.
 pub(crate) fn flow_most(graph: &Graph, gains: &[i64], flow: &mut Flow, search: &mut Search)
     requires gains { AreGains graph.now.parts gains.now }
     requires held { IsHeld gains.now graph.now.edges flow.old }
@@ -23,8 +24,44 @@ pub(crate) fn flow_most(graph: &Graph, gains: &[i64], flow: &mut Flow, search: &
     ensures visit_each { length search.new.visits.items ≡ length gains.now }
     ensures seen_each { length search.new.seen.items ≡ length gains.now }
 {
+    flow_from_each(graph, gains, flow, search);
     while let Some(at) = search.run(graph, gains, flow) {
         flow_along(graph, gains, flow, search, at);
+    }
+}
+
+/// Lets more flow by way of each part to which it could straight from the source.
+fn flow_from_each(graph: &Graph, gains: &[i64], flow: &mut Flow, search: &mut Search)
+    requires gains { AreGains graph.now.parts gains.now }
+    requires held { IsHeld gains.now graph.now.edges flow.old }
+    requires visit_each { length search.old.visits.items ≡ length gains.now }
+    requires seen_each { length search.old.seen.items ≡ length gains.now }
+    ensures held { IsHeld gains.now graph.now.edges flow.new }
+    ensures visit_each { length search.new.visits.items ≡ length gains.now }
+    ensures seen_each { length search.new.seen.items ≡ length gains.now }
+{
+    let parts = graph.parts();
+    unmark(&mut search.seen);
+    for part in 0..parts {
+        flow_from(graph, gains, flow, search, part);
+    }
+}
+
+/// Lets more flow by way of one part, as long as a walk is found that passes no marked part. The parts of the last search, which found none, stay
+/// marked: no walk that passes none of them can bring about one from them to the sink.
+fn flow_from(graph: &Graph, gains: &[i64], flow: &mut Flow, search: &mut Search, part: u32)
+    requires gains { AreGains graph.now.parts gains.now }
+    requires held { IsHeld gains.now graph.now.edges flow.old }
+    requires visit_each { length search.old.visits.items ≡ length gains.now }
+    requires seen_each { length search.old.seen.items ≡ length gains.now }
+    requires part { part < length gains.now }
+    ensures held { IsHeld gains.now graph.now.edges flow.new }
+    ensures visit_each { length search.new.visits.items ≡ length gains.now }
+    ensures seen_each { length search.new.seen.items ≡ length gains.now }
+{
+    while let Some(at) = search.run_from(graph, gains, flow, part) {
+        flow_along(graph, gains, flow, search, at);
+        unmark_visited(&mut search.seen, &search.visits, search.count);
     }
 }
 

@@ -76,8 +76,9 @@ impl Network {
         copy_gains(&mut self.gains, gains);
     }
 
-    /// Makes the flow the greatest, by a walk along which more could flow at a time, each from the source by as few edges as may be. The counter counts
-    /// nothing. Takes time in the parts and edges for each walk.
+    /// Makes the flow the greatest, by a walk along which more could flow at a time: first by way of one part after the other, then from all at once. The
+    /// counter counts nothing. Takes time in the parts and edges, and for each walk in the parts and edges that are nearer to where it begins than the
+    /// part from which it leads to the sink: all of them at most.
     pub fn solve<L: Ledger>(&mut self, _steps: &mut Steps<L>)
         ensures parts { self.new.parts ≡ self.old.parts }
         ensures edges { self.new.edges ≡ self.old.edges }

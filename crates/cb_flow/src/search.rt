@@ -5,7 +5,7 @@ ghost use Rattle.std.specs.List.{All};
 ghost use Rattle.cb_plain.specs.Amounts.{Amounts};
 ghost use Rattle.cb_dag.specs.Flows.{IsCutOff, IsFlow, IsReachedSet, gain_at, negative, positive};
 ghost use Rattle.cb_dag.specs.Marks.{marked};
-ghost use Rattle.cb_flow.specs.Visits.{Grows, IsExplored, IsOpenVisit, IsSearch, IsVisit, part_at, visit_at};
+ghost use Rattle.cb_flow.specs.Visits.{AreVisited, Grows, IsExplored, IsOpenVisit, IsSearch, IsVisit, part_at, visit_at};
 
 use crate::graph::Graph;
 use crate::visit::{Visit, Way};
@@ -14,7 +14,7 @@ use cb_plain::{Flow, OutOfMemory};
 use std::alloc::Global;
 
 /// A search from the source, part by part, those that are nearest first: the visits in their order, of which so many were made, and the parts that
-/// were seen.
+/// were seen, by this search or by one before it, and aren't visited any more.
 #[derive(Drop)]
 pub(crate) struct Search {
     pub visits: Vec<Visit>,
@@ -27,7 +27,7 @@ impl Search {
     pub fn reach(&mut self, visit: Visit)
         requires part { visit.part < length self.old.seen.items }
         requires each { length self.old.visits.items ≡ length self.old.seen.items }
-        requires counted { count_by (λ mark. mark) self.old.seen.items ≡ self.old.count }
+        requires counted { self.old.count ≤ count_by (λ mark. mark) self.old.seen.items }
         ensures search { (gains : List ℤ) (edges : List (ℕ × ℕ)) (flow : Amounts) → IsSearch gains edges flow self.old.visits.items self.old.count self.old.seen.items
             → IsVisit gains edges flow self.old.visits.items self.old.count visit → IsSearch gains edges flow self.new.visits.items self.new.count self.new.seen.items }
         ensures grows { Grows self.old.visits.items self.old.count self.old.seen.items self.new.visits.items self.new.count self.new.seen.items }
@@ -112,29 +112,65 @@ impl Search {
         }
     }
 
-    /// Begins with the parts to which more could flow straight from the source.
+    /// Visits a part, if more could flow to it straight from the source.
+    fn enter(&mut self, gains: &[i64], flow: &Flow, part: u32)
+        requires before { (edges : List (ℕ × ℕ)) → IsSearch gains.now edges flow.now self.old.visits.items self.old.count self.old.seen.items }
+        requires part { part < length gains.now }
+        requires source_each { length flow.now.sources ≡ length gains.now }
+        ensures search { (edges : List (ℕ × ℕ)) → IsSearch gains.now edges flow.now self.new.visits.items self.new.count self.new.seen.items }
+        ensures grows { Grows self.old.visits.items self.old.count self.old.seen.items self.new.visits.items self.new.count self.new.seen.items }
+        ensures open { slice_index flow.now.sources part < positive (gain_at gains.now part) → marked self.new.seen.items part ≡ true }
+    {
+        let room = source_room(gains, flow, part);
+        if room == 0 {
+            return;
+        }
+        self.reach(Visit {
+            part,
+            way: Way::FromSource,
+            edge: 0,
+            parent: 0,
+            room,
+        });
+    }
+
+    /// Begins with all parts to which more could flow straight from the source.
     fn start(&mut self, gains: &[i64], flow: &Flow)
         requires visit_each { length self.old.visits.items ≡ length gains.now }
         requires seen_each { length self.old.seen.items ≡ length gains.now }
         requires source_each { length flow.now.sources ≡ length gains.now }
         requires few { length gains.now < 2 ^ 32 }
         ensures search { (edges : List (ℕ × ℕ)) → IsSearch gains.now edges flow.now self.new.visits.items self.new.count self.new.seen.items }
+        ensures visited { AreVisited self.new.visits.items self.new.count self.new.seen.items }
         ensures open { (part : ℕ) → part < length gains.now → slice_index flow.now.sources part < positive (gain_at gains.now part) → marked self.new.seen.items part ≡ true }
     {
         unmark(&mut self.seen);
         self.count = 0;
         for part in 0..gains.len() {
-            let room = source_room(gains, flow, part as u32);
-            if room > 0 {
-                self.reach(Visit {
-                    part: part as u32,
-                    way: Way::FromSource,
-                    edge: 0,
-                    parent: 0,
-                    room,
-                });
-            }
+            self.enter(gains, flow, part as u32);
         }
+    }
+
+    /// Visits the parts to which more could flow from those that were visited, the earliest first, up to one from which more may flow to the sink: its
+    /// visit, if there is any.
+    fn advance(&mut self, graph: &Graph, gains: &[i64], flow: &Flow) -> Option<usize>
+        requires before { IsSearch gains.now graph.now.edges flow.now self.old.visits.items self.old.count self.old.seen.items }
+        requires each { length gains.now ≡ graph.now.parts }
+        requires is_flow { IsFlow gains.now graph.now.edges flow.now }
+        ensures found { IfSome result (IsOpenVisit gains.now graph.now.edges flow.now self.new.visits.items self.new.count self.new.seen.items) }
+        ensures explored { IfNone result ((x : ℕ) → x < self.new.count → IsExplored gains.now graph.now.edges flow.now self.new.seen.items (part_at self.new.visits.items x)) }
+        ensures search { IsSearch gains.now graph.now.edges flow.now self.new.visits.items self.new.count self.new.seen.items }
+        ensures grows { Grows self.old.visits.items self.old.count self.old.seen.items self.new.visits.items self.new.count self.new.seen.items }
+    {
+        let mut head = 0;
+        while head < self.count {
+            if is_open(gains, flow, self.visits[head].part) {
+                return Some(head);
+            }
+            self.expand(graph, gains, flow, head);
+            head += 1;
+        }
+        None
     }
 
     /// Visits the parts to which more could flow, those that are nearest to the source first, up to one from which more may flow to the sink: its
@@ -152,15 +188,30 @@ impl Search {
     {
         let _parts = graph.parts();
         self.start(gains, flow);
-        let mut head = 0;
-        while head < self.count {
-            if is_open(gains, flow, self.visits[head].part) {
-                return Some(head);
-            }
-            self.expand(graph, gains, flow, head);
-            head += 1;
-        }
-        None
+        self.advance(graph, gains, flow)
+    }
+
+    /// Visits the parts to which more could flow by way of one to which it flows straight from the source, but for those that are marked, up to one from
+    /// which more may flow to the sink: its visit, if there is any.
+    pub fn run_from(
+        &mut self,
+        graph: &Graph,
+        gains: &[i64],
+        flow: &Flow,
+        part: u32,
+    ) -> Option<usize>
+        requires visit_each { length self.old.visits.items ≡ length gains.now }
+        requires seen_each { length self.old.seen.items ≡ length gains.now }
+        requires each { length gains.now ≡ graph.now.parts }
+        requires part { part < length gains.now }
+        requires is_flow { IsFlow gains.now graph.now.edges flow.now }
+        ensures found { IfSome result (IsOpenVisit gains.now graph.now.edges flow.now self.new.visits.items self.new.count self.new.seen.items) }
+        ensures visit_each { length self.new.visits.items ≡ length gains.now }
+        ensures seen_each { length self.new.seen.items ≡ length gains.now }
+    {
+        self.count = 0;
+        self.enter(gains, flow, part);
+        self.advance(graph, gains, flow)
     }
 }
 
@@ -184,12 +235,24 @@ fn is_open(gains: &[i64], flow: &Flow, part: u32) -> bool
 }
 
 /// Takes all marks away.
-fn unmark(seen: &mut Vec<bool>)
+pub(crate) fn unmark(seen: &mut Vec<bool>)
     ensures none { (part : ℕ) → marked seen.new.items part ≡ false }
     ensures len { length seen.new.items ≡ length seen.old.items }
 {
     for part in 0..seen.len() {
         seen[part] = false;
+    }
+}
+
+/// Takes the marks of the parts of so many visits away.
+pub(crate) fn unmark_visited(seen: &mut Vec<bool>, visits: &Vec<Visit>, count: usize)
+    requires few { count ≤ length visits.now.items }
+    requires within { (x : ℕ) → x < count → part_at visits.now.items x < length seen.old.items }
+    ensures { length seen.new.items ≡ length seen.old.items }
+{
+    for x in 0..count {
+        let part = visits[x].part;
+        seen[part as usize] = false;
     }
 }
 

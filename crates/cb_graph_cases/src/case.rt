@@ -1,12 +1,14 @@
 // Graphs and gains, read from lines.
+use crate::change::{Change, read_change};
 use cb_dag::Grid;
 use std::alloc::{AllocError, Global};
 
-/// A graph, and gains for its parts.
+/// A graph, gains for its parts, and what the checker is shown in place of the chooser's flow and set.
 #[derive(Drop)]
 pub(crate) struct Case {
     pub grid: Grid,
     pub gains: Vec<i64>,
+    pub changes: Vec<Change>,
 }
 
 /// The case of a line, if it is one.
@@ -21,6 +23,7 @@ pub(crate) fn read_case(alloc: Global, line: &str) -> Result<Option<Case>, Alloc
     let mut case = Case {
         grid: Grid::make(alloc, u32::from(nodes))?,
         gains: Vec::new(alloc),
+        changes: Vec::new(alloc),
     };
     for word in words {
         read_word(&mut case, word)?;
@@ -28,15 +31,14 @@ pub(crate) fn read_case(alloc: Global, line: &str) -> Result<Option<Case>, Alloc
     Ok(Some(case))
 }
 
-/// Reads an edge or a gain. Others are left out.
+/// Reads an edge, a change or a gain. Others are left out.
 fn read_word(case: &mut Case, word: &str) -> Result<(), AllocError> {
-    match word.split_once('>') {
-        Some((from, to)) => put_edge(&mut case.grid, from, to),
-        None => {
-            if let Ok(gain) = word.parse::<i64>() {
-                case.gains.push(gain)?;
-            }
-        }
+    if let Some((from, to)) = word.split_once('>') {
+        put_edge(&mut case.grid, from, to);
+    } else if let Some(change) = read_change(word) {
+        case.changes.push(change)?;
+    } else if let Ok(gain) = word.parse::<i64>() {
+        case.gains.push(gain)?;
     }
     Ok(())
 }
