@@ -1,5 +1,5 @@
 -- What instructions on fields leave, by what stands on the stack.
-use Rattle.std.proofs.Common.{◌≡◌, ◌∙◌, ap, refl, sym, subst, ℕ, Bool, true, false, List, [], ◌∷◌, map, drop, Option, Some, None, zero, suc}
+use Rattle.std.proofs.Common.{◌≡◌, ◌∙◌, ap, refl, sym, subst, ℕ, true, List, [], ◌∷◌, map, drop, Option, Some, None, zero, suc}
 use Rattle.std.proofs.lemmas.Bool.{false≢true}
 use Rattle.std.proofs.lemmas.Option.{slice_get-map}
 use Rattle.std.specs.Prelude.{is_some, option_map, slice_get}
@@ -7,7 +7,6 @@ use Rattle.cb_frames.specs.Tops.{top_stack}
 use Rattle.cb_heap.proofs.Laws.{reads_stack}
 use Rattle.cb_frames.specs.Entries.{referent}
 use Rattle.cb_heap.specs.Kept.{content_at, with_content}
-use Rattle.cb_heap.specs.Store.{may_point}
 use Rattle.cb_heap.specs.Reading.{read_roots, read_value, seen, serial_of}
 use Rattle.cb_kinds.specs.declared.basic.Basic.{Basic}
 use Rattle.cb_kinds.specs.declared.basic.Basic.TheVariants as basics
@@ -18,7 +17,7 @@ use Rattle.cb_plain.specs.declared.value.Value.TheVariants as values
 use Rattle.cb_plain.specs.State.{Content, Number, Object, Reference, Roots}
 use Rattle.cb_plain.specs.Updates.{object_in}
 use Rattle.cb_act.specs.Effects.{has_sort, stacked}
-use Rattle.cb_act.specs.Objects.{Goes, Left, MayPut, Suits, SuitsWord, Throws, behind_get_field, behind_put_field, object_on, on_stack, put_into, put_on, read_on, referred, suits_unless_null, takes, unless_null}
+use Rattle.cb_act.specs.Objects.{Goes, Left, Suits, SuitsWord, Throws, behind_get_field, behind_put_field, object_on, on_stack, put_into, put_on, read_on, referred, suits_unless_null, takes, unless_null}
 use Rattle.cb_act.proofs.Read.{sorted, stacked_read}
 
 module _ (index : ℕ → ℕ) (objects : List (Option Object)) (held : Roots) where
@@ -191,10 +190,3 @@ some_there objects serial word basic suits = go (object_in objects serial) refl 
       let none : content_at objects serial word ≡ None = rw there refl in
       absurd (no_word basic (subst (Suits basic) none suits))
   go (Some object) there = refl
-
--- what may be put into an object at a depth
-pub allowed_so : (index : ℕ → ℕ) (objects : List (Option Object)) (held : Roots) (allows : ℕ → ℕ → Bool) (depth place : ℕ)
-    → slice_get (top_stack held) depth ≡ Some (values.Ref place) → ¬ (place ≡ 0) → MayPut allows depth (seen index objects held)
-    → may_point allows objects (serial_of index place) (object_on (seen index objects held) 0) ≡ true
-allowed_so index objects held allows depth zero is some may = absurd (some refl)
-allowed_so index objects held allows depth (suc place) is some may = may.allowed (index (suc place)) (object_so index objects held depth (suc place) is)

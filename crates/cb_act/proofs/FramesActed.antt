@@ -23,7 +23,6 @@ use Rattle.cb_shapes.specs.declared.shuffle.Shuffle.TheVariants as shuffles
 use Rattle.cb_act.specs.Acting.{Does, computed_deed, frame_deed, need_of, of_frame, on_static, put_deed}
 use Rattle.cb_act.specs.Effects.{growth, is_long}
 use Rattle.cb_act.specs.Framing.{frame_left, growth_at, is_plain, left_as, read_left}
-use Rattle.cb_act.specs.declared.need.Need.TheVariants as needs
 use Rattle.cb_act.specs.Going.{behind_put_static}
 use Rattle.cb_act.proofs.FrameLeft.{left_read}
 use Rattle.cb_act.proofs.ReadGoing.{put_static_read}

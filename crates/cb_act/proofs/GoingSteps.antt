@@ -1,5 +1,5 @@
 -- What switches, static fields, calls and returns leave is what the step leaves.
-use Rattle.std.proofs.Common.{◌≡◌, ◌∙◌, ap, refl, sym, ℕ, ℤ, true, false, List, [], ◌∷◌, drop, Option, Some, None}
+use Rattle.std.proofs.Common.{◌≡◌, ◌∙◌, ap, refl, sym, ℕ, ℤ, true, List, [], ◌∷◌, drop, Option, Some, None}
 use Rattle.std.proofs.lemmas.Bool.{false≢true}
 use Rattle.std.specs.Prelude.{option_and_then, option_map, slice_get}
 use Rattle.cb_frames.specs.Tops.{at_place as placed_at, changed_in, pushed, with_stack}

@@ -1,5 +1,5 @@
 -- What an invokeinterface asks for: the interface that its constant names, in the class of the method that runs.
-use Rattle.std.proofs.Common.{◌≡◌, ◌∙◌, ◌⊎◌, inl, inr, ap, refl, sym, ℕ, true, false, List, [], ◌∷◌, map, Option, Some, None, zero, suc}
+use Rattle.std.proofs.Common.{◌≡◌, ◌∙◌, ◌⊎◌, inl, inr, ap, refl, sym, ℕ, true, List, [], ◌∷◌, map, Option, Some, None, zero, suc}
 use Rattle.std.proofs.lemmas.Bool.{false≢true}
 use Rattle.std.proofs.lemmas.Option.{none-some, same_Some, slice_get-map}
 use Rattle.std.specs.Prelude.{IsSomeAnd, is_some, option_and_then, option_map, slice_get}

@@ -20,5 +20,7 @@ pub use Rattle.cb_act.proofs.PlacingSteps.{thrown_so}
 pub use Rattle.cb_act.proofs.PlainLaws.{branches_is, branches_kept, framed_so, goes_forward, goes_kept, some_framed, told_is}
 pub use Rattle.cb_act.proofs.Read.{stacked_read}
 pub use Rattle.cb_act.proofs.ReadGoing.{switch_read}
-pub use Rattle.cb_act.proofs.TurnsStand.{after_one_more, planned, turn_stands, turns_stand}
+pub use Rattle.cb_act.proofs.TurnsGrown.{turn_grows, turns_grow, whole_grows}
+pub use Rattle.cb_act.proofs.TurnsStand.{after_one_more, collected_stands, kept_plan_so, planned, turn_stands, turns_stand, whole_stands}
+pub use Rattle.cb_act.proofs.SweepLaws.{NotGc, gc_asked, no_gc}
 pub use Rattle.cb_act.proofs.WordLaws.{word_signed}

@@ -7,6 +7,7 @@ mod ClassLaws
 mod ClassSteps
 mod EachOf
 mod FieldLaws
+mod FollowLaws
 mod FrameLeft
 mod FramesActed
 mod FramesKept
@@ -50,7 +51,9 @@ mod PlainLaws
 mod Read
 mod ReadGoing
 mod SortLaws
+mod SweepLaws
 mod Taken
+mod TurnsGrown
 mod TurnsNestedStack
 mod TurnsStand
 mod UnwoundSteps

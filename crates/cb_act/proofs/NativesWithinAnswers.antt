@@ -1,5 +1,5 @@
 -- References pass in what natives give that give a number, an object that was there, or nothing.
-use Rattle.std.proofs.Common.{ℕ, ℤ, pos, negsuc, ◌-◌, ◌==◌, Bool, false, List, [], ◌∷◌, length, Option, Some, None, zero, suc, if◌then◌else◌, slice_get}
+use Rattle.std.proofs.Common.{ℕ, ℤ, pos, negsuc, ◌==◌, Bool, false, List, [], ◌∷◌, length, Option, Some, None, zero, suc, if◌then◌else◌, slice_get}
 use Rattle.std.specs.Prelude.{option_and_then}
 use Rattle.std.specs.Int.{Width, w32, w64}
 use Rattle.std.specs.Ordering.{int_eq}

@@ -1,5 +1,5 @@
 -- What is left where an object is placed is what the step leaves; and calls that enter a method.
-use Rattle.std.proofs.Common.{◌≡◌, ◌∙◌, ap, refl, sym, ℕ, pos, negsuc, ◌+◌, true, false, List, [], ◌∷◌, ◌++◌, drop, length, replicate, reverse, take, Option, Some, None}
+use Rattle.std.proofs.Common.{◌≡◌, ◌∙◌, ap, refl, sym, ℕ, pos, negsuc, ◌+◌, true, List, [], ◌∷◌, ◌++◌, drop, length, replicate, reverse, take, Option, Some, None}
 use Rattle.std.proofs.Math.Seq.{drop-append_seam, take-append_seam}
 use Rattle.std.proofs.lemmas.Bool.{false≢true}
 use Rattle.std.specs.Prelude.{option_map, slice_get, if◌then◌else◌}

@@ -1,5 +1,5 @@
 -- What is read of a word goes by the sort of a type alone, and what the values of a field are is told where one is named.
-use Rattle.std.proofs.Common.{◌≡◌, ◌∙◌, ap, refl, subst, sym, ℕ, true, false, List, [], ◌∷◌, Option, Some, None}
+use Rattle.std.proofs.Common.{◌≡◌, ◌∙◌, ap, refl, subst, sym, ℕ, true, List, [], ◌∷◌, Option, Some, None}
 use Rattle.std.proofs.lemmas.Bool.{false≢true}
 use Rattle.std.specs.Prelude.{is_some, option_and_then, option_map, slice_get}
 use Rattle.cb_frames.specs.Tops.{top_stack}

@@ -8,7 +8,7 @@ use Rattle.cb_kinds.specs.declared.basic.Basic.{Basic}
 use Rattle.cb_kinds.specs.declared.basic.Basic.TheVariants as basics
 use Rattle.cb_machine.specs.Values.{sort_of_basic, value_in}
 use Rattle.cb_plain.specs.declared.value.Value.TheVariants as values
-use Rattle.cb_plain.specs.State.{Content, Number, Reference}
+use Rattle.cb_plain.specs.State.{Content, Number}
 use Rattle.cb_shapes.specs.declared.sort.Sort.TheVariants as sorts
 
 -- a word of 64 bits is read with its sign

@@ -1,6 +1,7 @@
 pub mod Acting
 pub mod Changing
 pub mod Classes
+pub mod Coming
 pub mod Effects
 pub mod Framing
 pub mod Going
@@ -11,6 +12,7 @@ pub mod Placing
 pub mod Plain
 pub mod Steps
 pub mod Suited
+pub mod Sweeping
 pub mod Turning
 pub mod Unwound
 pub mod Within

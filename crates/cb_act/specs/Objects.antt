@@ -1,11 +1,10 @@
 -- What instructions that look at objects do to roots and objects.
-use Rattle.std.specs.Prelude.{ℤ, pos, ℕ, Bool, true, false, FitsSigned, ◌≡◌, ◌<◌, IsTrue, List, [], ◌∷◌, length, Option, Some, None, option_and_then, option_map, slice_get, if◌then◌else◌, zero, suc}
+use Rattle.std.specs.Prelude.{ℤ, pos, ℕ, Bool, true, false, FitsSigned, ◌<◌, List, [], ◌∷◌, length, Option, Some, None, option_and_then, option_map, slice_get, if◌then◌else◌, zero, suc}
 use Rattle.std.specs.Int.{w32}
 use Rattle.std.specs.declared.result.Result.{Result}
 use Rattle.std.specs.declared.result.Result.TheVariants.{Ok, Err}
-use Rattle.cb_heap.specs.Kept.{content_at, contents_at, is_held, with_content}
+use Rattle.cb_heap.specs.Kept.{content_at, contents_at, with_content}
 use Rattle.cb_heap.specs.Reading.{View}
-use Rattle.cb_heap.specs.Store.{may_point}
 use Rattle.cb_frames.specs.Tops.{top_stack}
 use Rattle.cb_kinds.specs.declared.basic.Basic.{Basic}
 use Rattle.cb_kinds.specs.declared.basic.Basic.TheVariants as basics
@@ -151,8 +150,3 @@ SuitsWord basic depth word view = suits_unless_null basic view word (object_on v
 abbrev pub SuitsWords : Basic → (depth : ℕ) → View → Type 0
 SuitsWords basic depth view =
     (word : ℕ) → word < length (contents_at view.objects (object_on view depth)) → Suits basic (content_at view.objects (object_on view depth) word)
-
--- the value on top of the stack may be put into the object at a depth: it is held, and their sites allow it
-pub record MayPut (allows : ℕ → ℕ → Bool) (depth : ℕ) (view : View) : Type 0 where
-  pub held : IsTrue (is_held view.objects (object_on view 0))
-  pub allowed : (place : ℕ) → object_on view depth ≡ suc place → IsTrue (may_point allows view.objects (suc place) (object_on view 0))

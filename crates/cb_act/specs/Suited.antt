@@ -1,6 +1,7 @@
 -- What a program asks of roots and objects before an instruction of it is done: room on the stack, and words that hold what is read of them.
-use Rattle.std.specs.Prelude.{◌≡◌, ◌<◌, ◌≤◌, ◌^◌, ℕ, Bool, true, IsTrue, length, Some}
+use Rattle.std.specs.Prelude.{◌≡◌, ◌<◌, ◌≤◌, ◌^◌, ℕ, Bool, true, IsTrue, length, Option, Some}
 use Rattle.cb_frames.specs.Tops.{left, runs_method, top_room}
+use Rattle.cb_heap.specs.Follows.{Follows}
 use Rattle.cb_heap.specs.Kept.{contents_at, is_held}
 use Rattle.cb_heap.specs.Reading.{View, read_value}
 use Rattle.cb_kinds.specs.declared.basic.Basic.{Basic}
@@ -21,9 +22,9 @@ use Rattle.cb_shapes.specs.declared.elements.Elements.{Elements}
 use Rattle.cb_shapes.specs.declared.sort.Sort.{Sort}
 use Rattle.cb_shapes.specs.declared.sort.Sort.TheVariants as sorts
 use Rattle.cb_machine.specs.Growing.{lays_one}
-use Rattle.cb_act.specs.Acting.{ArgumentsFit, acted, basic_on}
+use Rattle.cb_act.specs.Acting.{ArgumentsFit, Deed, Does, acted, basic_on}
 use Rattle.cb_act.specs.Framing.{growth_at}
-use Rattle.cb_act.specs.Objects.{MayPut, SuitsWord, SuitsWords, object_on}
+use Rattle.cb_act.specs.Objects.{SuitsWord, SuitsWords, object_on}
 
 -- the array at a depth of the stack has elements of a sort, each of which holds what is read of it
 pub record SuitsArray (program : Linked) (sort : Sort) (depth : ℕ) (view : View) : Type 0 where
@@ -39,7 +40,7 @@ pub record HasRoom (decoded : Decoded) (view : View) : Type 0 where
   pub returns : (sort : Sort) → decoded.action ≡ Some (actions.Return (Some sort)) → runs_method (left view.roots) ≡ true → 0 < top_room (left view.roots)
 
 -- of the objects on the stack, and of their words
-pub record HasWords (allows : ℕ → ℕ → Bool) (program : Linked) (decoded : Decoded) (view : View) : Type 0 where
+pub record HasWords (program : Linked) (decoded : Decoded) (view : View) : Type 0 where
   pub kinds : (serial : ℕ) (object : Object) → object_in view.objects serial ≡ Some object → object.kind < length program.kinds
   pub told : decoded.basic ≡ basic_named program decoded.named
   pub whole : (value : Value) → decoded.named ≡ meanings.Whole value → (index : ℕ → ℕ) → read_value index value ≡ value
@@ -54,10 +55,13 @@ pub record HasWords (allows : ℕ → ℕ → Bool) (program : Linked) (decoded 
   pub stored : (elements : Elements) → decoded.action ≡ Some (actions.StoreNumber elements) → SuitsArray program (sort_of_elements elements) 2 view
   pub references_loaded : decoded.action ≡ Some actions.LoadReference → SuitsArray program sorts.Reference 1 view
   pub references_stored : decoded.action ≡ Some actions.StoreReference → SuitsWords (basics.Reference 0) 2 view
-  pub allowed : (depth : ℕ) → MayPut allows depth view
 
 -- all of that; and the arguments of a call fit
-pub record Suited (allows : ℕ → ℕ → Bool) (program : Linked) (decoded : Decoded) (view : View) : Type 0 where
+pub record Suited (program : Linked) (decoded : Decoded) (view : View) : Type 0 where
   pub room : HasRoom decoded view
-  pub words : HasWords allows program decoded view
+  pub words : HasWords program decoded view
   pub arguments : ArgumentsFit program view (λ limit. acted program limit decoded view)
+
+-- what the instruction leaves, where it is done, has references that follow what sites allow
+pub record MayDo (allows : ℕ → ℕ → Bool) (deed : Option Deed) : Type 0 where
+  pub each : (after : View) → deed ≡ Some (Does after) → Follows allows after.objects

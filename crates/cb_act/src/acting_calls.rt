@@ -1,4 +1,5 @@
 // What instructions do that call methods, as whole steps, and those that make objects, of which here only sizes and classes are looked at.
+ghost use Rattle.cb_heap.specs.Storage.{view_in};
 ghost use Rattle.std.specs.Prelude.{◌≡◌, ◌≤◌, ◌<◌, ℕ, is_some, length, true, IsTrue, OnErr, Some};
 ghost use Rattle.cb_frames.specs.Tops.{top_stack};
 ghost use Rattle.cb_heap.specs.Reading.{seen};
@@ -31,11 +32,9 @@ pub(crate) fn makes_object<S: Store>(
     roots: &Roots,
     decoded: &Decoded,
 ) -> Need
-    requires there { is_some (on_kind (new_deed program.now (seen (S.index store.now)
-        (S.kept store.now) roots.now.roots)) decoded.now.named) ≡ true }
+    requires there { is_some (on_kind (new_deed program.now (view_in (S.storage store.now) roots.now.roots)) decoded.now.named) ≡ true }
     requires named { IsThere program.now decoded.now.named }
-    ensures { on_kind (new_deed program.now (seen (S.index store.now)
-        (S.kept store.now) roots.now.roots)) decoded.now.named ≡ Some (Asks result) }
+    ensures { on_kind (new_deed program.now (view_in (S.storage store.now) roots.now.roots)) decoded.now.named ≡ Some (Asks result) }
 {
     let _ = store;
     let Named::Kind(kind) = decoded.named else {
@@ -52,9 +51,8 @@ pub(crate) fn makes_object<S: Store>(
 
 /// `newarray`, `anewarray`, `multianewarray`: the sizes are on the stack, the last one on top.
 pub(crate) fn makes_arrays<S: Store>(store: &S, roots: &Roots, dimensions: u32) -> Need
-    requires there { is_some (arrays_deed (seen (S.index store.now)
-        (S.kept store.now) roots.now.roots) dimensions) ≡ true }
-    ensures { arrays_deed (seen (S.index store.now) (S.kept store.now) roots.now.roots) dimensions
+    requires there { is_some (arrays_deed (view_in (S.storage store.now) roots.now.roots) dimensions) ≡ true }
+    ensures { arrays_deed (view_in (S.storage store.now) roots.now.roots) dimensions
         ≡ Some (Asks result) }
 {
     let _ = store;
@@ -74,17 +72,13 @@ pub(crate) fn invokes_static<S: Store>(
     roots: &mut Roots,
     decoded: &Decoded,
 ) -> Result<(), Need>
-    requires there { is_some (on_method (static_deed program.now roots.old.limit (seen
-        (S.index store.now) (S.kept store.now) roots.old.roots)) decoded.now.named) ≡ true }
+    requires there { is_some (on_method (static_deed program.now roots.old.limit (view_in (S.storage store.now) roots.old.roots)) decoded.now.named) ≡ true }
     requires named { IsThere program.now decoded.now.named }
     requires natives { MarksNatives program.now }
     requires parameters { HasFewParameters program.now }
-    requires fit { ArgumentsFit program.now (seen (S.index store.now)
-        (S.kept store.now) roots.old.roots) (λ limit. on_method (static_deed program.now limit (seen
-        (S.index store.now) (S.kept store.now) roots.old.roots)) decoded.now.named) }
-    ensures deed { on_method (static_deed program.now roots.old.limit (seen (S.index store.now)
-        (S.kept store.now) roots.old.roots)) decoded.now.named
-        ≡ Some (deed_by result (seen (S.index store.now) (S.kept store.now) roots.new.roots)) }
+    requires fit { ArgumentsFit program.now (view_in (S.storage store.now) roots.old.roots) (λ limit. on_method (static_deed program.now limit (view_in (S.storage store.now) roots.old.roots)) decoded.now.named) }
+    ensures deed { on_method (static_deed program.now roots.old.limit (view_in (S.storage store.now) roots.old.roots)) decoded.now.named
+        ≡ Some (deed_by result (view_in (S.storage store.now) roots.new.roots)) }
     ensures same { OnErr result (roots.new ≡ roots.old) }
     ensures limit { roots.new.limit ≡ roots.old.limit }
 {
@@ -107,22 +101,18 @@ pub(crate) fn invokes_special<S: Store>(
     decoded: &Decoded,
     special: Selected,
 ) -> Result<(), Need>
-    requires there { is_some (on_method (receiver_deed program.now roots.old.limit (seen
-        (S.index store.now) (S.kept store.now) roots.old.roots)
+    requires there { is_some (on_method (receiver_deed program.now roots.old.limit (view_in (S.storage store.now) roots.old.roots)
         (λ kind. special)) decoded.now.named) ≡ true }
     requires named { IsThere program.now decoded.now.named }
     requires selected { IsOneOf (length program.now.methods) special }
     requires natives { MarksNatives program.now }
     requires parameters { HasFewParameters program.now }
-    requires held { (depth : ℕ) → IsTrue (is_held (S.kept store.now) (object_on (seen
-        (S.index store.now) (S.kept store.now) roots.old.roots) depth)) }
-    requires fit { ArgumentsFit program.now (seen (S.index store.now)
-        (S.kept store.now) roots.old.roots) (λ limit. on_method (receiver_deed program.now limit
-        (seen (S.index store.now) (S.kept store.now) roots.old.roots)
+    requires held { (depth : ℕ) → IsTrue (is_held (S.storage store.now).kept (object_on (view_in (S.storage store.now) roots.old.roots) depth)) }
+    requires fit { ArgumentsFit program.now (view_in (S.storage store.now) roots.old.roots) (λ limit. on_method (receiver_deed program.now limit
+        (view_in (S.storage store.now) roots.old.roots)
         (λ kind. special)) decoded.now.named) }
-    ensures deed { on_method (receiver_deed program.now roots.old.limit (seen (S.index store.now)
-        (S.kept store.now) roots.old.roots) (λ kind. special)) decoded.now.named
-        ≡ Some (deed_by result (seen (S.index store.now) (S.kept store.now) roots.new.roots)) }
+    ensures deed { on_method (receiver_deed program.now roots.old.limit (view_in (S.storage store.now) roots.old.roots) (λ kind. special)) decoded.now.named
+        ≡ Some (deed_by result (view_in (S.storage store.now) roots.new.roots)) }
     ensures same { OnErr result (roots.new ≡ roots.old) }
     ensures limit { roots.new.limit ≡ roots.old.limit }
 {
@@ -144,25 +134,20 @@ pub(crate) fn invokes_virtual<S: Store>(
     roots: &mut Roots,
     decoded: &Decoded,
 ) -> Result<(), Need>
-    requires there { is_some (on_method (λ method. receiver_deed program.now roots.old.limit (seen
-        (S.index store.now) (S.kept store.now) roots.old.roots)
+    requires there { is_some (on_method (λ method. receiver_deed program.now roots.old.limit (view_in (S.storage store.now) roots.old.roots)
         (λ kind. select program.now kind method) method) decoded.now.named) ≡ true }
     requires named { IsThere program.now decoded.now.named }
     requires natives { MarksNatives program.now }
     requires parameters { HasFewParameters program.now }
-    requires kinds { (serial : ℕ) (object : Object) → object_in (S.kept store.now) serial
+    requires kinds { (serial : ℕ) (object : Object) → object_in (S.storage store.now).kept serial
         ≡ Some object → object.kind < length program.now.kinds }
-    requires held { (depth : ℕ) → IsTrue (is_held (S.kept store.now) (object_on (seen
-        (S.index store.now) (S.kept store.now) roots.old.roots) depth)) }
-    requires fit { ArgumentsFit program.now (seen (S.index store.now)
-        (S.kept store.now) roots.old.roots) (λ limit. on_method
-        (λ method. receiver_deed program.now limit (seen (S.index store.now)
-        (S.kept store.now) roots.old.roots)
+    requires held { (depth : ℕ) → IsTrue (is_held (S.storage store.now).kept (object_on (view_in (S.storage store.now) roots.old.roots) depth)) }
+    requires fit { ArgumentsFit program.now (view_in (S.storage store.now) roots.old.roots) (λ limit. on_method
+        (λ method. receiver_deed program.now limit (view_in (S.storage store.now) roots.old.roots)
         (λ kind. select program.now kind method) method) decoded.now.named) }
-    ensures deed { on_method (λ method. receiver_deed program.now roots.old.limit (seen
-        (S.index store.now) (S.kept store.now) roots.old.roots)
+    ensures deed { on_method (λ method. receiver_deed program.now roots.old.limit (view_in (S.storage store.now) roots.old.roots)
         (λ kind. select program.now kind method) method) decoded.now.named
-        ≡ Some (deed_by result (seen (S.index store.now) (S.kept store.now) roots.new.roots)) }
+        ≡ Some (deed_by result (view_in (S.storage store.now) roots.new.roots)) }
     ensures same { OnErr result (roots.new ≡ roots.old) }
     ensures limit { roots.new.limit ≡ roots.old.limit }
 {
@@ -187,17 +172,12 @@ pub(crate) fn calls<S: Store>(
     count: u32,
     selected: Selected,
 ) -> Result<(), Need>
-    requires there { is_some (call_deed program.now roots.old.limit (seen (S.index store.now)
-        (S.kept store.now) roots.old.roots) count selected) ≡ true }
+    requires there { is_some (call_deed program.now roots.old.limit (view_in (S.storage store.now) roots.old.roots) count selected) ≡ true }
     requires few { count ≤ length (top_stack roots.old.roots) }
     requires selected { IsOneOf (length program.now.methods) selected }
     requires natives { MarksNatives program.now }
-    requires fit { ArgumentsFit program.now (seen (S.index store.now)
-        (S.kept store.now) roots.old.roots) (λ limit. call_deed program.now limit (seen
-        (S.index store.now) (S.kept store.now) roots.old.roots) count selected) }
-    ensures deed { call_deed program.now roots.old.limit (seen (S.index store.now)
-        (S.kept store.now) roots.old.roots) count selected ≡ Some (deed_by result (seen
-        (S.index store.now) (S.kept store.now) roots.new.roots)) }
+    requires fit { ArgumentsFit program.now (view_in (S.storage store.now) roots.old.roots) (λ limit. call_deed program.now limit (view_in (S.storage store.now) roots.old.roots) count selected) }
+    ensures deed { call_deed program.now roots.old.limit (view_in (S.storage store.now) roots.old.roots) count selected ≡ Some (deed_by result (view_in (S.storage store.now) roots.new.roots)) }
     ensures same { OnErr result (roots.new ≡ roots.old) }
     ensures limit { roots.new.limit ≡ roots.old.limit }
 {
@@ -220,12 +200,9 @@ fn enters<S: Store>(
     requires few { count ≤ length (top_stack roots.old.roots) }
     requires low { method < length program.now.methods }
     requires natives { MarksNatives program.now }
-    requires fit { ArgumentsFit program.now (seen (S.index store.now)
-        (S.kept store.now) roots.old.roots) (λ limit. call_deed program.now limit (seen
-        (S.index store.now) (S.kept store.now) roots.old.roots) count (chosen.Method method)) }
-    ensures deed { call_deed program.now roots.old.limit (seen (S.index store.now)
-        (S.kept store.now) roots.old.roots) count (chosen.Method method)
-        ≡ Some (deed_by result (seen (S.index store.now) (S.kept store.now) roots.new.roots)) }
+    requires fit { ArgumentsFit program.now (view_in (S.storage store.now) roots.old.roots) (λ limit. call_deed program.now limit (view_in (S.storage store.now) roots.old.roots) count (chosen.Method method)) }
+    ensures deed { call_deed program.now roots.old.limit (view_in (S.storage store.now) roots.old.roots) count (chosen.Method method)
+        ≡ Some (deed_by result (view_in (S.storage store.now) roots.new.roots)) }
     ensures same { OnErr result (roots.new ≡ roots.old) }
     ensures limit { roots.new.limit ≡ roots.old.limit }
 {

@@ -1,4 +1,5 @@
 // What instructions on the topmost frame alone do, as whole steps, and those that go on elsewhere.
+ghost use Rattle.cb_heap.specs.Storage.{view_in};
 ghost use Rattle.std.specs.Prelude.{◌≡◌, ◌≤◌, ◌<◌, ℕ, false, is_some, length, option_map, slice_get, true, IsTrue, OnErr, Some};
 ghost use Rattle.cb_frames.specs.Tops.{left, runs_method, top_room};
 ghost use Rattle.cb_heap.specs.Kept.{is_held};
@@ -36,14 +37,11 @@ pub(crate) fn computes<S: Store>(
     action: &Action,
 ) -> Result<(), Need>
     requires plain { is_plain action.now ≡ true }
-    requires there { is_some (frame_deed decoded.now (seen (S.index store.now)
-        (S.kept store.now) roots.old.roots) action.now) ≡ true }
+    requires there { is_some (frame_deed decoded.now (view_in (S.storage store.now) roots.old.roots) action.now) ≡ true }
     requires runs { runs_method roots.old.roots ≡ true }
     requires room { growth_at action.now (read_roots
-        (S.index store.now) roots.old.roots) ≤ top_room roots.old.roots }
-    ensures deed { frame_deed decoded.now (seen (S.index store.now)
-        (S.kept store.now) roots.old.roots) action.now ≡ Some (deed_by result (seen (S.index store.now)
-        (S.kept store.now) roots.new.roots)) }
+        (S.storage store.now).index roots.old.roots) ≤ top_room roots.old.roots }
+    ensures deed { frame_deed decoded.now (view_in (S.storage store.now) roots.old.roots) action.now ≡ Some (deed_by result (view_in (S.storage store.now) roots.new.roots)) }
     ensures same { OnErr result (roots.new ≡ roots.old) }
     ensures limit { roots.new.limit ≡ roots.old.limit }
 {
@@ -62,14 +60,11 @@ pub fn is_computed<S: Store>(
     action: &Action,
 ) -> bool
     requires plain { is_plain action.now ≡ true }
-    requires there { is_some (frame_deed decoded.now (seen (S.index store.now)
-        (S.kept store.now) roots.old.roots) action.now) ≡ true }
+    requires there { is_some (frame_deed decoded.now (view_in (S.storage store.now) roots.old.roots) action.now) ≡ true }
     requires runs { runs_method roots.old.roots ≡ true }
     requires room { growth_at action.now (read_roots
-        (S.index store.now) roots.old.roots) ≤ top_room roots.old.roots }
-    ensures deed { frame_deed decoded.now (seen (S.index store.now)
-        (S.kept store.now) roots.old.roots) action.now ≡ Some (computed_deed result (seen (S.index store.now)
-        (S.kept store.now) roots.new.roots)) }
+        (S.storage store.now).index roots.old.roots) ≤ top_room roots.old.roots }
+    ensures deed { frame_deed decoded.now (view_in (S.storage store.now) roots.old.roots) action.now ≡ Some (computed_deed result (view_in (S.storage store.now) roots.new.roots)) }
     ensures same { result ≡ false → roots.new ≡ roots.old }
     ensures limit { roots.new.limit ≡ roots.old.limit }
 {
@@ -86,16 +81,12 @@ pub(crate) fn compares<S: Store>(
     decoded: &Decoded,
     are: bool,
 ) -> Result<(), Need>
-    requires there { is_some (frame_deed decoded.now (seen (S.index store.now)
-        (S.kept store.now) roots.old.roots) (actions.Branch (conditions.AreSame are))) ≡ true }
+    requires there { is_some (frame_deed decoded.now (view_in (S.storage store.now) roots.old.roots) (actions.Branch (conditions.AreSame are))) ≡ true }
     requires runs { runs_method roots.old.roots ≡ true }
-    requires first { IsTrue (is_held (S.kept store.now) (object_on (seen (S.index store.now)
-        (S.kept store.now) roots.old.roots) 0)) }
-    requires second { IsTrue (is_held (S.kept store.now) (object_on (seen (S.index store.now)
-        (S.kept store.now) roots.old.roots) 1)) }
-    ensures deed { frame_deed decoded.now (seen (S.index store.now)
-        (S.kept store.now) roots.old.roots) (actions.Branch (conditions.AreSame are))
-        ≡ Some (deed_by result (seen (S.index store.now) (S.kept store.now) roots.new.roots)) }
+    requires first { IsTrue (is_held (S.storage store.now).kept (object_on (view_in (S.storage store.now) roots.old.roots) 0)) }
+    requires second { IsTrue (is_held (S.storage store.now).kept (object_on (view_in (S.storage store.now) roots.old.roots) 1)) }
+    ensures deed { frame_deed decoded.now (view_in (S.storage store.now) roots.old.roots) (actions.Branch (conditions.AreSame are))
+        ≡ Some (deed_by result (view_in (S.storage store.now) roots.new.roots)) }
     ensures same { OnErr result (roots.new ≡ roots.old) }
     ensures limit { roots.new.limit ≡ roots.old.limit }
 {
@@ -113,15 +104,13 @@ pub(crate) fn loads_constant<S: Store>(
     roots: &mut Roots,
     decoded: &Decoded,
 ) -> Result<(), Need>
-    requires there { is_some (constant_deed decoded.now (seen (S.index store.now)
-        (S.kept store.now) roots.old.roots) decoded.now.named) ≡ true }
+    requires there { is_some (constant_deed decoded.now (view_in (S.storage store.now) roots.old.roots) decoded.now.named) ≡ true }
     requires runs { runs_method roots.old.roots ≡ true }
     requires room { 0 < top_room roots.old.roots }
     requires number { (value : AnyValue) → decoded.now.named ≡ meanings.Whole value
-        → read_value (S.index store.now) value ≡ value }
-    ensures deed { constant_deed decoded.now (seen (S.index store.now)
-        (S.kept store.now) roots.old.roots) decoded.now.named
-        ≡ Some (deed_by result (seen (S.index store.now) (S.kept store.now) roots.new.roots)) }
+        → read_value (S.storage store.now).index value ≡ value }
+    ensures deed { constant_deed decoded.now (view_in (S.storage store.now) roots.old.roots) decoded.now.named
+        ≡ Some (deed_by result (view_in (S.storage store.now) roots.new.roots)) }
     ensures same { OnErr result (roots.new ≡ roots.old) }
     ensures limit { roots.new.limit ≡ roots.old.limit }
 {
@@ -143,13 +132,11 @@ pub(crate) fn gets_static<S: Store>(
     roots: &mut Roots,
     decoded: &Decoded,
 ) -> Result<(), Need>
-    requires there { is_some (on_static (get_deed decoded.now (seen (S.index store.now)
-        (S.kept store.now) roots.old.roots)) decoded.now.named) ≡ true }
+    requires there { is_some (on_static (get_deed decoded.now (view_in (S.storage store.now) roots.old.roots)) decoded.now.named) ≡ true }
     requires runs { runs_method roots.old.roots ≡ true }
     requires room { 0 < top_room roots.old.roots }
-    ensures deed { on_static (get_deed decoded.now (seen (S.index store.now)
-        (S.kept store.now) roots.old.roots)) decoded.now.named
-        ≡ Some (deed_by result (seen (S.index store.now) (S.kept store.now) roots.new.roots)) }
+    ensures deed { on_static (get_deed decoded.now (view_in (S.storage store.now) roots.old.roots)) decoded.now.named
+        ≡ Some (deed_by result (view_in (S.storage store.now) roots.new.roots)) }
     ensures same { OnErr result (roots.new ≡ roots.old) }
     ensures limit { roots.new.limit ≡ roots.old.limit }
 {
@@ -175,16 +162,14 @@ pub(crate) fn puts_static<S: Store>(
     roots: &mut Roots,
     decoded: &Decoded,
 ) -> Result<(), Need>
-    requires there { is_some (on_static (put_deed program.now decoded.now (seen (S.index store.now)
-        (S.kept store.now) roots.old.roots)) decoded.now.named) ≡ true }
+    requires there { is_some (on_static (put_deed program.now decoded.now (view_in (S.storage store.now) roots.old.roots)) decoded.now.named) ≡ true }
     requires named { IsThere program.now decoded.now.named }
     requires runs { runs_method roots.old.roots ≡ true }
     requires low { (class slot : ℕ) → decoded.now.named ≡ meanings.Static class slot
         → slot < length roots.old.roots.statics }
     requires told { decoded.now.basic ≡ basic_named program.now decoded.now.named }
-    ensures deed { on_static (put_deed program.now decoded.now (seen (S.index store.now)
-        (S.kept store.now) roots.old.roots)) decoded.now.named
-        ≡ Some (deed_by result (seen (S.index store.now) (S.kept store.now) roots.new.roots)) }
+    ensures deed { on_static (put_deed program.now decoded.now (view_in (S.storage store.now) roots.old.roots)) decoded.now.named
+        ≡ Some (deed_by result (view_in (S.storage store.now) roots.new.roots)) }
     ensures same { OnErr result (roots.new ≡ roots.old) }
     ensures limit { roots.new.limit ≡ roots.old.limit }
 {
@@ -206,12 +191,12 @@ pub(crate) fn puts_static<S: Store>(
 #[inline(always)]
 pub(crate) fn returns<S: Store>(program: &Program, store: &S, roots: &mut Roots, sort: Option<Sort>)
     requires there { is_some (behind_return program.now sort (read_roots
-        (S.index store.now) roots.old.roots)) ≡ true }
+        (S.storage store.now).index roots.old.roots)) ≡ true }
     requires runs { runs_method roots.old.roots ≡ true }
     requires room { is_some sort ≡ true → runs_method (left roots.old.roots) ≡ true
         → 0 < top_room (left roots.old.roots) }
-    ensures deed { behind_return program.now sort (read_roots (S.index store.now) roots.old.roots)
-        ≡ Some (read_roots (S.index store.now) roots.new.roots) }
+    ensures deed { behind_return program.now sort (read_roots (S.storage store.now).index roots.old.roots)
+        ≡ Some (read_roots (S.storage store.now).index roots.new.roots) }
     ensures limit { roots.new.limit ≡ roots.old.limit }
 {
     let _ = store;

@@ -1,4 +1,5 @@
 // What `invokeinterface` does, as a whole step.
+ghost use Rattle.cb_heap.specs.Storage.{view_in};
 ghost use Rattle.std.specs.Prelude.{◌≡◌, ◌<◌, ℕ, is_some, length, option_and_then, option_map, true, IfSome, IsTrue, OnErr, Some};
 ghost use Rattle.cb_heap.specs.Kept.{is_held};
 ghost use Rattle.cb_heap.specs.Reading.{seen};
@@ -32,22 +33,17 @@ pub(crate) fn invokes_interface<S: Store>(
     decoded: &Decoded,
     index: u16,
 ) -> Result<(), Need>
-    requires there { is_some (interface_called program.now roots.old.limit (seen
-        (S.index store.now) (S.kept store.now) roots.old.roots) index decoded.now.named) ≡ true }
+    requires there { is_some (interface_called program.now roots.old.limit (view_in (S.storage store.now) roots.old.roots) index decoded.now.named) ≡ true }
     requires named { IsThere program.now decoded.now.named }
     requires listed { ListsMethods program.now }
     requires natives { MarksNatives program.now }
     requires parameters { HasFewParameters program.now }
-    requires kinds { (serial : ℕ) (object : Object) → object_in (S.kept store.now) serial
+    requires kinds { (serial : ℕ) (object : Object) → object_in (S.storage store.now).kept serial
         ≡ Some object → object.kind < length program.now.kinds }
-    requires held { (depth : ℕ) → IsTrue (is_held (S.kept store.now) (object_on (seen
-        (S.index store.now) (S.kept store.now) roots.old.roots) depth)) }
-    requires fit { ArgumentsFit program.now (seen (S.index store.now)
-        (S.kept store.now) roots.old.roots) (λ limit. interface_called program.now limit (seen
-        (S.index store.now) (S.kept store.now) roots.old.roots) index decoded.now.named) }
-    ensures deed { interface_called program.now roots.old.limit (seen (S.index store.now)
-        (S.kept store.now) roots.old.roots) index decoded.now.named
-        ≡ Some (deed_by result (seen (S.index store.now) (S.kept store.now) roots.new.roots)) }
+    requires held { (depth : ℕ) → IsTrue (is_held (S.storage store.now).kept (object_on (view_in (S.storage store.now) roots.old.roots) depth)) }
+    requires fit { ArgumentsFit program.now (view_in (S.storage store.now) roots.old.roots) (λ limit. interface_called program.now limit (view_in (S.storage store.now) roots.old.roots) index decoded.now.named) }
+    ensures deed { interface_called program.now roots.old.limit (view_in (S.storage store.now) roots.old.roots) index decoded.now.named
+        ≡ Some (deed_by result (view_in (S.storage store.now) roots.new.roots)) }
     ensures same { OnErr result (roots.new ≡ roots.old) }
     ensures limit { roots.new.limit ≡ roots.old.limit }
 {
@@ -70,22 +66,16 @@ fn calls_interface<S: Store>(
     index: u16,
     method: u32,
 ) -> Result<(), Need>
-    requires there { is_some (interface_deed program.now roots.old.limit (seen
-        (S.index store.now) (S.kept store.now) roots.old.roots) caller index method) ≡ true }
+    requires there { is_some (interface_deed program.now roots.old.limit (view_in (S.storage store.now) roots.old.roots) caller index method) ≡ true }
     requires method { method < length program.now.methods }
     requires listed { ListsMethods program.now }
     requires natives { MarksNatives program.now }
     requires parameters { HasFewParameters program.now }
-    requires kinds { (serial : ℕ) (object : Object) → object_in (S.kept store.now) serial
+    requires kinds { (serial : ℕ) (object : Object) → object_in (S.storage store.now).kept serial
         ≡ Some object → object.kind < length program.now.kinds }
-    requires held { (depth : ℕ) → IsTrue (is_held (S.kept store.now) (object_on (seen
-        (S.index store.now) (S.kept store.now) roots.old.roots) depth)) }
-    requires fit { ArgumentsFit program.now (seen (S.index store.now)
-        (S.kept store.now) roots.old.roots) (λ limit. interface_deed program.now limit (seen
-        (S.index store.now) (S.kept store.now) roots.old.roots) caller index method) }
-    ensures deed { interface_deed program.now roots.old.limit (seen (S.index store.now)
-        (S.kept store.now) roots.old.roots) caller index method ≡ Some (deed_by result (seen
-        (S.index store.now) (S.kept store.now) roots.new.roots)) }
+    requires held { (depth : ℕ) → IsTrue (is_held (S.storage store.now).kept (object_on (view_in (S.storage store.now) roots.old.roots) depth)) }
+    requires fit { ArgumentsFit program.now (view_in (S.storage store.now) roots.old.roots) (λ limit. interface_deed program.now limit (view_in (S.storage store.now) roots.old.roots) caller index method) }
+    ensures deed { interface_deed program.now roots.old.limit (view_in (S.storage store.now) roots.old.roots) caller index method ≡ Some (deed_by result (view_in (S.storage store.now) roots.new.roots)) }
     ensures same { OnErr result (roots.new ≡ roots.old) }
     ensures limit { roots.new.limit ≡ roots.old.limit }
 {
@@ -106,22 +96,16 @@ fn calls_implementing<S: Store>(
     index: u16,
     method: u32,
 ) -> Result<(), Need>
-    requires there { is_some (implementing_deed program.now roots.old.limit (seen
-        (S.index store.now) (S.kept store.now) roots.old.roots) caller index method) ≡ true }
+    requires there { is_some (implementing_deed program.now roots.old.limit (view_in (S.storage store.now) roots.old.roots) caller index method) ≡ true }
     requires method { method < length program.now.methods }
     requires listed { ListsMethods program.now }
     requires natives { MarksNatives program.now }
     requires parameters { HasFewParameters program.now }
-    requires kinds { (serial : ℕ) (object : Object) → object_in (S.kept store.now) serial
+    requires kinds { (serial : ℕ) (object : Object) → object_in (S.storage store.now).kept serial
         ≡ Some object → object.kind < length program.now.kinds }
-    requires held { (depth : ℕ) → IsTrue (is_held (S.kept store.now) (object_on (seen
-        (S.index store.now) (S.kept store.now) roots.old.roots) depth)) }
-    requires fit { ArgumentsFit program.now (seen (S.index store.now)
-        (S.kept store.now) roots.old.roots) (λ limit. implementing_deed program.now limit (seen
-        (S.index store.now) (S.kept store.now) roots.old.roots) caller index method) }
-    ensures deed { implementing_deed program.now roots.old.limit (seen (S.index store.now)
-        (S.kept store.now) roots.old.roots) caller index method ≡ Some (deed_by result (seen
-        (S.index store.now) (S.kept store.now) roots.new.roots)) }
+    requires held { (depth : ℕ) → IsTrue (is_held (S.storage store.now).kept (object_on (view_in (S.storage store.now) roots.old.roots) depth)) }
+    requires fit { ArgumentsFit program.now (view_in (S.storage store.now) roots.old.roots) (λ limit. implementing_deed program.now limit (view_in (S.storage store.now) roots.old.roots) caller index method) }
+    ensures deed { implementing_deed program.now roots.old.limit (view_in (S.storage store.now) roots.old.roots) caller index method ≡ Some (deed_by result (view_in (S.storage store.now) roots.new.roots)) }
     ensures same { OnErr result (roots.new ≡ roots.old) }
     ensures limit { roots.new.limit ≡ roots.old.limit }
 {

@@ -8,7 +8,6 @@ ghost use Rattle.cb_plain.specs.State.{State};
 ghost use Rattle.cb_act.specs.Acting.{acted};
 ghost use Rattle.cb_act.specs.Here.{Acts, GoesOn, Here, LooksAtArrays, planned_as};
 ghost use Rattle.cb_act.specs.Steps.{view_of};
-ghost use Rattle.cb_act.specs.Suited.{Suited};
 
 /// The step of a machine that stands at an instruction is what `act` does of it: it leaves these roots and objects, or is what has to be
 /// done in its place.

@@ -1,8 +1,10 @@
 // What instructions on objects do, as whole steps.
+ghost use Rattle.cb_heap.specs.Storage.{view_in};
 ghost use Rattle.std.specs.Prelude.{◌≡◌, ◌<◌, ◌^◌, ℕ, is_some, length, option_map, slice_get, true, IsTrue, OnErr, Some};
 ghost use Rattle.cb_frames.specs.Tops.{runs_method, top_stack};
+ghost use Rattle.cb_heap.specs.Follows.{Follows};
 ghost use Rattle.cb_heap.specs.Kept.{contents_at, is_held};
-ghost use Rattle.cb_heap.specs.Reading.{seen};
+ghost use Rattle.cb_heap.specs.Reading.{View, seen};
 ghost use Rattle.cb_kinds.specs.declared.basic.Basic.{Basic as AnyBasic};
 ghost use Rattle.cb_kinds.specs.declared.basic.Basic.TheVariants as basics;
 ghost use Rattle.cb_link.specs.Decoding.{basic_named};
@@ -13,9 +15,9 @@ ghost use Rattle.cb_plain.specs.State.{Object};
 ghost use Rattle.cb_plain.specs.Updates.{object_in};
 ghost use Rattle.cb_shapes.specs.declared.sort.Sort.TheVariants as sorts;
 ghost use Rattle.cb_act.specs.Effects.{has_sort};
-ghost use Rattle.cb_act.specs.Acting.{basic_on, deed_by, default_of, fits_on, going_on, loaded, of_left, of_pended, on_field, on_kind, stored};
+ghost use Rattle.cb_act.specs.Acting.{Does, basic_on, deed_by, default_of, fits_on, going_on, loaded, of_left, of_pended, on_field, on_kind, stored};
 ghost use Rattle.cb_act.specs.Classes.{HasKind, behind_cast, behind_instance, behind_throw};
-ghost use Rattle.cb_act.specs.Objects.{MayPut, SuitsWord, SuitsWords, behind_get_field, behind_length, behind_put_field};
+ghost use Rattle.cb_act.specs.Objects.{SuitsWord, SuitsWords, behind_get_field, behind_length, behind_put_field};
 ghost use Rattle.cb_act.specs.Objects.{behind_store_reference, left_by, object_on};
 ghost use Rattle.cb_act.specs.Suited.{SuitsArray};
 
@@ -41,17 +43,15 @@ pub(crate) fn gets_field<S: Store>(
 ) -> Result<(), Need>
     requires told { decoded.now.basic ≡ basic_named program.now decoded.now.named }
     requires there { is_some (on_field program.now (λ slot basic. going_on decoded.now
-        (behind_get_field slot basic (seen (S.index store.now)
-        (S.kept store.now) roots.old.roots))) decoded.now.named) ≡ true }
+        (behind_get_field slot basic (view_in (S.storage store.now) roots.old.roots))) decoded.now.named) ≡ true }
     requires named { IsThere program.now decoded.now.named }
     requires runs { runs_method roots.old.roots ≡ true }
     requires suits { (class slot : ℕ) (basic : AnyBasic) → decoded.now.named
         ≡ meanings.Field class slot → field_basic program.now class slot ≡ Some basic
-        → SuitsWord basic 0 slot (seen (S.index store.now) (S.kept store.now) roots.old.roots) }
+        → SuitsWord basic 0 slot (view_in (S.storage store.now) roots.old.roots) }
     ensures deed { on_field program.now (λ slot basic. going_on decoded.now
-        (behind_get_field slot basic (seen (S.index store.now)
-        (S.kept store.now) roots.old.roots))) decoded.now.named
-        ≡ Some (deed_by result (seen (S.index store.now) (S.kept store.now) roots.new.roots)) }
+        (behind_get_field slot basic (view_in (S.storage store.now) roots.old.roots))) decoded.now.named
+        ≡ Some (deed_by result (view_in (S.storage store.now) roots.new.roots)) }
     ensures same { OnErr result (roots.new ≡ roots.old) }
     ensures limit { roots.new.limit ≡ roots.old.limit }
 {
@@ -75,29 +75,25 @@ pub(crate) fn puts_field<S: Store>(
 ) -> Result<(), Need>
     requires told { decoded.now.basic ≡ basic_named program.now decoded.now.named }
     requires there { is_some (on_field program.now (λ slot basic. going_on decoded.now
-        (behind_put_field slot basic (seen (S.index store.old)
-        (S.kept store.old) roots.old.roots))) decoded.now.named) ≡ true }
+        (behind_put_field slot basic (view_in (S.storage store.old) roots.old.roots))) decoded.now.named) ≡ true }
     requires named { IsThere program.now decoded.now.named }
     requires runs { runs_method roots.old.roots ≡ true }
     requires suits { (class slot : ℕ) (basic : AnyBasic) → decoded.now.named
         ≡ meanings.Field class slot → field_basic program.now class slot ≡ Some basic
-        → SuitsWord basic 1 slot (seen (S.index store.old) (S.kept store.old) roots.old.roots) }
-    requires may { MayPut (S.allows store.old) 1 (seen (S.index store.old)
-        (S.kept store.old) roots.old.roots) }
+        → SuitsWord basic 1 slot (view_in (S.storage store.old) roots.old.roots) }
+    requires held { IsTrue (is_held (S.storage store.old).kept (object_on (view_in (S.storage store.old) roots.old.roots) 0)) }
+    requires follows { (after : View) → on_field program.now (λ slot basic. going_on decoded.now (behind_put_field slot basic (view_in (S.storage store.old) roots.old.roots))) decoded.now.named ≡ Some (Does after) → Follows (S.storage store.old).settings.allows after.objects }
     ensures deed { on_field program.now (λ slot basic. going_on decoded.now
-        (behind_put_field slot basic (seen (S.index store.old)
-        (S.kept store.old) roots.old.roots))) decoded.now.named
-        ≡ Some (deed_by result (seen (S.index store.new) (S.kept store.new) roots.new.roots)) }
+        (behind_put_field slot basic (view_in (S.storage store.old) roots.old.roots))) decoded.now.named
+        ≡ Some (deed_by result (view_in (S.storage store.new) roots.new.roots)) }
     ensures same { OnErr result (roots.new ≡ roots.old) }
-    ensures held { OnErr result (S.kept store.new ≡ S.kept store.old) }
+    ensures held { OnErr result ((S.storage store.new).kept ≡ (S.storage store.old).kept) }
     ensures limit { roots.new.limit ≡ roots.old.limit }
-    ensures places { S.index store.new ≡ S.index store.old }
-    ensures facts { S.facts store.new ≡ S.facts store.old }
-    ensures granted { S.granted store.new ≡ S.granted store.old }
-    ensures faults { S.faults store.new ≡ S.faults store.old }
-    ensures knows { S.knows store.new ≡ S.knows store.old }
-    ensures allows { S.allows store.new ≡ S.allows store.old }
-    ensures shapes { S.shapes store.new ≡ S.shapes store.old }
+    ensures places { (S.storage store.new).index ≡ (S.storage store.old).index }
+    ensures facts { (S.storage store.new).facts ≡ (S.storage store.old).facts }
+    ensures granted { (S.storage store.new).granted ≡ (S.storage store.old).granted }
+    ensures faults { (S.storage store.new).faults ≡ (S.storage store.old).faults }
+    ensures settings { (S.storage store.new).settings ≡ (S.storage store.old).settings }
 {
     let Named::Field { slot, .. } = decoded.named else {
         unreachable!()
@@ -116,14 +112,10 @@ pub(crate) fn measures<S: Store>(
     roots: &mut Roots,
     decoded: &Decoded,
 ) -> Result<(), Need>
-    requires there { is_some (going_on decoded.now (behind_length (seen (S.index store.now)
-        (S.kept store.now) roots.old.roots))) ≡ true }
+    requires there { is_some (going_on decoded.now (behind_length (view_in (S.storage store.now) roots.old.roots))) ≡ true }
     requires runs { runs_method roots.old.roots ≡ true }
-    requires few { length (contents_at (S.kept store.now) (object_on (seen (S.index store.now)
-        (S.kept store.now) roots.old.roots) 0)) < 2 ^ 31 }
-    ensures deed { going_on decoded.now (behind_length (seen (S.index store.now)
-        (S.kept store.now) roots.old.roots)) ≡ Some (deed_by result (seen (S.index store.now)
-        (S.kept store.now) roots.new.roots)) }
+    requires few { length (contents_at (S.storage store.now).kept (object_on (view_in (S.storage store.now) roots.old.roots) 0)) < 2 ^ 31 }
+    ensures deed { going_on decoded.now (behind_length (view_in (S.storage store.now) roots.old.roots)) ≡ Some (deed_by result (view_in (S.storage store.now) roots.new.roots)) }
     ensures same { OnErr result (roots.new ≡ roots.old) }
     ensures limit { roots.new.limit ≡ roots.old.limit }
 {
@@ -143,14 +135,10 @@ pub(crate) fn loads<S: Store>(
     decoded: &Decoded,
     sort: Sort,
 ) -> Result<(), Need>
-    requires there { is_some (loaded program.now decoded.now (seen (S.index store.now)
-        (S.kept store.now) roots.old.roots) sort) ≡ true }
+    requires there { is_some (loaded program.now decoded.now (view_in (S.storage store.now) roots.old.roots) sort) ≡ true }
     requires runs { runs_method roots.old.roots ≡ true }
-    requires suits { SuitsArray program.now sort 1 (seen (S.index store.now)
-        (S.kept store.now) roots.old.roots) }
-    ensures deed { loaded program.now decoded.now (seen (S.index store.now)
-        (S.kept store.now) roots.old.roots) sort ≡ Some (deed_by result (seen (S.index store.now)
-        (S.kept store.now) roots.new.roots)) }
+    requires suits { SuitsArray program.now sort 1 (view_in (S.storage store.now) roots.old.roots) }
+    ensures deed { loaded program.now decoded.now (view_in (S.storage store.now) roots.old.roots) sort ≡ Some (deed_by result (view_in (S.storage store.now) roots.new.roots)) }
     ensures same { OnErr result (roots.new ≡ roots.old) }
     ensures limit { roots.new.limit ≡ roots.old.limit }
 {
@@ -171,30 +159,23 @@ pub(crate) fn stores<S: Store>(
     decoded: &Decoded,
     sort: Sort,
 ) -> Result<(), Need>
-    requires there { is_some (stored program.now decoded.now (seen (S.index store.old)
-        (S.kept store.old) roots.old.roots) sort) ≡ true }
+    requires there { is_some (stored program.now decoded.now (view_in (S.storage store.old) roots.old.roots) sort) ≡ true }
     requires runs { runs_method roots.old.roots ≡ true }
-    requires kinds { (serial : ℕ) (object : Object) → object_in (S.kept store.old) serial
+    requires kinds { (serial : ℕ) (object : Object) → object_in (S.storage store.old).kept serial
         ≡ Some object → object.kind < length program.now.kinds }
-    requires held { IsTrue (is_held (S.kept store.old) (object_on (seen (S.index store.old)
-        (S.kept store.old) roots.old.roots) 2)) }
-    requires suits { SuitsArray program.now sort 2 (seen (S.index store.old)
-        (S.kept store.old) roots.old.roots) }
-    requires may { MayPut (S.allows store.old) 2 (seen (S.index store.old)
-        (S.kept store.old) roots.old.roots) }
-    ensures deed { stored program.now decoded.now (seen (S.index store.old)
-        (S.kept store.old) roots.old.roots) sort ≡ Some (deed_by result (seen (S.index store.new)
-        (S.kept store.new) roots.new.roots)) }
+    requires held { IsTrue (is_held (S.storage store.old).kept (object_on (view_in (S.storage store.old) roots.old.roots) 2)) }
+    requires suits { SuitsArray program.now sort 2 (view_in (S.storage store.old) roots.old.roots) }
+    requires value { IsTrue (is_held (S.storage store.old).kept (object_on (view_in (S.storage store.old) roots.old.roots) 0)) }
+    requires follows { (after : View) → stored program.now decoded.now (view_in (S.storage store.old) roots.old.roots) sort ≡ Some (Does after) → Follows (S.storage store.old).settings.allows after.objects }
+    ensures deed { stored program.now decoded.now (view_in (S.storage store.old) roots.old.roots) sort ≡ Some (deed_by result (view_in (S.storage store.new) roots.new.roots)) }
     ensures same { OnErr result (roots.new ≡ roots.old) }
-    ensures held { OnErr result (S.kept store.new ≡ S.kept store.old) }
+    ensures held { OnErr result ((S.storage store.new).kept ≡ (S.storage store.old).kept) }
     ensures limit { roots.new.limit ≡ roots.old.limit }
-    ensures places { S.index store.new ≡ S.index store.old }
-    ensures facts { S.facts store.new ≡ S.facts store.old }
-    ensures granted { S.granted store.new ≡ S.granted store.old }
-    ensures faults { S.faults store.new ≡ S.faults store.old }
-    ensures knows { S.knows store.new ≡ S.knows store.old }
-    ensures allows { S.allows store.new ≡ S.allows store.old }
-    ensures shapes { S.shapes store.new ≡ S.shapes store.old }
+    ensures places { (S.storage store.new).index ≡ (S.storage store.old).index }
+    ensures facts { (S.storage store.new).facts ≡ (S.storage store.old).facts }
+    ensures granted { (S.storage store.new).granted ≡ (S.storage store.old).granted }
+    ensures faults { (S.storage store.new).faults ≡ (S.storage store.old).faults }
+    ensures settings { (S.storage store.new).settings ≡ (S.storage store.old).settings }
 {
     let Some(next) = decoded.next else {
         unreachable!()
@@ -213,33 +194,23 @@ pub(crate) fn stores_reference<S: Store>(
     decoded: &Decoded,
 ) -> Result<(), Need>
     requires there { is_some (going_on decoded.now (behind_store_reference (fits_on program.now
-        (seen (S.index store.old) (S.kept store.old) roots.old.roots)) (seen (S.index store.old)
-        (S.kept store.old) roots.old.roots))) ≡ true }
+        (view_in (S.storage store.old) roots.old.roots)) (view_in (S.storage store.old) roots.old.roots))) ≡ true }
     requires runs { runs_method roots.old.roots ≡ true }
-    requires kinds { (serial : ℕ) (object : Object) → object_in (S.kept store.old) serial
+    requires kinds { (serial : ℕ) (object : Object) → object_in (S.storage store.old).kept serial
         ≡ Some object → object.kind < length program.now.kinds }
-    requires array { IsTrue (is_held (S.kept store.old) (object_on (seen (S.index store.old)
-        (S.kept store.old) roots.old.roots) 2)) }
-    requires value { IsTrue (is_held (S.kept store.old) (object_on (seen (S.index store.old)
-        (S.kept store.old) roots.old.roots) 0)) }
-    requires suits { SuitsWords (basics.Reference 0) 2 (seen (S.index store.old)
-        (S.kept store.old) roots.old.roots) }
-    requires may { MayPut (S.allows store.old) 2 (seen (S.index store.old)
-        (S.kept store.old) roots.old.roots) }
-    ensures deed { going_on decoded.now (behind_store_reference (fits_on program.now (seen
-        (S.index store.old) (S.kept store.old) roots.old.roots)) (seen (S.index store.old)
-        (S.kept store.old) roots.old.roots)) ≡ Some (deed_by result (seen (S.index store.new)
-        (S.kept store.new) roots.new.roots)) }
+    requires array { IsTrue (is_held (S.storage store.old).kept (object_on (view_in (S.storage store.old) roots.old.roots) 2)) }
+    requires value { IsTrue (is_held (S.storage store.old).kept (object_on (view_in (S.storage store.old) roots.old.roots) 0)) }
+    requires suits { SuitsWords (basics.Reference 0) 2 (view_in (S.storage store.old) roots.old.roots) }
+    requires follows { (after : View) → going_on decoded.now (behind_store_reference (fits_on program.now (view_in (S.storage store.old) roots.old.roots)) (view_in (S.storage store.old) roots.old.roots)) ≡ Some (Does after) → Follows (S.storage store.old).settings.allows after.objects }
+    ensures deed { going_on decoded.now (behind_store_reference (fits_on program.now (view_in (S.storage store.old) roots.old.roots)) (view_in (S.storage store.old) roots.old.roots)) ≡ Some (deed_by result (view_in (S.storage store.new) roots.new.roots)) }
     ensures same { OnErr result (roots.new ≡ roots.old) }
-    ensures held { OnErr result (S.kept store.new ≡ S.kept store.old) }
+    ensures held { OnErr result ((S.storage store.new).kept ≡ (S.storage store.old).kept) }
     ensures limit { roots.new.limit ≡ roots.old.limit }
-    ensures places { S.index store.new ≡ S.index store.old }
-    ensures facts { S.facts store.new ≡ S.facts store.old }
-    ensures granted { S.granted store.new ≡ S.granted store.old }
-    ensures faults { S.faults store.new ≡ S.faults store.old }
-    ensures knows { S.knows store.new ≡ S.knows store.old }
-    ensures allows { S.allows store.new ≡ S.allows store.old }
-    ensures shapes { S.shapes store.new ≡ S.shapes store.old }
+    ensures places { (S.storage store.new).index ≡ (S.storage store.old).index }
+    ensures facts { (S.storage store.new).facts ≡ (S.storage store.old).facts }
+    ensures granted { (S.storage store.new).granted ≡ (S.storage store.old).granted }
+    ensures faults { (S.storage store.new).faults ≡ (S.storage store.old).faults }
+    ensures settings { (S.storage store.new).settings ≡ (S.storage store.old).settings }
 {
     let Some(next) = decoded.next else {
         unreachable!()
@@ -258,14 +229,12 @@ pub(crate) fn casts<S: Store>(
     decoded: &Decoded,
 ) -> Result<(), Need>
     requires there { is_some (on_kind (λ kind. going_on decoded.now (behind_cast program.now kind
-        (seen (S.index store.now) (S.kept store.now) roots.old.roots))) decoded.now.named) ≡ true }
+        (view_in (S.storage store.now) roots.old.roots))) decoded.now.named) ≡ true }
     requires named { IsThere program.now decoded.now.named }
     requires runs { runs_method roots.old.roots ≡ true }
-    requires own { HasKind program.now 0 (seen (S.index store.now)
-        (S.kept store.now) roots.old.roots) }
-    ensures deed { on_kind (λ kind. going_on decoded.now (behind_cast program.now kind (seen
-        (S.index store.now) (S.kept store.now) roots.old.roots))) decoded.now.named
-        ≡ Some (deed_by result (seen (S.index store.now) (S.kept store.now) roots.new.roots)) }
+    requires own { HasKind program.now 0 (view_in (S.storage store.now) roots.old.roots) }
+    ensures deed { on_kind (λ kind. going_on decoded.now (behind_cast program.now kind (view_in (S.storage store.now) roots.old.roots))) decoded.now.named
+        ≡ Some (deed_by result (view_in (S.storage store.now) roots.new.roots)) }
     ensures same { OnErr result (roots.new ≡ roots.old) }
     ensures limit { roots.new.limit ≡ roots.old.limit }
 {
@@ -288,15 +257,12 @@ pub(crate) fn asks_kind<S: Store>(
     decoded: &Decoded,
 ) -> Result<(), Need>
     requires there { is_some (on_kind (λ kind. going_on decoded.now
-        (behind_instance program.now kind (seen (S.index store.now)
-        (S.kept store.now) roots.old.roots))) decoded.now.named) ≡ true }
+        (behind_instance program.now kind (view_in (S.storage store.now) roots.old.roots))) decoded.now.named) ≡ true }
     requires named { IsThere program.now decoded.now.named }
     requires runs { runs_method roots.old.roots ≡ true }
-    requires own { HasKind program.now 0 (seen (S.index store.now)
-        (S.kept store.now) roots.old.roots) }
-    ensures deed { on_kind (λ kind. going_on decoded.now (behind_instance program.now kind (seen
-        (S.index store.now) (S.kept store.now) roots.old.roots))) decoded.now.named
-        ≡ Some (deed_by result (seen (S.index store.now) (S.kept store.now) roots.new.roots)) }
+    requires own { HasKind program.now 0 (view_in (S.storage store.now) roots.old.roots) }
+    ensures deed { on_kind (λ kind. going_on decoded.now (behind_instance program.now kind (view_in (S.storage store.now) roots.old.roots))) decoded.now.named
+        ≡ Some (deed_by result (view_in (S.storage store.now) roots.new.roots)) }
     ensures same { OnErr result (roots.new ≡ roots.old) }
     ensures limit { roots.new.limit ≡ roots.old.limit }
 {
@@ -313,11 +279,8 @@ pub(crate) fn asks_kind<S: Store>(
 /// `athrow`
 #[inline(always)]
 pub(crate) fn throws_object<S: Store>(store: &S, roots: &mut Roots) -> Result<(), Need>
-    requires there { is_some (behind_throw (seen (S.index store.now)
-        (S.kept store.now) roots.old.roots)) ≡ true }
-    ensures deed { option_map of_pended (behind_throw (seen (S.index store.now)
-        (S.kept store.now) roots.old.roots)) ≡ Some (deed_by result (seen (S.index store.now)
-        (S.kept store.now) roots.new.roots)) }
+    requires there { is_some (behind_throw (view_in (S.storage store.now) roots.old.roots)) ≡ true }
+    ensures deed { option_map of_pended (behind_throw (view_in (S.storage store.now) roots.old.roots)) ≡ Some (deed_by result (view_in (S.storage store.now) roots.new.roots)) }
     ensures same { OnErr result (roots.new ≡ roots.old) }
     ensures limit { roots.new.limit ≡ roots.old.limit }
 {
@@ -336,9 +299,8 @@ pub(crate) fn goes_on<S: Store>(
     left: Result<(), u32>,
 ) -> Result<(), Need>
     requires runs { runs_method roots.old.roots ≡ true }
-    ensures deed { deed_by result (seen (S.index store.now) (S.kept store.now) roots.new.roots)
-        ≡ of_left next (left_by left (seen (S.index store.now)
-        (S.kept store.now) roots.old.roots)) }
+    ensures deed { deed_by result (view_in (S.storage store.now) roots.new.roots)
+        ≡ of_left next (left_by left (view_in (S.storage store.now) roots.old.roots)) }
     ensures same { OnErr result (roots.new ≡ roots.old) }
     ensures limit { roots.new.limit ≡ roots.old.limit }
 {
@@ -361,12 +323,10 @@ fn element_on<S: Store>(
     sort: Sort,
 ) -> Basic
     requires there { has_sort sorts.Reference (slice_get (top_stack roots.now.roots) depth) ≡ true }
-    requires kinds { (serial : ℕ) (object : Object) → object_in (S.kept store.now) serial
+    requires kinds { (serial : ℕ) (object : Object) → object_in (S.storage store.now).kept serial
         ≡ Some object → object.kind < length program.now.kinds }
-    requires held { IsTrue (is_held (S.kept store.now) (object_on (seen (S.index store.now)
-        (S.kept store.now) roots.now.roots) depth)) }
-    ensures { result ≡ basic_on program.now sort (seen (S.index store.now)
-        (S.kept store.now) roots.now.roots) depth }
+    requires held { IsTrue (is_held (S.storage store.now).kept (object_on (view_in (S.storage store.now) roots.now.roots) depth)) }
+    ensures { result ≡ basic_on program.now sort (view_in (S.storage store.now) roots.now.roots) depth }
 {
     let at = reference_at(roots, depth);
     if at == 0 {
@@ -395,14 +355,11 @@ fn default_of(sort: Sort) -> Basic
 fn fits_array<S: Store>(program: &Program, store: &S, roots: &Roots) -> bool
     requires value { has_sort sorts.Reference (slice_get (top_stack roots.now.roots) 0) ≡ true }
     requires array { has_sort sorts.Reference (slice_get (top_stack roots.now.roots) 2) ≡ true }
-    requires kinds { (serial : ℕ) (object : Object) → object_in (S.kept store.now) serial
+    requires kinds { (serial : ℕ) (object : Object) → object_in (S.storage store.now).kept serial
         ≡ Some object → object.kind < length program.now.kinds }
-    requires array_held { IsTrue (is_held (S.kept store.now) (object_on (seen (S.index store.now)
-        (S.kept store.now) roots.now.roots) 2)) }
-    requires value_held { IsTrue (is_held (S.kept store.now) (object_on (seen (S.index store.now)
-        (S.kept store.now) roots.now.roots) 0)) }
-    ensures { result ≡ fits_on program.now (seen (S.index store.now)
-        (S.kept store.now) roots.now.roots) }
+    requires array_held { IsTrue (is_held (S.storage store.now).kept (object_on (view_in (S.storage store.now) roots.now.roots) 2)) }
+    requires value_held { IsTrue (is_held (S.storage store.now).kept (object_on (view_in (S.storage store.now) roots.now.roots) 0)) }
+    ensures { result ≡ fits_on program.now (view_in (S.storage store.now) roots.now.roots) }
 {
     let array = reference_at(roots, 2);
     array != 0 && fits(program, store, array, reference_at(roots, 0))

@@ -1,10 +1,12 @@
 // Elements of arrays.
-ghost use Rattle.std.specs.Prelude.{◌≡◌, ◌<◌, ◌^◌, is_some, length, true, OnErr, Some};
-ghost use Rattle.cb_heap.specs.Kept.{contents_at};
-ghost use Rattle.cb_heap.specs.Reading.{seen};
+ghost use Rattle.cb_heap.specs.Storage.{view_in};
+ghost use Rattle.std.specs.Prelude.{◌≡◌, ◌<◌, ◌^◌, is_some, length, true, IsTrue, OnErr, Some};
+ghost use Rattle.cb_heap.specs.Follows.{Follows};
+ghost use Rattle.cb_heap.specs.Kept.{contents_at, is_held};
+ghost use Rattle.cb_heap.specs.Reading.{View, seen};
 ghost use Rattle.cb_kinds.specs.declared.basic.Basic.TheVariants as basics;
 ghost use Rattle.cb_machine.specs.Values.{sort_of_basic};
-ghost use Rattle.cb_act.specs.Objects.{MayPut, SuitsWords, behind_length, behind_load_element, behind_store_element};
+ghost use Rattle.cb_act.specs.Objects.{Goes, SuitsWords, behind_length, behind_load_element, behind_store_element};
 ghost use Rattle.cb_act.specs.Objects.{behind_store_reference, left_by, object_on, place_of};
 
 use crate::operands::{give_for_one, give_for_two, int_at, operand_of, reference_at, take_three};
@@ -19,12 +21,10 @@ use cb_plain::Value;
 /// exception of the machine that is thrown; then nothing has changed.
 #[inline(always)]
 pub fn array_length<S: Store>(store: &S, roots: &mut Roots) -> Result<(), u32>
-    requires there { is_some (behind_length (seen (S.index store.now)
-        (S.kept store.now) roots.old.roots)) ≡ true }
-    requires few { length (contents_at (S.kept store.now) (object_on (seen (S.index store.now)
-        (S.kept store.now) roots.old.roots) 0)) < 2 ^ 31 }
-    ensures behind { behind_length (seen (S.index store.now) (S.kept store.now) roots.old.roots)
-        ≡ Some (left_by result (seen (S.index store.now) (S.kept store.now) roots.new.roots)) }
+    requires there { is_some (behind_length (view_in (S.storage store.now) roots.old.roots)) ≡ true }
+    requires few { length (contents_at (S.storage store.now).kept (object_on (view_in (S.storage store.now) roots.old.roots) 0)) < 2 ^ 31 }
+    ensures behind { behind_length (view_in (S.storage store.now) roots.old.roots)
+        ≡ Some (left_by result (view_in (S.storage store.now) roots.new.roots)) }
     ensures same { OnErr result (roots.new ≡ roots.old) }
     ensures limit { roots.new.limit ≡ roots.old.limit }
 {
@@ -41,13 +41,10 @@ pub fn array_length<S: Store>(store: &S, roots: &mut Roots) -> Result<(), u32>
 /// (JVMS §6.5). An error is the site of the exception of the machine that is thrown; then nothing has changed.
 #[inline(always)]
 pub fn load_element<S: Store>(store: &S, roots: &mut Roots, basic: Basic) -> Result<(), u32>
-    requires there { is_some (behind_load_element basic (seen (S.index store.now)
-        (S.kept store.now) roots.old.roots)) ≡ true }
-    requires suits { SuitsWords basic 1 (seen (S.index store.now)
-        (S.kept store.now) roots.old.roots) }
-    ensures behind { behind_load_element basic (seen (S.index store.now)
-        (S.kept store.now) roots.old.roots)
-        ≡ Some (left_by result (seen (S.index store.now) (S.kept store.now) roots.new.roots)) }
+    requires there { is_some (behind_load_element basic (view_in (S.storage store.now) roots.old.roots)) ≡ true }
+    requires suits { SuitsWords basic 1 (view_in (S.storage store.now) roots.old.roots) }
+    ensures behind { behind_load_element basic (view_in (S.storage store.now) roots.old.roots)
+        ≡ Some (left_by result (view_in (S.storage store.now) roots.new.roots)) }
     ensures same { OnErr result (roots.new ≡ roots.old) }
     ensures limit { roots.new.limit ≡ roots.old.limit }
 {
@@ -70,25 +67,20 @@ pub fn load_element<S: Store>(store: &S, roots: &mut Roots, basic: Basic) -> Res
 /// nothing has changed.
 #[inline(always)]
 pub fn store_element<S: Store>(store: &mut S, roots: &mut Roots, basic: Basic) -> Result<(), u32>
-    requires there { is_some (behind_store_element (sort_of_basic basic) basic (seen
-        (S.index store.old) (S.kept store.old) roots.old.roots)) ≡ true }
-    requires suits { SuitsWords basic 2 (seen (S.index store.old)
-        (S.kept store.old) roots.old.roots) }
-    requires may { MayPut (S.allows store.old) 2 (seen (S.index store.old)
-        (S.kept store.old) roots.old.roots) }
-    ensures behind { behind_store_element (sort_of_basic basic) basic (seen (S.index store.old)
-        (S.kept store.old) roots.old.roots)
-        ≡ Some (left_by result (seen (S.index store.new) (S.kept store.new) roots.new.roots)) }
+    requires there { is_some (behind_store_element (sort_of_basic basic) basic (view_in (S.storage store.old) roots.old.roots)) ≡ true }
+    requires suits { SuitsWords basic 2 (view_in (S.storage store.old) roots.old.roots) }
+    requires held { IsTrue (is_held (S.storage store.old).kept (object_on (view_in (S.storage store.old) roots.old.roots) 0)) }
+    requires follows { (after : View) → behind_store_element (sort_of_basic basic) basic (view_in (S.storage store.old) roots.old.roots) ≡ Some (Goes after) → Follows (S.storage store.old).settings.allows after.objects }
+    ensures behind { behind_store_element (sort_of_basic basic) basic (view_in (S.storage store.old) roots.old.roots)
+        ≡ Some (left_by result (view_in (S.storage store.new) roots.new.roots)) }
     ensures same { OnErr result (roots.new ≡ roots.old) }
-    ensures held { OnErr result (S.kept store.new ≡ S.kept store.old) }
+    ensures held { OnErr result ((S.storage store.new).kept ≡ (S.storage store.old).kept) }
     ensures limit { roots.new.limit ≡ roots.old.limit }
-    ensures places { S.index store.new ≡ S.index store.old }
-    ensures facts { S.facts store.new ≡ S.facts store.old }
-    ensures granted { S.granted store.new ≡ S.granted store.old }
-    ensures faults { S.faults store.new ≡ S.faults store.old }
-    ensures knows { S.knows store.new ≡ S.knows store.old }
-    ensures allows { S.allows store.new ≡ S.allows store.old }
-    ensures shapes { S.shapes store.new ≡ S.shapes store.old }
+    ensures places { (S.storage store.new).index ≡ (S.storage store.old).index }
+    ensures facts { (S.storage store.new).facts ≡ (S.storage store.old).facts }
+    ensures granted { (S.storage store.new).granted ≡ (S.storage store.old).granted }
+    ensures faults { (S.storage store.new).faults ≡ (S.storage store.old).faults }
+    ensures settings { (S.storage store.new).settings ≡ (S.storage store.old).settings }
 {
     let value = kept_value(basic, operand_of(roots, basic));
     let index = int_at(roots, 1);
@@ -109,25 +101,20 @@ pub fn store_element<S: Store>(store: &mut S, roots: &mut Roots, basic: Basic) -
 /// `aastore` (JVMS §6.5). An error is the site of the exception of the machine that is thrown; then nothing has changed.
 #[inline(always)]
 pub fn store_reference<S: Store>(store: &mut S, roots: &mut Roots, fits: bool) -> Result<(), u32>
-    requires there { is_some (behind_store_reference fits (seen (S.index store.old)
-        (S.kept store.old) roots.old.roots)) ≡ true }
-    requires suits { SuitsWords (basics.Reference 0) 2 (seen (S.index store.old)
-        (S.kept store.old) roots.old.roots) }
-    requires may { fits ≡ true → MayPut (S.allows store.old) 2 (seen (S.index store.old)
-        (S.kept store.old) roots.old.roots) }
-    ensures behind { behind_store_reference fits (seen (S.index store.old)
-        (S.kept store.old) roots.old.roots)
-        ≡ Some (left_by result (seen (S.index store.new) (S.kept store.new) roots.new.roots)) }
+    requires there { is_some (behind_store_reference fits (view_in (S.storage store.old) roots.old.roots)) ≡ true }
+    requires suits { SuitsWords (basics.Reference 0) 2 (view_in (S.storage store.old) roots.old.roots) }
+    requires held { IsTrue (is_held (S.storage store.old).kept (object_on (view_in (S.storage store.old) roots.old.roots) 0)) }
+    requires follows { (after : View) → behind_store_reference fits (view_in (S.storage store.old) roots.old.roots) ≡ Some (Goes after) → Follows (S.storage store.old).settings.allows after.objects }
+    ensures behind { behind_store_reference fits (view_in (S.storage store.old) roots.old.roots)
+        ≡ Some (left_by result (view_in (S.storage store.new) roots.new.roots)) }
     ensures same { OnErr result (roots.new ≡ roots.old) }
-    ensures held { OnErr result (S.kept store.new ≡ S.kept store.old) }
+    ensures held { OnErr result ((S.storage store.new).kept ≡ (S.storage store.old).kept) }
     ensures limit { roots.new.limit ≡ roots.old.limit }
-    ensures places { S.index store.new ≡ S.index store.old }
-    ensures facts { S.facts store.new ≡ S.facts store.old }
-    ensures granted { S.granted store.new ≡ S.granted store.old }
-    ensures faults { S.faults store.new ≡ S.faults store.old }
-    ensures knows { S.knows store.new ≡ S.knows store.old }
-    ensures allows { S.allows store.new ≡ S.allows store.old }
-    ensures shapes { S.shapes store.new ≡ S.shapes store.old }
+    ensures places { (S.storage store.new).index ≡ (S.storage store.old).index }
+    ensures facts { (S.storage store.new).facts ≡ (S.storage store.old).facts }
+    ensures granted { (S.storage store.new).granted ≡ (S.storage store.old).granted }
+    ensures faults { (S.storage store.new).faults ≡ (S.storage store.old).faults }
+    ensures settings { (S.storage store.new).settings ≡ (S.storage store.old).settings }
 {
     let to = reference_at(roots, 0);
     let index = int_at(roots, 1);

@@ -1,4 +1,5 @@
 // Instructions that ask for the class of an object.
+ghost use Rattle.cb_heap.specs.Storage.{view_in};
 ghost use Rattle.std.specs.Prelude.{◌≡◌, ◌<◌, ℕ, is_some, length, option_map, true, IsTrue, OnErr, Some};
 ghost use Rattle.std.specs.declared.result.Result.TheVariants.{Ok};
 ghost use Rattle.cb_heap.specs.Kept.{is_held, is_kept};
@@ -21,14 +22,10 @@ use cb_plain::Value;
 /// site of the exception of the machine that is thrown.
 #[inline(always)]
 pub fn cast<S: Store>(program: &Program, store: &S, roots: &Roots, kind: u32) -> Result<(), u32>
-    requires there { is_some (behind_cast program.now kind (seen (S.index store.now)
-        (S.kept store.now) roots.now.roots)) ≡ true }
+    requires there { is_some (behind_cast program.now kind (view_in (S.storage store.now) roots.now.roots)) ≡ true }
     requires kind { kind < length program.now.kinds }
-    requires own { HasKind program.now 0 (seen (S.index store.now)
-        (S.kept store.now) roots.now.roots) }
-    ensures { behind_cast program.now kind (seen (S.index store.now)
-        (S.kept store.now) roots.now.roots) ≡ Some (left_by result (seen (S.index store.now)
-        (S.kept store.now) roots.now.roots)) }
+    requires own { HasKind program.now 0 (view_in (S.storage store.now) roots.now.roots) }
+    ensures { behind_cast program.now kind (view_in (S.storage store.now) roots.now.roots) ≡ Some (left_by result (view_in (S.storage store.now) roots.now.roots)) }
 {
     let at = reference_at(roots, 0);
     if at == 0 {
@@ -44,14 +41,10 @@ pub fn cast<S: Store>(program: &Program, store: &S, roots: &Roots, kind: u32) ->
 /// Puts 1 in place of the object on the stack of the topmost frame where it is of a kind, else, and for null, 0: `instanceof` (JVMS §6.5).
 #[inline(always)]
 pub fn instance<S: Store>(program: &Program, store: &S, roots: &mut Roots, kind: u32)
-    requires there { is_some (behind_instance program.now kind (seen (S.index store.now)
-        (S.kept store.now) roots.old.roots)) ≡ true }
+    requires there { is_some (behind_instance program.now kind (view_in (S.storage store.now) roots.old.roots)) ≡ true }
     requires kind { kind < length program.now.kinds }
-    requires own { HasKind program.now 0 (seen (S.index store.now)
-        (S.kept store.now) roots.old.roots) }
-    ensures behind { behind_instance program.now kind (seen (S.index store.now)
-        (S.kept store.now) roots.old.roots) ≡ Some (left_by (Ok tt) (seen (S.index store.now)
-        (S.kept store.now) roots.new.roots)) }
+    requires own { HasKind program.now 0 (view_in (S.storage store.now) roots.old.roots) }
+    ensures behind { behind_instance program.now kind (view_in (S.storage store.now) roots.old.roots) ≡ Some (left_by (Ok tt) (view_in (S.storage store.now) roots.new.roots)) }
     ensures limit { roots.new.limit ≡ roots.old.limit }
 {
     let at = reference_at(roots, 0);
@@ -63,10 +56,9 @@ pub fn instance<S: Store>(program: &Program, store: &S, roots: &mut Roots, kind:
 /// of the machine that is thrown in its place; then nothing has changed.
 #[inline(always)]
 pub fn throw_object<S: Store>(store: &S, roots: &mut Roots) -> Result<(), u32>
-    requires there { is_some (behind_throw (seen (S.index store.now)
-        (S.kept store.now) roots.old.roots)) ≡ true }
-    ensures behind { behind_throw (seen (S.index store.now) (S.kept store.now) roots.old.roots)
-        ≡ Some (left_by result (seen (S.index store.now) (S.kept store.now) roots.new.roots)) }
+    requires there { is_some (behind_throw (view_in (S.storage store.now) roots.old.roots)) ≡ true }
+    ensures behind { behind_throw (view_in (S.storage store.now) roots.old.roots)
+        ≡ Some (left_by result (view_in (S.storage store.now) roots.new.roots)) }
     ensures same { OnErr result (roots.new ≡ roots.old) }
     ensures limit { roots.new.limit ≡ roots.old.limit }
 {
@@ -80,13 +72,13 @@ pub fn throw_object<S: Store>(store: &S, roots: &mut Roots) -> Result<(), u32>
 
 /// Whether a reference fits the elements of an array (JVMS §6.5 aastore).
 pub fn fits<S: Store>(program: &Program, store: &S, array: u64, to: u64) -> bool
-    requires array { IsTrue (is_kept (S.kept store.now) (serial_of (S.index store.now) array)) }
-    requires held { IsTrue (is_held (S.kept store.now) (serial_of (S.index store.now) to)) }
-    requires kinds { (serial : ℕ) (object : Object) → object_in (S.kept store.now) serial
+    requires array { IsTrue (is_kept (S.storage store.now).kept (serial_of (S.storage store.now).index array)) }
+    requires held { IsTrue (is_held (S.storage store.now).kept (serial_of (S.storage store.now).index to)) }
+    requires kinds { (serial : ℕ) (object : Object) → object_in (S.storage store.now).kept serial
         ≡ Some object → object.kind < length program.now.kinds }
-    ensures { option_map (λ object. fits_serial program.now (S.kept store.now)
-        (element_of program.now object.kind) (serial_of (S.index store.now) to))
-        (object_in (S.kept store.now) (serial_of (S.index store.now) array)) ≡ Some result }
+    ensures { option_map (λ object. fits_serial program.now (S.storage store.now).kept
+        (element_of program.now object.kind) (serial_of (S.storage store.now).index to))
+        (object_in (S.storage store.now).kept (serial_of (S.storage store.now).index array)) ≡ Some result }
 {
     if to == 0 {
         return true;

@@ -8,9 +8,10 @@
 //! objects `Objects` (fields and elements), `Classes` (casts) and `Placing` (exceptions and new objects). `Steps` says what that has to do with the
 //! machine's step. No call takes memory, and each takes constant time unless it says otherwise.
 //!
-//! Turns of a run are defined here too (`Turning`), since they hold over any store: room is made for what the next step places, by the store's own
-//! rule, and the step is made. `turns_stand` rests on what a step does to what is kept of a state (`Keeping`, `Changing`, `Within`), at every
-//! instruction and native.
+//! Turns of a run are defined here too (`Turning`), since they hold over any store: room is made for what the next step places, by the store's
+//! own rule, the step is made, and behind one that calls `System.gc` (`Sweeping`) all is collected. `Coming` says which states may come from one,
+//! and when a store allows the references of all of them. `turns_stand` rests on what a step does to what is kept of a state (`Keeping`,
+//! `Changing`, `Within`), at every instruction and native.
 #![tactic(auto)]
 
 mod acting;

@@ -1,4 +1,5 @@
 // References that are compared.
+ghost use Rattle.cb_heap.specs.Storage.{view_in};
 ghost use Rattle.std.specs.Prelude.{◌≡◌, is_some, true, IsTrue, Some};
 ghost use Rattle.cb_frames.specs.Tops.{top_stack};
 ghost use Rattle.cb_heap.specs.Kept.{is_held};
@@ -15,16 +16,14 @@ use cb_heap::Store;
 /// (JVMS §6.5).
 pub fn test_references<S: Store>(store: &S, roots: &mut Roots, are: bool) -> bool
     requires there { is_some (tested_on (conditions.AreSame are) (top_stack (read_roots
-        (S.index store.now) roots.old.roots))) ≡ true }
-    requires first { IsTrue (is_held (S.kept store.now) (object_on (seen (S.index store.now)
-        (S.kept store.now) roots.old.roots) 0)) }
-    requires second { IsTrue (is_held (S.kept store.now) (object_on (seen (S.index store.now)
-        (S.kept store.now) roots.old.roots) 1)) }
+        (S.storage store.now).index roots.old.roots))) ≡ true }
+    requires first { IsTrue (is_held (S.storage store.now).kept (object_on (view_in (S.storage store.now) roots.old.roots) 0)) }
+    requires second { IsTrue (is_held (S.storage store.now).kept (object_on (view_in (S.storage store.now) roots.old.roots) 1)) }
     ensures behind { behind_test (conditions.AreSame are) (read_roots
-        (S.index store.now) roots.old.roots)
-        ≡ Some (read_roots (S.index store.now) roots.new.roots) }
+        (S.storage store.now).index roots.old.roots)
+        ≡ Some (read_roots (S.storage store.now).index roots.new.roots) }
     ensures limit { roots.new.limit ≡ roots.old.limit }
-    ensures told { told (conditions.AreSame are) (read_roots (S.index store.now) roots.old.roots)
+    ensures told { told (conditions.AreSame are) (read_roots (S.storage store.now).index roots.old.roots)
         ≡ Some result }
 {
     let b = reference_at(roots, 0);
@@ -35,8 +34,8 @@ pub fn test_references<S: Store>(store: &S, roots: &mut Roots, are: bool) -> boo
 
 /// The serial of an object, or 0 for null.
 fn serial_at<S: Store>(store: &S, at: u64) -> u64
-    requires { IsTrue (is_held (S.kept store.now) (serial_of (S.index store.now) at)) }
-    ensures { result ≡ serial_of (S.index store.now) at }
+    requires { IsTrue (is_held (S.storage store.now).kept (serial_of (S.storage store.now).index at)) }
+    ensures { result ≡ serial_of (S.storage store.now).index at }
 {
     if at == 0 { 0 } else { store.serial(at) }
 }

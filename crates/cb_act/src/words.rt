@@ -16,11 +16,11 @@ use cb_plain::Value;
 /// The value in a word of an object that holds one of a type.
 #[inline(always)]
 pub fn value_at<S: Store>(store: &S, at: u64, i: u32, basic: Basic) -> Value
-    requires suits { Suits basic (content_at (S.kept store.now) (serial_of
-        (S.index store.now) at) i) }
-    ensures { option_map (value_in basic) (content_at (S.kept store.now) (serial_of
-        (S.index store.now) at) i)
-        ≡ Some (read_value (S.index store.now) result) }
+    requires suits { Suits basic (content_at (S.storage store.now).kept (serial_of
+        (S.storage store.now).index at) i) }
+    ensures { option_map (value_in basic) (content_at (S.storage store.now).kept (serial_of
+        (S.storage store.now).index at) i)
+        ≡ Some (read_value (S.storage store.now).index result) }
 {
     match basic {
         Basic::Reference(_) => Value::Ref(store.get_ref(at, i)),
@@ -34,23 +34,21 @@ pub fn value_at<S: Store>(store: &S, at: u64, i: u32, basic: Basic) -> Value
 /// Puts a value into a word of an object that holds one like it.
 #[inline(always)]
 pub(crate) fn put_value<S: Store>(store: &mut S, at: u64, i: u32, value: Value)
-    requires takes { takes value (content_at (S.kept store.old) (serial_of
-        (S.index store.old) at) i) ≡ true }
-    requires held { IsTrue (is_held (S.kept store.old) (serial_of (S.index store.old)
+    requires takes { takes value (content_at (S.storage store.old).kept (serial_of
+        (S.storage store.old).index at) i) ≡ true }
+    requires held { IsTrue (is_held (S.storage store.old).kept (serial_of (S.storage store.old).index
         (referent value))) }
-    requires allowed { IsTrue (may_point (S.allows store.old) (S.kept store.old) (serial_of
-        (S.index store.old) at)
-        (serial_of (S.index store.old) (referent value))) }
-    ensures kept { S.kept store.new
-        ≡ with_content (S.kept store.old) (serial_of (S.index store.old) at) i (content_of
-        (read_value (S.index store.old) value)) }
-    ensures places { S.index store.new ≡ S.index store.old }
-    ensures facts { S.facts store.new ≡ S.facts store.old }
-    ensures granted { S.granted store.new ≡ S.granted store.old }
-    ensures faults { S.faults store.new ≡ S.faults store.old }
-    ensures knows { S.knows store.new ≡ S.knows store.old }
-    ensures allows { S.allows store.new ≡ S.allows store.old }
-    ensures shapes { S.shapes store.new ≡ S.shapes store.old }
+    requires allowed { IsTrue (may_point (S.storage store.old).settings.allows (S.storage store.old).kept (serial_of
+        (S.storage store.old).index at)
+        (serial_of (S.storage store.old).index (referent value))) }
+    ensures kept { (S.storage store.new).kept
+        ≡ with_content (S.storage store.old).kept (serial_of (S.storage store.old).index at) i (content_of
+        (read_value (S.storage store.old).index value)) }
+    ensures places { (S.storage store.new).index ≡ (S.storage store.old).index }
+    ensures facts { (S.storage store.new).facts ≡ (S.storage store.old).facts }
+    ensures granted { (S.storage store.new).granted ≡ (S.storage store.old).granted }
+    ensures faults { (S.storage store.new).faults ≡ (S.storage store.old).faults }
+    ensures settings { (S.storage store.new).settings ≡ (S.storage store.old).settings }
 {
     match value {
         Value::Int(number) => store.put(at, i, word_of(i64::from(number))),

@@ -6,3 +6,7 @@ pub use Rattle.cb_heap.proofs.ClosedLaws.{all_of, front_of, rest_of, joined, joi
 pub use Rattle.cb_heap.proofs.ObjectLaws.{residents_content, closed_content, closed_new}
 pub use Rattle.cb_heap.proofs.ReachedLaws.{held_from, passes_held, all_in, held_kept, entry_from, keeps_reached}
 pub use Rattle.cb_heap.proofs.PlacedLaws.{roots_again, placed_there, there_before, put_there, content_of_object, may_point_there, left_same, content_left, reference_held}
+pub use Rattle.cb_heap.proofs.SettingsLaws.{same_shapes, same_knows, same_allows}
+pub use Rattle.cb_heap.proofs.AlikeLaws.{reached_kept, kept_held, reached_alike}
+pub use Rattle.cb_heap.proofs.TakenLaws.{all_among, all_parts, length-keep, residents_left, takes_collect}
+pub use Rattle.cb_heap.proofs.EntryLaws.{entries_read, bare_read, entries_alike}

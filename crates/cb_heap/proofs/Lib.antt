@@ -1,8 +1,12 @@
+pub mod AlikeLaws
 pub mod ClosedLaws
+pub mod EntryLaws
 pub mod KeptLaws
 pub mod Laws
 pub mod ObjectLaws
 pub mod PlacedLaws
 pub mod ReachedLaws
 pub mod ReadingLaws
+pub mod SettingsLaws
+pub mod TakenLaws
 pub mod TextLaws

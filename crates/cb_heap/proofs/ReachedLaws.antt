@@ -1,5 +1,5 @@
 -- What is reached stays.
-use Rattle.std.proofs.Common.{◌≡◌, ◌∙◌, ap, refl, subst, arith, ℕ, ◌+◌, ◌<◌, Bool, true, false, List, [], ◌∷◌, ◌++◌, Option, Some, None, nat_lt, ◌-◌, slice_get, zero, suc, IsTrue}
+use Rattle.std.proofs.Common.{◌≡◌, ◌∙◌, ap, refl, subst, arith, ℕ, ◌<◌, Bool, true, false, List, [], ◌∷◌, ◌++◌, Option, Some, None, nat_lt, slice_get, zero, suc, IsTrue}
 use Rattle.std.specs.List.{Contains, flat_map, list_all}
 use Rattle.std.proofs.lemmas.Bool.{false≢true, lt-ltb, ltb-true}
 use Rattle.std.proofs.lemmas.List.Sums.{AllPass-from_list_all}
@@ -39,7 +39,7 @@ kept_stays (true ∷ kept) (entry ∷ objects) (suc place) object is there = kep
 kept_stays (false ∷ kept) (entry ∷ objects) (suc place) object is there = kept_stays kept objects place object is there
 
 -- what is among all passes where all do
-among : (test : ℕ → Bool) (items : List ℕ) (item : ℕ) → IsTrue (list_all test items) → Contains items item → IsTrue (test item)
+pub among : (test : ℕ → Bool) (items : List ℕ) (item : ℕ) → IsTrue (list_all test items) → Contains items item → IsTrue (test item)
 among test items item all there = subst (λ each. IsTrue (test each)) there.2 (AllPass-from_list_all test items all there.0 item there.1)
 
 -- no root is null
@@ -70,7 +70,7 @@ positive_roots held =
     (positives unless_null (held.tables.constants ++ held.tables.classes ++ held.tables.integers ++ held.tables.longs ++ held.tables.characters ++ held.tables.booleans) positive_unless)
     (positive_unless held.pending) (positive_unless held.argument)
 
-word_among : (test : ℕ → Bool) (contents : List Content) (other : ℕ) → Contains contents (Reference other) → IsTrue (list_all test (flat_map reference_in_word contents)) →
+pub word_among : (test : ℕ → Bool) (contents : List Content) (other : ℕ) → Contains contents (Reference other) → IsTrue (list_all test (flat_map reference_in_word contents)) →
     IsTrue (list_all test (unless_null other))
 word_among test contents other there all =
     all_in test reference_in_word contents there.0 (Reference other) (slice_get-get_or contents there.0 (Reference other) there.1 ∙ ap Some there.2) all

@@ -137,7 +137,7 @@ reads_locals_of index count arguments =
     ∙ ap (λ first. first ++ map (read_value index) (replicate (count - length slots) (values.Int (pos 0)))) (reads_all_slots index arguments)
     ∙ ap (λ rest. flat_map slots_of (map (read_value index) arguments) ++ rest) (reads_blank index (count - length slots) ∙ ap (λ taken. replicate (count - taken) (values.Int (pos 0))) size)
 
-map_reversed : {X Y : Type 0} (f : X → Y) (items : List X) → map f (reverse items) ≡ reverse (map f items)
+pub map_reversed : {X Y : Type 0} (f : X → Y) (items : List X) → map f (reverse items) ≡ reverse (map f items)
 map_reversed f [] = refl
 map_reversed f (item ∷ items) =
     ap (map f) (reverse-append (item ∷ []) items)

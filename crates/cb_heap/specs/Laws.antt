@@ -1,17 +1,21 @@
 -- What holds of all roots and stores, so that what runs over one store is shown once for all.
-use Rattle.std.specs.Prelude.{◌≡◌, ℕ, Bool, true, List, [], ◌∷◌, ◌++◌, Option, Some, IsTrue, length, map}
-use Rattle.std.specs.List.{flat_map, list_all}
+use Rattle.std.specs.Prelude.{◌≡◌, ◌↔◌, ◌<◌, ℕ, Bool, true, List, [], ◌∷◌, ◌++◌, Option, Some, IsTrue, length, map}
+use Rattle.std.specs.List.{Contains, flat_map, list_all}
 use Rattle.cb_plain.specs.declared.class_state.ClassState.{ClassState}
 use Rattle.cb_plain.specs.declared.table.Table.{Table}
 use Rattle.cb_plain.specs.declared.value.Value.{Value}
 use Rattle.cb_plain.specs.Reach.{IsReached, reference_in, root_references, unless_null}
 use Rattle.cb_plain.specs.Roots as roots
-use Rattle.cb_plain.specs.State.{Content, Object, Roots}
+use Rattle.cb_plain.specs.State.{Content, Object, Roots, State}
+use Rattle.cb_frames.specs.Entries.{entries, without_references}
 use Rattle.cb_frames.specs.Tops as tops
 use Rattle.cb_heap.specs.Closed.{Collects, IsClosed, reference_in_word}
+use Rattle.cb_heap.specs.Follows.{Follows, TakesPredecessors}
 use Rattle.cb_heap.specs.Kept.{is_held, is_kept, keep, residents, with_content}
 use Rattle.cb_heap.specs.Reading.{View, read_roots, read_value, serial_of}
+use Rattle.cb_heap.specs.StandsFor.{forget}
 use Rattle.cb_heap.specs.Store.{ReadsAsBefore}
+use Rattle.cb_heap.specs.Taking.{IsTaken, left_of}
 
 -- reading goes through every change of the roots
 pub record ReadsThrough : Type 0 where
@@ -75,3 +79,21 @@ pub record ClosesAgain : Type 0 where
 -- a collection lets only objects go that aren't reached
 abbrev pub KeepsReached : Type 0
 KeepsReached = (old new : View) → IsClosed old → Collects old new → (serial : ℕ) → IsReached old.roots old.objects serial → IsTrue (is_kept new.objects serial)
+
+-- of what is reached in a state nothing is lost, and nothing is reached besides, where only some objects are kept and nothing names another
+abbrev pub ReachedAlike : Type 0
+ReachedAlike = (kept : List Bool) → (state : State) → length kept ≡ length state.objects → IsClosed (forget kept state) → (serial : ℕ) →
+    IsReached state.roots state.objects serial ↔ IsReached state.roots (keep kept state.objects) serial
+
+-- where references follow what sites allow, taking some sites with all whose objects may refer to theirs is a collection
+abbrev pub TakesCollect : Type 0
+TakesCollect = (allows : ℕ → ℕ → Bool) → (taken : ℕ → Bool) → (view : View) → (after : List Bool) → IsClosed view → Follows allows view.objects →
+    TakesPredecessors allows taken → IsTaken taken view after → Collects view (left_of view after) × (residents (left_of view after).objects ≡ after)
+
+-- the walk over all that may name an object from outside: it meets just the references of the roots; reading goes through it; and roots that
+-- differ in references alone read alike where what it meets does
+pub record ReadsEntries : Type 0 where
+  pub met : (held : Roots) → (serial : ℕ) → Contains (root_references held) serial ↔ ((0 < serial) × Contains (entries held) serial)
+  pub through : (index : ℕ → ℕ) → (held : Roots) → entries (read_roots index held) ≡ map (serial_of index) (entries held)
+  pub alike : (before after : ℕ → ℕ) → (old new : Roots) → without_references new ≡ without_references old →
+      map (serial_of after) (entries new) ≡ map (serial_of before) (entries old) → read_roots after new ≡ read_roots before old

@@ -1,4 +1,5 @@
 pub mod Closed
+pub mod Follows
 pub mod Grants
 pub mod Kept
 pub mod Laws
@@ -7,5 +8,7 @@ pub mod Reading
 pub mod Rules
 pub mod Shaped
 pub mod StandsFor
+pub mod Storage
 pub mod Store
+pub mod Taking
 pub mod Text

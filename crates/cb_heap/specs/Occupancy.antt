@@ -1,9 +1,8 @@
--- The room that kept objects take in partitions, and what a collection of some partitions leaves.
-use Rattle.std.specs.Prelude.{◌≡◌, ℕ, ◌+◌, ◌-◌, ◌/◌, ◌≤◌, ◌==◌, ◌↔◌, ◌⊎◌, Bool, true, false, List, Option, Some, None, if◌then◌else◌, length, slice_get}
+-- The room that kept objects take in partitions.
+use Rattle.std.specs.Prelude.{ℕ, ◌+◌, ◌-◌, ◌/◌, ◌≤◌, ◌==◌, List, Option, Some, None, if◌then◌else◌}
 use Rattle.std.specs.List.{range_with_len, sum_by}
 use Rattle.cb_plain.specs.declared.want.Want.{Want}
-use Rattle.cb_plain.specs.Reach.{IsReached}
-use Rattle.cb_plain.specs.State.{Object, State}
+use Rattle.cb_plain.specs.State.{Object}
 use Rattle.cb_heap.specs.Kept.{entry_words}
 
 -- the words of the objects of a partition, whose sites tell it
@@ -34,10 +33,3 @@ blocks parts words_of_part = sum_by (λ part. blocks_of (words_of_part part)) (r
 -- whether what is asked for has room beside what is kept, in so many blocks
 abbrev pub HasRoom : (parts : ℕ) → (ℕ → ℕ) → List (Option Object) → List Want → ℕ → Type 0
 HasRoom parts part_of objects wants limit = blocks parts (λ part. used part_of objects part + wanted part_of wants part) ≤ limit
-
--- what is left when a set of partitions is collected: of their objects those that are reached, and all others
-pub record IsTaken (part_of : ℕ → ℕ) (set : ℕ → Bool) (state : State) (before after : List Bool) : Type 0 where
-  pub count : length after ≡ length before
-  pub stays : (place : ℕ) → (object : Object) → slice_get before place ≡ Some true → slice_get state.objects place ≡ Some (Some object) →
-      (slice_get after place ≡ Some true) ↔ ((set (part_of object.site) ≡ false) ⊎ IsReached state.roots state.objects (place + 1))
-  pub gone : (place : ℕ) → slice_get before place ≡ Some false → slice_get after place ≡ Some false

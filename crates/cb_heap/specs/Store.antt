@@ -5,16 +5,13 @@ use Rattle.std.specs.declared.result.Result.TheVariants.{Err}
 use Rattle.cb_plain.specs.State.{Object}
 use Rattle.cb_plain.specs.Updates.{object_in}
 use Rattle.cb_heap.specs.declared.no_room.NoRoom.{NoRoom}
-use Rattle.cb_heap.specs.declared.no_room.NoRoom.TheVariants.{OutOfMemory, ReportFault}
+use Rattle.cb_heap.specs.declared.no_room.NoRoom.TheVariants.{ReportFault}
 use Rattle.cb_heap.specs.Kept.{is_held}
 use Rattle.cb_heap.specs.Reading.{serial_of}
 
--- an answer that says that the report couldn't be written, or that memory was not to be had
+-- an answer that says that the report couldn't be written
 abbrev pub IsFault : Result (Unit {0}) NoRoom → Type 0
 IsFault result = result ≡ Err ReportFault
-
-abbrev pub WantsMemory : Result (Unit {0}) NoRoom → Type 0
-WantsMemory result = result ≡ Err OutOfMemory
 
 -- the places of kept objects read as they did
 abbrev pub ReadsAsBefore : List (Option Object) → (before after : ℕ → ℕ) → Type 0

@@ -1,5 +1,5 @@
 // What holds of all roots and stores.
-ghost use Rattle.cb_heap.specs.Laws.{ClosesAgain, KeepsChanges, KeepsReached, ReadsThrough};
+ghost use Rattle.cb_heap.specs.Laws.{ClosesAgain, KeepsChanges, KeepsReached, ReachedAlike, ReadsEntries, ReadsThrough, TakesCollect};
 
 /// Reading roots goes through every change of them.
 pub fn reads_through()
@@ -19,4 +19,20 @@ pub fn closes_again()
 /// A collection lets only objects go that aren't reached.
 pub fn keeps_reached()
     ensures { KeepsReached }
+{}
+
+/// Of what is reached in a state nothing is lost where only some objects are kept and nothing names another, and nothing is reached besides.
+pub fn reaches_alike()
+    ensures { ReachedAlike }
+{}
+
+/// Taking the objects of some sites that nothing reaches is a collection, where references follow what sites allow and each site is taken
+/// whose objects may refer to those of one that is.
+pub fn takes_collect()
+    ensures { TakesCollect }
+{}
+
+/// Reading goes through the walk over all that may name an object from outside.
+pub fn reads_entries()
+    ensures { ReadsEntries }
 {}

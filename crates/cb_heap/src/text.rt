@@ -14,25 +14,23 @@ use crate::{Store, TextSites};
 /// Places a string of these units (JLS §3.10.5): first an array of chars with them, and then an object of one word, which refers to it.
 /// Answers the place of the second. There has to be room for both, also where they have one site. Takes time in the units.
 pub fn place_text<S: Store>(store: &mut S, sites: TextSites, units: &[u16]) -> u64
-    requires array { words_of (length units.now) ≤ words_at (S.granted store.old) sites.characters }
-    requires string { words_of 1 ≤ words_at (spent (S.granted store.old) sites.characters
+    requires array { words_of (length units.now) ≤ words_at (S.storage store.old).granted sites.characters }
+    requires string { words_of 1 ≤ words_at (spent (S.storage store.old).granted sites.characters
         (words_of (length units.now))) sites.site }
-    requires elements { slice_get (S.shapes store.old) sites.array ≡ Some (Elements false) }
-    requires field { slice_get (S.shapes store.old) sites.kind ≡ Some (Fields (true ∷ [])) }
-    requires serials { length (S.kept store.old) + 2 < 2 ^ 63 }
+    requires elements { slice_get (S.storage store.old).settings.shapes sites.array ≡ Some (Elements false) }
+    requires field { slice_get (S.storage store.old).settings.shapes sites.kind ≡ Some (Fields (true ∷ [])) }
+    requires serials { length (S.storage store.old).kept + 2 < 2 ^ 63 }
     requires few { length units.now < 2 ^ 32 }
-    requires allowed { S.allows store.old sites.site sites.characters ≡ true }
-    ensures kept { S.kept store.new ≡ with_text sites units.now (S.kept store.old) }
-    ensures serial { serial_of (S.index store.new) result ≡ length (S.kept store.old) + 2 }
-    ensures places { ReadsAsBefore (S.kept store.old) (S.index store.old) (S.index store.new) }
-    ensures facts { S.facts store.new ≡ S.rules.placed (S.rules.placed (S.facts store.old)
+    requires allowed { (S.storage store.old).settings.allows sites.site sites.characters ≡ true }
+    ensures kept { (S.storage store.new).kept ≡ with_text sites units.now (S.storage store.old).kept }
+    ensures serial { serial_of (S.storage store.new).index result ≡ length (S.storage store.old).kept + 2 }
+    ensures places { ReadsAsBefore (S.storage store.old).kept (S.storage store.old).index (S.storage store.new).index }
+    ensures facts { (S.storage store.new).facts ≡ S.rules.placed (S.rules.placed (S.storage store.old).facts
         sites.characters (length units.now)) sites.site 1 }
-    ensures granted { S.granted store.new ≡ spent (spent (S.granted store.old) sites.characters
+    ensures granted { (S.storage store.new).granted ≡ spent (spent (S.storage store.old).granted sites.characters
         (words_of (length units.now))) sites.site (words_of 1) }
-    ensures faults { S.faults store.new ≡ S.faults store.old }
-    ensures knows { S.knows store.new ≡ S.knows store.old }
-    ensures allows { S.allows store.new ≡ S.allows store.old }
-    ensures shapes { S.shapes store.new ≡ S.shapes store.old }
+    ensures faults { (S.storage store.new).faults ≡ (S.storage store.old).faults }
+    ensures settings { (S.storage store.new).settings ≡ (S.storage store.old).settings }
 {
     let array = place_units(store, sites.characters, sites.array, units);
     let at = store.place(sites.site, sites.kind, 1);
@@ -42,20 +40,18 @@ pub fn place_text<S: Store>(store: &mut S, sites: TextSites, units: &[u16]) -> u
 
 /// Places an array of chars with these units.
 fn place_units<S: Store>(store: &mut S, site: u32, kind: u32, units: &[u16]) -> u64
-    requires granted { words_of (length units.now) ≤ words_at (S.granted store.old) site }
-    requires shape { slice_get (S.shapes store.old) kind ≡ Some (Elements false) }
-    requires serials { length (S.kept store.old) + 1 < 2 ^ 63 }
+    requires granted { words_of (length units.now) ≤ words_at (S.storage store.old).granted site }
+    requires shape { slice_get (S.storage store.old).settings.shapes kind ≡ Some (Elements false) }
+    requires serials { length (S.storage store.old).kept + 1 < 2 ^ 63 }
     requires few { length units.now < 2 ^ 32 }
-    ensures kept { S.kept store.new ≡ S.kept store.old ++ Some (array_of site kind units.now) ∷ [] }
-    ensures serial { serial_of (S.index store.new) result ≡ length (S.kept store.old) + 1 }
-    ensures places { ReadsAsBefore (S.kept store.old) (S.index store.old) (S.index store.new) }
-    ensures facts { S.facts store.new ≡ S.rules.placed (S.facts store.old) site (length units.now) }
-    ensures granted { S.granted store.new ≡ spent (S.granted store.old) site (words_of
+    ensures kept { (S.storage store.new).kept ≡ (S.storage store.old).kept ++ Some (array_of site kind units.now) ∷ [] }
+    ensures serial { serial_of (S.storage store.new).index result ≡ length (S.storage store.old).kept + 1 }
+    ensures places { ReadsAsBefore (S.storage store.old).kept (S.storage store.old).index (S.storage store.new).index }
+    ensures facts { (S.storage store.new).facts ≡ S.rules.placed (S.storage store.old).facts site (length units.now) }
+    ensures granted { (S.storage store.new).granted ≡ spent (S.storage store.old).granted site (words_of
         (length units.now)) }
-    ensures faults { S.faults store.new ≡ S.faults store.old }
-    ensures knows { S.knows store.new ≡ S.knows store.old }
-    ensures allows { S.allows store.new ≡ S.allows store.old }
-    ensures shapes { S.shapes store.new ≡ S.shapes store.old }
+    ensures faults { (S.storage store.new).faults ≡ (S.storage store.old).faults }
+    ensures settings { (S.storage store.new).settings ≡ (S.storage store.old).settings }
 {
     let at = store.place(site, kind, units.len() as u32);
     write_units(store, at, units);
@@ -64,19 +60,17 @@ fn place_units<S: Store>(store: &mut S, site: u32, kind: u32, units: &[u16]) -> 
 
 /// Writes units into the words of an object that hold 0.
 fn write_units<S: Store>(store: &mut S, at: u64, units: &[u16])
-    requires there { IsTrue (is_kept (S.kept store.old) (serial_of (S.index store.old) at)) }
-    requires blank { contents_at (S.kept store.old) (serial_of (S.index store.old) at)
+    requires there { IsTrue (is_kept (S.storage store.old).kept (serial_of (S.storage store.old).index at)) }
+    requires blank { contents_at (S.storage store.old).kept (serial_of (S.storage store.old).index at)
         ≡ replicate (length units.now) (Number (pos 0)) }
     requires few { length units.now < 2 ^ 32 }
-    ensures kept { S.kept store.new ≡ with_contents_in (S.kept store.old) (serial_of
-        (S.index store.old) at) (unit_contents units.now) }
-    ensures places { S.index store.new ≡ S.index store.old }
-    ensures facts { S.facts store.new ≡ S.facts store.old }
-    ensures granted { S.granted store.new ≡ S.granted store.old }
-    ensures faults { S.faults store.new ≡ S.faults store.old }
-    ensures knows { S.knows store.new ≡ S.knows store.old }
-    ensures allows { S.allows store.new ≡ S.allows store.old }
-    ensures shapes { S.shapes store.new ≡ S.shapes store.old }
+    ensures kept { (S.storage store.new).kept ≡ with_contents_in (S.storage store.old).kept (serial_of
+        (S.storage store.old).index at) (unit_contents units.now) }
+    ensures places { (S.storage store.new).index ≡ (S.storage store.old).index }
+    ensures facts { (S.storage store.new).facts ≡ (S.storage store.old).facts }
+    ensures granted { (S.storage store.new).granted ≡ (S.storage store.old).granted }
+    ensures faults { (S.storage store.new).faults ≡ (S.storage store.old).faults }
+    ensures settings { (S.storage store.new).settings ≡ (S.storage store.old).settings }
 {
     for (i, unit) in units.iter().enumerate() {
         store.put(at, i as u32, u64::from(*unit));

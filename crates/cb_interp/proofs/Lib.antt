@@ -1,7 +1,17 @@
+mod Allowed
+mod AllowedAll
+mod AllowedTurns
 mod EnumTurns
 mod FieldsFew
+mod FollowCopies
+mod FollowHere
+mod FollowNested
+mod FollowStarting
+mod FollowStatics
+mod FollowTexts
 mod Grown
 mod JoinedSteps
+pub mod Laws
 mod LinkedConstants
 mod LinkedFew
 mod LinkedFit
@@ -26,6 +36,7 @@ mod QuickPlain
 mod QuickSteps
 mod RunBy
 mod RunCounts
+mod RunGrown
 mod RunHere
 mod RunLoop
 mod RunQuick
@@ -36,6 +47,7 @@ mod RunTyped
 mod SuitedCalls
 mod SuitedRoom
 mod SuitedWords
+mod Sweeps
 mod TextReading
 mod TextsThere
 mod TurnsActed

@@ -2,6 +2,7 @@
 use Rattle.std.proofs.Common.{◌≡◌, ◌∙◌, ap, arith, refl, sym, subst, ℕ, ◌≤◌, Bool, List, [], ◌∷◌, map, Option, Some, None, is_some, true, if◌then◌else◌}
 use Rattle.std.proofs.lemmas.Bool.{eq-eqb}
 use Rattle.cb_act.specs.Acting.{Asks as AsksNeed, acted}
+use Rattle.cb_act.specs.Coming.{AreAllowed}
 use Rattle.cb_act.specs.Here.{Here}
 use Rattle.cb_act.specs.Keeping.{kept_plan}
 use Rattle.cb_act.specs.Placing.{exception_size, thrown}
@@ -9,6 +10,7 @@ use Rattle.cb_act.specs.Turning.{NotAsked, Outside, RoomMade, RoomRefused, TurnM
 use Rattle.cb_act.specs.declared.need.Need.TheVariants as needs
 use Rattle.cb_act.proofs.Laws.{thrown_so}
 use Rattle.cb_heap.specs.Closed.{Collects, IsClosed}
+use Rattle.cb_heap.specs.Follows.{Follows}
 use Rattle.cb_heap.specs.Kept.{residents}
 use Rattle.cb_heap.specs.Reading.{View, read_roots, read_value, seen}
 use Rattle.cb_heap.specs.Rules.{Rules}
@@ -24,6 +26,7 @@ use Rattle.cb_machine.specs.Performing.{Gives, Stops}
 use Rattle.cb_machine.specs.Plans.{One, Placing, Plan, leaving, made, object_of}
 use Rattle.cb_machine.specs.Steps.{asked_of, plan}
 use Rattle.cb_machine.specs.Throwing.{exception_contents, throwing}
+use Rattle.cb_natives.proofs.Laws.{copied_closes}
 use Rattle.cb_natives.specs.Answers.{Beside}
 use Rattle.cb_natives.specs.ArrayRanges.{FailsCopy, PlansCopy, copied_by, ends_with}
 use Rattle.cb_natives.specs.Exceptions.{site_of}
@@ -31,13 +34,16 @@ use Rattle.cb_natives.specs.Making.{Asks, machine_in, state_in}
 use Rattle.cb_natives.specs.MakingOwn.{call_of}
 use Rattle.cb_natives.specs.declared.answers.Exception.{Exception}
 use Rattle.cb_natives.specs.declared.copy_plans.CopyPlan.{CopyPlan}
+use Rattle.cb_natives.specs.declared.array_ranges.Ranges.{Ranges}
 use Rattle.cb_plain.specs.Requests.{words_at}
 use Rattle.cb_plain.specs.State.{Object, Roots, State, words_of}
 use Rattle.cb_plain.specs.declared.shape.Shape.{Shape}
 use Rattle.cb_plain.specs.declared.value.Value.{Value}
 use Rattle.cb_plain.specs.declared.want.Want.{Want}
+use Rattle.cb_interp.proofs.Allowed.{allowed_asked, allowed_next}
+use Rattle.cb_interp.proofs.FollowCopies.{follows_front}
 use Rattle.cb_interp.proofs.NativesAnswered.{stops_so}
-use Rattle.cb_interp.proofs.NativesMade.{behind_made, collects_nothing, goes_on, stops_again, turn_so}
+use Rattle.cb_interp.proofs.NativesMade.{behind, behind_made, collects_nothing, goes_on, plans_so, stops_again, turn_so}
 use Rattle.cb_interp.proofs.TurnsMade.{collected_plan}
 use Rattle.cb_interp.proofs.TurnsThrown.{exception_want}
 use Rattle.cb_interp.specs.Answering.{argument_count, behind_answer}
@@ -87,6 +93,13 @@ module _ (program : Linked) (index : ℕ → ℕ) (objects : List (Option Object
 
     pub copy_goes_on : is_some (plan machine (state_of view outside)) ≡ true → decoded.next ≡ None → ⊥
     copy_goes_on = goes_on program index objects limit held outside decoded method at asks natives.SystemArraycopy is asks_nothing
+
+    -- what it leaves follows what sites allow, where they allow what may come
+    pub copied_follows : (allows : ℕ → ℕ → Bool) (pc : ℕ) → decoded.next ≡ Some pc → AreAllowed allows machine (state_of view outside) → Follows allows left
+    copied_follows allows pc next allowed =
+        allowed_next allows machine (state_of view outside) (behind program index objects limit held outside decoded method at asks natives.SystemArraycopy is (leaving (state_left outside.input outside.printed)) [] pc) allowed
+        (plans_so program index objects limit held outside decoded method at asks natives.SystemArraycopy is (leaving (state_left outside.input outside.printed)) [] pc next
+        (gives limit outside.input outside.printed))
 
     pub copied_turn : {Facts : Type 0} (rules : Rules Facts) (facts now : Facts) (changed : List (Option Object)) (places : ℕ → ℕ) (after : Roots) (pc : ℕ) → IsClosed view
         → decoded.next ≡ Some pc → changed ≡ left → now ≡ facts → places ≡ index → after ≡ behind_answer (argument_count program decoded) [] pc held
@@ -157,6 +170,21 @@ module _ (program : Linked) (index : ℕ → ℕ) (objects : List (Option Object
             (sym (ap (λ (fails : Option Exception). Some (ends_with (call_of program stay limit (beside_of middle.roots outside.input outside.printed)) changed fails)) some) ∙ ends) in
             let sites : site_of other ≡ site = ap (λ (own : Plan). first_site own.placed) whole in
             sym whole ∙ ap (λ (site : ℕ). throwing machine site (leaving left_changed)) sites
+
+      -- so does what it copies
+      pub failed_follows : {Facts : Type 0} (rules : Rules Facts) (facts between : Facts) (allows : ℕ → ℕ → Bool) → AreAllowed allows machine (state_of view outside) → Follows allows changed
+      failed_follows rules facts between allows allowed =
+          let whole : Follows allows (made (throwing machine site (leaving left_changed))).objects =
+          subst (λ (own : Plan). Follows allows (made own).objects) same_there
+          (allowed_asked rules machine allows (moment_of view outside facts) (moment_of middle outside between) thrown_by allowed fails_so collects
+          (ap (λ (roots : Roots). state_of (record { roots = roots; objects = stay }) outside) collects.roots)) in
+          follows_front changed (Some (object_of site (kind_of_site program site) (exception_contents 0 0)) ∷ []) allows middle.roots closed whole where
+            by_ranges : (ranges : Option Ranges) → IsClosed (record { roots = middle.roots; objects = copied_by stay places ranges })
+            by_ranges None = collects.closed
+            by_ranges (Some ranges) = copied_closes stay places ranges (copied_by stay places (Some ranges)) refl middle.roots collects.closed
+
+            closed : IsClosed (record { roots = middle.roots; objects = changed })
+            closed = by_ranges again.ranges
 
       pub failed_so : {Facts : Type 0} (rules : Rules Facts) (facts between now : Facts) (after : View) (shapes : List Shape) (wants : List Want) → wants ≡ exception_want site ∷ []
           → new_object shapes site (kind_of_site program site) exception_size ≡ object_of site (kind_of_site program site) (exception_contents 0 0)

@@ -5,7 +5,7 @@ use Rattle.std.proofs.Math.Seq.{drop-append_seam}
 use Rattle.std.proofs.lemmas.Bool.{false≢true, ltb-true}
 use Rattle.std.proofs.lemmas.List.{drop-map, length-map, reverse-reverse}
 use Rattle.std.specs.List.{AllByRecursion, flat_map, fold, list_all, take-map}
-use Rattle.std.specs.Prelude.{◌==◌, IsTrue, OnOk, if◌then◌else◌, nat_lt, option_and_then, option_map, slice_get}
+use Rattle.std.specs.Prelude.{◌==◌, IfErr, IsTrue, OnOk, if◌then◌else◌, nat_lt, option_and_then, option_map, slice_get}
 use Rattle.std.specs.declared.result.Result.{Result}
 use Rattle.std.specs.declared.result.Result.TheVariants.{Err, Ok}
 use Rattle.std.proofs.lemmas.List.Sums.{sum_by-cons}
@@ -13,6 +13,7 @@ use Rattle.cb_act.proofs.Laws.{by_native, front_held, keep_unseen, natives_keep,
 use Rattle.cb_act.specs.Acting.{Asks as AsksNeed, acted}
 use Rattle.cb_act.specs.Changing.{IsUnseen, changed_performed}
 use Rattle.cb_act.specs.Effects.{stacked}
+use Rattle.cb_act.specs.Coming.{AreAllowed, MayCome}
 use Rattle.cb_act.specs.Here.{Here}
 use Rattle.cb_act.specs.Keeping.{IsKeeping, kept_plan, kept_state}
 use Rattle.cb_act.specs.Steps.{view_of}
@@ -21,9 +22,11 @@ use Rattle.cb_act.specs.declared.need.Need.TheVariants as needs
 use Rattle.cb_frames.specs.Tops.{at_place as placed_at, changed_in, on_top, placed, stack_in, top_stack, with_stack as stack_changed}
 use Rattle.cb_heap.proofs.Laws.{reads_placed, reads_stack, stack_held}
 use Rattle.cb_heap.specs.Closed.{Collects, IsClosed}
+use Rattle.cb_heap.specs.Follows.{Follows}
 use Rattle.cb_heap.specs.Kept.{is_held, keep, residents}
 use Rattle.cb_heap.specs.Reading.{View, read_roots, read_value, seen, serial_of}
 use Rattle.cb_heap.specs.Grants.{IsBounded, words_granted}
+use Rattle.cb_interp.proofs.TurnsNeedSerials.{HasSerials, serials_all}
 use Rattle.cb_heap.specs.Rules.{Meaning, Rules}
 use Rattle.cb_heap.specs.declared.no_room.NoRoom.{NoRoom}
 use Rattle.cb_library.specs.declared.native.Native.{Native}
@@ -35,13 +38,13 @@ use Rattle.cb_link.specs.declared.decoded.Decoded.{Decoded}
 use Rattle.cb_machine.specs.Machine.{Machine}
 use Rattle.cb_machine.specs.Natives.{native_of, performed}
 use Rattle.cb_machine.specs.Performing.{Gives, Performed, Stops}
-use Rattle.cb_machine.specs.Plans.{Alike, One, Placing, Plan, Rows, asked, wants_of, with_left}
+use Rattle.cb_machine.specs.Plans.{Alike, One, Placing, Plan, Rows, asked, made, wants_of, with_left}
 use Rattle.cb_machine.specs.Standing.{at_place}
 use Rattle.cb_machine.specs.Steps.{asked_of, plan, request}
 use Rattle.cb_machine.specs.Throwing.{throws}
 use Rattle.cb_natives.specs.Exceptions.{site_of}
 use Rattle.cb_natives.specs.Given.{AreGiven, have_sorts, roles, sorts_of}
-use Rattle.cb_natives.specs.Making.{Asks, HasRoom, Throws, given_back, machine_in, state_in}
+use Rattle.cb_natives.specs.Making.{Asks, HasRoom, MayLeave, Throws, given_back, machine_in, state_in}
 use Rattle.cb_natives.specs.Makers.{makes}
 use Rattle.cb_natives.specs.MakingArrays.{AreLaid}
 use Rattle.cb_natives.specs.MakingKept.{HasKinds, HasTables}
@@ -63,6 +66,7 @@ use Rattle.cb_safety.specs.Performing.{HasNatives}
 use Rattle.cb_safety.specs.States.{IsTypedState}
 use Rattle.cb_shapes.specs.declared.action.Action.{Action}
 use Rattle.cb_verify.specs.Typed.{IsTyped}
+use Rattle.cb_interp.proofs.Allowed.{allowed_next, allowed_on}
 use Rattle.cb_interp.proofs.NativesAnswered.{count_is, count_there, doing, enough, given, now, performed_so, rest, stack_is, standing_read, stops_so}
 use Rattle.cb_interp.proofs.NativesGiven.{natives_given, sorts_given}
 use Rattle.cb_interp.proofs.NativesLaid.{natives_laid}
@@ -182,17 +186,22 @@ module _ {Facts : Type 0} (rules : Rules Facts) (before after : Moment Facts) (c
   room_made [] (Ok done) some ruled = absurd (some refl)
   room_made (first ∷ wants) (Ok done) some ruled = Asked first wants after ruled collects same
 
-has_some : (objects : List (Option Object)) (wants : List Want) (fixed : Bool) → fixed ≡ false → AllByRecursion HasHeader wants → IsBounded fixed (length objects) wants
+  pub room_refused : (wants : List Want) (result : Result (Unit {0}) NoRoom) → (wants ≡ [] → ⊥) → rules.makes_room before.facts (view_of before.state) wants result meaning
+      → IfErr result (λ reason. RoomRefused rules before wants reason after)
+  room_refused wants (Ok done) some ruled = tt
+  room_refused wants (Err reason) some ruled = record { asked = some; ruled = ruled; collects = collects; same = same }
+
+has_some : (objects : List (Option Object)) (wants : List Want) (fixed : Bool) → HasSerials fixed (length objects) → AllByRecursion HasHeader wants → IsBounded fixed (length objects) wants
     → (wants ≡ [] → ⊥) → length objects + 2 < 2 ^ 63
 has_some objects [] fixed grows all bounded some = absurd (some refl)
 has_some objects (first ∷ wants) fixed grows all bounded some =
     let low = all.0 in
     let sum = sum_by-cons (λ (want : Want). want.words) first wants in
-    let serials = bounded.serials grows in
+    let serials = serials_all fixed (length objects) (first ∷ wants) grows bounded in
     let words : 3 ≤ words_granted (first ∷ wants) = omega (arith, low, sum) in
     omega (arith, words, serials)
 
-pub has_room : (objects : List (Option Object)) (wants granted : List Want) (fixed : Bool) (result : Result (Unit {0}) NoRoom) → fixed ≡ false
+pub has_room : (objects : List (Option Object)) (wants granted : List Want) (fixed : Bool) (result : Result (Unit {0}) NoRoom) → HasSerials fixed (length objects)
     → AllByRecursion HasHeader wants → OnOk result (granted ≡ wants) → OnOk result (IsBounded fixed (length objects) wants)
     → OnOk result ((wants ≡ [] → ⊥) → HasRoom objects wants granted)
 has_room objects wants granted fixed (Err reason) grows all same bounded = tt
@@ -246,13 +255,13 @@ module _ (program : Linked) (index : ℕ → ℕ) (objects : List (Option Object
   abbrev frames_behind : List Value → ℕ → List Frame
   frames_behind answer pc = OfMethod (at_place at.frame pc at.frame.locals (answer ++ values_left)) ∷ at.below
 
-  abbrev behind : Plan → List Value → ℕ → Plan
+  abbrev pub behind : Plan → List Value → ℕ → Plan
   behind own answer pc = with_left own (with_frames own.left (frames_behind answer pc))
 
   next_so : decoded.next ≡ behind_in (code_at program at.frame.method) at.frame.pc
   next_so = ap (λ (decoded : Decoded). decoded.next) at.is
 
-  plans_so : (own : Plan) (answer : List Value) (pc : ℕ) → decoded.next ≡ Some pc → performed machine state native arguments ≡ Some (Gives own answer)
+  pub plans_so : (own : Plan) (answer : List Value) (pc : ℕ) → decoded.next ≡ Some pc → performed machine state native arguments ≡ Some (Gives own answer)
       → plan machine state ≡ Some (behind own answer pc)
   plans_so own answer pc next gives =
       let there : behind_in (code_at program at.frame.method) at.frame.pc ≡ Some pc = sym next_so ∙ next in
@@ -377,6 +386,26 @@ module _ (program : Linked) (index : ℕ → ℕ) (objects : List (Option Object
         ap (plan machine) (kept_so outside.input outside.printed)
         ∙ plan_kept machine (keep marks) (is_held (keep marks objects)) state unseen (natives_keep machine marks state (keeping_so outside.input outside.printed))
         ∙ ap (option_map (kept_plan marks)) (plans_so own answer pc next gives)
+
+    -- and what it leaves follows what sites allow, where they allow what may come
+    pub may_leave_still : (allows : ℕ → ℕ → Bool) {wants : List Want} (pc : ℕ) → decoded.next ≡ Some pc → Asks program view native arguments wants
+        → AreAllowed allows machine state → MayLeave program allows middle native (map (read_value places) (arguments_at program decoded roots))
+    may_leave_still allows pc next makes allowed = record { frames = limit; input = outside.input; printed = outside.printed; each = each } where
+      stay_allowed : AreAllowed allows machine (state_of middle outside)
+      stay_allowed =
+          subst (AreAllowed allows machine) (sym (kept_so outside.input outside.printed))
+          (allowed_on allows machine state (kept_state marks state) allowed (MayCome.Kept marks state MayCome.Here (keeping_so outside.input outside.printed)))
+
+      each : (own : Plan) (answer : List Value)
+          → performed (machine_in program limit) (state_in middle outside.input outside.printed) native (map (read_value places) (arguments_at program decoded roots)) ≡ Some (Gives own answer)
+          → Follows allows (made own).objects
+      each own answer gives =
+          let mine = makes limit outside.input outside.printed in
+          let same = same_gives own (kept_plan marks mine.own) answer mine.answer
+          (sym gives ∙ ap (performed machine (state_of middle outside) native) same_arguments
+          ∙ performs_kept limit outside.input outside.printed mine.own mine.answer mine.is) in
+          subst (λ (own : Plan). Follows allows (made own).objects) (sym same.0)
+          (allowed_next allows machine (state_of middle outside) (behind (kept_plan marks mine.own) mine.answer pc) stay_allowed (plans_kept mine.own mine.answer pc next mine.is))
 
     -- what is given
     pub typed_still : IsTypedState program state → IsTypedState program (state_of middle outside)

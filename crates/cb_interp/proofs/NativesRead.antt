@@ -1,5 +1,5 @@
 -- Natives that read: what they are given of the input, and the turn of one is the machine's.
-use Rattle.std.proofs.Common.{◌≡◌, ◌∙◌, ap, arith, inl, inr, refl, sym, ℕ, zero, suc, ◌+◌, ◌<◌, ◌≤◌, ◌^◌, Bool, true, false, List, [], ◌∷◌, ◌++◌, drop, length, map, nat_lt, Option, Some, None, is_some, take}
+use Rattle.std.proofs.Common.{◌≡◌, ◌∙◌, ap, arith, inl, inr, refl, sym, ℕ, zero, suc, ◌<◌, ◌≤◌, ◌^◌, Bool, true, false, List, [], ◌∷◌, ◌++◌, drop, length, map, nat_lt, Option, Some, None, is_some, take}
 use Rattle.std.proofs.KnownBytes.{Consumes-nil}
 use Rattle.std.proofs.Math.Seq.{drop-append_seam}
 use Rattle.std.proofs.lemmas.Bool.{and_parts, false≢true, ltb-true}
@@ -33,7 +33,7 @@ use Rattle.cb_safety.specs.States.{IsInput, IsTypedState}
 use Rattle.cb_verify.specs.Typed.{IsTyped}
 use Rattle.cb_interp.specs.Answering.{answer_values, argument_count, behind_answer}
 use Rattle.cb_interp.specs.Performing.{arguments_at}
-use Rattle.cb_interp.specs.Reading.{TakesInput, TurnedIn, are_bytes, with_given}
+use Rattle.cb_interp.specs.Reading.{Takes, TakesInput, TurnedIn, are_bytes, with_given}
 use Rattle.cb_interp.specs.declared.stop.Stop.{Stop}
 use Rattle.cb_interp.proofs.NativesAnswered.{behind_read}
 use Rattle.cb_interp.proofs.NativesLeft.{left_goes, left_plan}
@@ -68,6 +68,9 @@ take_all zero (byte ∷ read) few = absurd (omega (arith, few))
 take_all (suc count) [] few = refl
 take_all (suc count) (byte ∷ read) few = ap (λ (rest : List ℕ). byte ∷ rest) (take_all count read (omega (arith, few)))
 
+all_dropped : (bytes : List ℕ) → drop (length bytes) bytes ≡ []
+all_dropped bytes = ap (drop (length bytes)) (sym (append-nil bytes)) ∙ drop-append_seam bytes []
+
 take_one : (count : ℕ) → 0 < count → take {A = ℕ} count (0 ∷ []) ≡ 0 ∷ []
 take_one count some = take_all count (0 ∷ []) (omega (arith, some))
 
@@ -82,9 +85,7 @@ untold : (input : List ℕ) (left leaves : Option (List ℕ)) (count : ℕ) (rea
 untold input left leaves count read took never = record {
   given = read;
   front = take_all count read took.few;
-  whole =
-      let none : drop (length read) read ≡ [] = ap (drop (length read)) (sym (append-nil read)) ∙ drop-append_seam read [] in
-      sym (append-nil read) ∙ ap (λ (rest : List ℕ). read ++ rest) (sym none);
+  whole = sym (append-nil read) ∙ ap (λ (rest : List ℕ). read ++ rest) (sym (all_dropped read));
   bytes = λ all. took.low;
   told = λ told all. absurd (never told all);
 }
@@ -188,12 +189,13 @@ module _ (program : Linked) (index : ℕ → ℕ) (objects : List (Option Object
         (with_given outside rest)) stand)
         knows
 
-  -- given a byte it leaves none
-  pub read_takes : (after : List (Option Object)) (answer : Answer) → GivesSo (0 ∷ []) [] after answer → (pc : ℕ) → decoded.next ≡ Some pc → TakesInput machine (state_of view outside)
-  read_takes after answer gives pc next = record {
-    next = with_roots (left_by [] after) (behind_answer (argument_count program decoded) (answer_values answer) pc view.roots);
-    steps = ap (option_map made) (read_plan (0 ∷ []) [] after answer gives pc next);
-    taken = refl;
+  -- given bytes it leaves none
+  pub read_takes : (bytes rest : List ℕ) → rest ≡ [] → (after : List (Option Object)) (answer : Answer) → GivesSo bytes rest after answer → (pc : ℕ) → decoded.next ≡ Some pc
+      → Takes machine (state_of view outside) bytes
+  read_takes bytes rest none after answer gives pc next = record {
+    next = with_roots (left_by rest after) (behind_answer (argument_count program decoded) (answer_values answer) pc view.roots);
+    steps = ap (option_map made) (read_plan bytes rest after answer gives pc next);
+    taken = none;
   }
 
   -- what was read was given
@@ -219,8 +221,9 @@ module _ (program : Linked) (index : ℕ → ℕ) (objects : List (Option Object
     byte_gives : GivesSo (0 ∷ []) [] (after (0 ∷ [])) (answer (0 ∷ []))
     byte_gives = gives (0 ∷ []) (0 ∷ []) (take_one count some)
 
-    pub reader_takes : (pc : ℕ) → decoded.next ≡ Some pc → TakesInput machine (state_of view outside)
-    reader_takes = read_takes (after (0 ∷ [])) (answer (0 ∷ [])) byte_gives
+    pub reader_takes : (bytes : List ℕ) → length bytes ≤ count → (pc : ℕ) → decoded.next ≡ Some pc → Takes machine (state_of view outside) bytes
+    reader_takes bytes few =
+        read_takes bytes (drop (length bytes) bytes) (all_dropped bytes) (after bytes) (answer bytes) (gives bytes bytes (take_all count bytes few))
 
     module _ (linked : IsLinked program) (fits : IsTyped program) (typed : IsTypedState program (state_of view outside)) where
       pub reader_goes : decoded.next ≡ None → ⊥
@@ -236,5 +239,5 @@ module _ (program : Linked) (index : ℕ → ℕ) (objects : List (Option Object
           → TurnedIn rules machine outside view (seen index-now kept roots) facts now left leaves
       reader_turn rules facts pc next left leaves bytes took index-now kept now roots places stand knows behind =
           let by : GivenBy outside.input left count bytes = given_by outside.input left leaves count bytes took in
-          turned_in rules facts now left leaves count bytes typed.input took (reader_takes pc next) by (seen index-now kept roots)
+          turned_in rules facts now left leaves count bytes typed.input took (reader_takes (0 ∷ []) (omega (arith, some)) pc next) by (seen index-now kept roots)
           (read_made by.given (drop (length bytes) by.given) (after bytes) (answer bytes) (gives by.given bytes by.front) rules facts pc next index-now kept now roots places stand knows behind)

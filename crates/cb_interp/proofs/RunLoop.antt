@@ -12,23 +12,22 @@ use Rattle.cb_heap.specs.Rules.{Rules}
 use Rattle.cb_heap.specs.declared.no_room.NoRoom.TheVariants as rooms
 use Rattle.cb_machine.specs.Machine.{Machine}
 use Rattle.cb_machine.specs.Plans.{Plan, made}
-use Rattle.cb_machine.specs.Runs.{after, next, outcome}
+use Rattle.cb_machine.specs.Runs.{after, outcome}
 use Rattle.cb_machine.specs.Steps.{plan}
 use Rattle.cb_machine.specs.declared.outcome.Outcome.TheVariants as outcomes
 use Rattle.cb_plain.specs.State.{Frame, Object, Roots, State}
 use Rattle.cb_plain.specs.Updates.{object_at, object_in, with_input}
-use Rattle.cb_natives.specs.Input.{Loses}
-use Rattle.cb_interp.specs.Reading.{LosesBy, TakesInput, are_bytes, as_bytes}
+use Rattle.cb_interp.specs.Reading.{Fails, LosesBy, Takes, are_bytes, as_bytes}
 use Rattle.cb_interp.specs.Running.{Ended, EndsBy, IsEndOf, LeavesAt, Prints, SaysBy, StopsBy, TurnStops, WentOut, exited, has_ended, last_of, outside_of}
 use Rattle.cb_act.specs.Steps.{view_of}
-use Rattle.cb_act.specs.Turning.{Moment, Outside, StandsAt, TurnMade, Turns, moment_of}
+use Rattle.cb_act.specs.Turning.{Moment, Outside, StandsAt, Turns, WholeTurn, moment_of}
 use Rattle.cb_interp.specs.declared.end.End.{End}
 use Rattle.cb_interp.specs.declared.end.End.TheVariants as ends
 use Rattle.cb_interp.specs.declared.stop.Stop.{Stop}
 use Rattle.cb_interp.specs.declared.stop.Stop.TheVariants as stops
-use Rattle.cb_interp.proofs.RunTurns.{appends_none}
+use Rattle.cb_interp.proofs.RunTurns.{appends_none, refused_so}
 use Rattle.cb_interp.proofs.RunTyped.{not_zero}
-use Rattle.cb_act.proofs.Laws.{after_one_more, planned, turn_stands}
+use Rattle.cb_act.proofs.Laws.{after_one_more, planned, whole_stands}
 
 pub appends_more : (first second third : Option (List ℕ)) (front back : List ℕ) → Appends first second front → Appends second third back → Appends first third (front ++ back)
 appends_more None second third front back one other = tt
@@ -52,9 +51,10 @@ kept_known : (leave : Option (List ℕ)) (input : List ℕ) → Keeps (Some inpu
 kept_known None input keeps = absurd keeps
 kept_known (Some bytes) input keeps = ap (λ (bytes : List ℕ). Some bytes) keeps
 
-part_known : (leave : Option (List ℕ)) (input front : List ℕ) → Consumes (Some input) leave front → LeavesAt ends.InputFault input leave
-part_known None input front consumes = absurd consumes
-part_known (Some bytes) input front consumes = (front, bytes, consumes, refl)
+part_known : (machine : Machine) (state : State) (leave : Option (List ℕ)) (front : List ℕ) → Consumes (Some state.input) leave front → Takes machine state (front ++ 0 ∷ [])
+    → LeavesAt machine ends.InputFault state leave
+part_known machine state None front consumes takes = absurd consumes
+part_known machine state (Some bytes) front consumes takes = (front, bytes, consumes, refl, takes)
 
 pub told_on : (known leaves : Option (List ℕ)) (one other : List ℕ) → one ≡ other → IfSome known (λ bytes. leaves ≡ Some one) → IfSome known (λ bytes. leaves ≡ Some other)
 told_on known leaves one other same told = subst (λ (input : List ℕ). IfSome known (λ bytes. leaves ≡ Some input)) same told
@@ -100,7 +100,7 @@ module _ {Facts : Type 0} (rules : Rules Facts) (machine : Machine) (full : Stat
 
   -- one turn more was made, and its step called it
   pub exits_at : (budget number : ℕ) (status : ℤ) (first : Moment Facts) (view later : View) (facts now : Facts) (taken takes left leaves leave : Option (List ℕ))
-      → Ran number first view facts taken takes left leaves → IfSome (as_bytes left) (λ bytes. leave ≡ Some (after machine number full).input) → number < budget → TurnMade rules machine (moment_at number view facts) (exited status (moment_at number later now))
+      → Ran number first view facts taken takes left leaves → IfSome (as_bytes left) (λ bytes. leave ≡ Some (after machine number full).input) → number < budget → WholeTurn rules machine (moment_at number view facts) (exited status (moment_at number later now))
       → ((own : Plan) → plan machine (after machine number full) ≡ Some own → IsClosed (view_of (made own)))
       → Ended rules machine budget (ends.Exited status) full first later now taken takes left leave
   exits_at budget number status first view later facts now taken takes left leaves leave ran told low made closed =
@@ -108,7 +108,7 @@ module _ {Facts : Type 0} (rules : Rules Facts) (machine : Machine) (full : Stat
       let there : State = after machine (suc number) full in
       let last : Moment Facts = exited status (moment_at number later now) in
       let stands : StandsAt last there =
-      subst (StandsAt last) (sym (after_one_more rules machine number full)) (turn_stands rules machine (moment_at number view facts) last here made ran.stands closed) in
+      subst (StandsAt last) (sym (after_one_more rules machine number full)) (whole_stands rules machine (moment_at number view facts) last here made ran.stands closed) in
       let printed : here.printed ≡ there.printed = ap (λ (state : State). state.printed) stands.same in
       let input : here.input ≡ there.input = ap (λ (state : State). state.input) stands.same in
       let is : last_of later there now ≡ last =
@@ -144,18 +144,18 @@ module _ {Facts : Type 0} (rules : Rules Facts) (machine : Machine) (full : Stat
         }
 
   -- and asks the input where it does
-  pub takes_whole : (moment : Moment Facts) (state : State) → StandsAt moment state → TakesInput machine moment.state → TakesInput machine state
-  takes_whole moment state stands takes = go (plan machine (with_input moment.state (0 ∷ []))) refl where
+  pub takes_whole : (moment : Moment Facts) (state : State) → StandsAt moment state → (bytes : List ℕ) → Takes machine moment.state bytes → Takes machine state bytes
+  takes_whole moment state stands bytes takes = go (plan machine (with_input moment.state bytes)) refl where
     given : Moment Facts
-    given = record { state = with_input moment.state (0 ∷ []); facts = moment.facts }
+    given = record { state = with_input moment.state bytes; facts = moment.facts }
 
-    stands_given : StandsAt given (with_input state (0 ∷ []))
-    stands_given = record { kept = stands.kept; same = ap (λ (state : State). with_input state (0 ∷ [])) stands.same; marks = stands.marks; keeping = record { count = stands.keeping.count; closed = stands.keeping.closed } }
+    stands_given : StandsAt given (with_input state bytes)
+    stands_given = record { kept = stands.kept; same = ap (λ (state : State). with_input state bytes) stands.same; marks = stands.marks; keeping = record { count = stands.keeping.count; closed = stands.keeping.closed } }
 
-    go : (found : Option Plan) → plan machine (with_input moment.state (0 ∷ [])) ≡ found → TakesInput machine state
+    go : (found : Option Plan) → plan machine (with_input moment.state bytes) ≡ found → Takes machine state bytes
     go None is = absurd (cc (sym (ap (option_map made) is) ∙ takes.steps))
     go (Some own) is =
-        let (whole, there, same) = planned rules machine given (with_input state (0 ∷ [])) own stands_given is in
+        let (whole, there, same) = planned rules machine given (with_input state bytes) own stands_given is in
         let next : made own ≡ takes.next = same_Some (made own) takes.next (sym (ap (option_map made) is) ∙ takes.steps) in
         record {
           next = made whole;
@@ -198,7 +198,7 @@ module _ {Facts : Type 0} (rules : Rules Facts) (machine : Machine) (full : Stat
     after_it = moment_at number later now
 
     ending : (end : End) → number ≤ budget → EndsBy rules machine budget number end here before after_it → WentOut machine end here ran.said taken took
-        → IfSome (as_bytes left) (λ bytes. LeavesAt end here.input leave) → Ended rules machine budget end full first later now taken took left leave
+        → IfSome (as_bytes left) (λ bytes. LeavesAt machine end here leave) → Ended rules machine budget end full first later now taken took left leave
     ending end within ends out remains =
         record { count = number; within = within; before = before; turns = ran.turns; stands = ran.stands; ends = subst (EndsBy rules machine budget number end here before) (sym (last_at number view later facts now ran.stands)) ends; said = ran.said; grows = ran.grows; out = out; read = ran.read; whole = ran.whole; remains = remains }
 
@@ -210,11 +210,12 @@ module _ {Facts : Type 0} (rules : Rules Facts) (machine : Machine) (full : Stat
       go (Some bytes) told = kept_known leave here.input (subst (λ leaves. Keeps leaves leave) told keeps)
 
     -- and else a part of it
-    remain_part : Loses leaves leave → IfSome (as_bytes left) (λ bytes. LeavesAt ends.InputFault here.input leave)
-    remain_part (front, consumes) = go (as_bytes left) ran.told where
-      go : (known : Option (List ℕ)) → IfSome known (λ bytes. leaves ≡ Some here.input) → IfSome known (λ bytes. LeavesAt ends.InputFault here.input leave)
+    remain_part : Fails machine before.state leaves leave → IfSome (as_bytes left) (λ bytes. LeavesAt machine ends.InputFault here leave)
+    remain_part fails = go (as_bytes left) ran.told where
+      go : (known : Option (List ℕ)) → IfSome known (λ bytes. leaves ≡ Some here.input) → IfSome known (λ bytes. LeavesAt machine ends.InputFault here leave)
       go None told = tt
-      go (Some bytes) told = part_known leave here.input front (subst (λ leaves. Consumes leaves leave front) told consumes)
+      go (Some bytes) told = part_known machine here leave fails.front (subst (λ leaves. Consumes leaves leave fails.front) told fails.consumes)
+          (takes_whole before here ran.stands (fails.front ++ 0 ∷ []) fails.takes)
 
     same_out : took ≡ takes → Appends taken took ran.said
     same_out same = subst (λ took. Appends taken took ran.said) (sym same) ran.appends
@@ -225,7 +226,7 @@ module _ {Facts : Type 0} (rules : Rules Facts) (machine : Machine) (full : Stat
 
     pub ends_at : (stop : Stop) (end : End) → number ≤ budget → (takes_turn stop → number < budget)
         → ((own : Plan) → plan machine here ≡ Some own → IsClosed (view_of (made own))) → TurnStops rules machine stop before after_it
-        → SaysBy machine before.state stop takes took → LosesBy stop leaves leave → IsEndOf later stop end → Ended rules machine budget end full first later now taken took left leave
+        → SaysBy machine before.state stop takes took → LosesBy machine before.state stop leaves leave → IsEndOf later stop end → Ended rules machine budget end full first later now taken took left leave
     ends_at stops.Returned end within low closed (same, is) says lost is_end =
         subst (λ end. Ended rules machine budget end full first later now taken took left leave) (sym is_end)
         (ending ends.Returned within (outcome_whole before here ran.stands ∙ is, same) (same_out says) (remain lost))
@@ -247,7 +248,7 @@ module _ {Facts : Type 0} (rules : Rules Facts) (machine : Machine) (full : Stat
         (ending ends.OutOfMemory within (low tt, refused) (same_out says) (remain lost))
     ends_at stops.InputFault end within low closed takes says lost is_end =
         subst (λ end. Ended rules machine budget end full first later now taken took left leave) (sym is_end)
-        (ending ends.InputFault within (low tt, takes_whole before here ran.stands takes) (same_out says) (remain_part lost))
+        (ending ends.InputFault within (low tt, takes_whole before here ran.stands (0 ∷ []) takes) (same_out says) (remain_part lost))
     ends_at stops.OutputFault end within low closed same says lost is_end =
         subst (λ end. Ended rules machine budget end full first later now taken took left leave) (sym is_end)
         (ending ends.OutputFault within (low tt, same) (cut_out says) (remain lost))
@@ -313,7 +314,7 @@ pub stops_turn : {Facts : Type 0} (rules : Rules Facts) (machine : Machine) (sto
 stops_turn rules machine stops.Returned moment is = is
 stops_turn rules machine stops.Uncaught moment is = is
 stops_turn rules machine (stops.Exited status) moment is = absurd is
-stops_turn rules machine (stops.NoRoom reason) moment is = is
+stops_turn rules machine (stops.NoRoom reason) moment is = refused_so rules machine reason moment moment is
 stops_turn rules machine stops.InputFault moment is = absurd is
 stops_turn rules machine stops.OutputFault moment is = refl
 
@@ -325,6 +326,6 @@ stays_silent machine state (stops.NoRoom reason) taken never = refl
 stays_silent machine state stops.InputFault taken never = refl
 stays_silent machine state stops.OutputFault taken never = absurd (never tt)
 
-pub stays_kept : (stop : Stop) (left : Option (List ℕ)) → (takes_turn stop → ⊥) → LosesBy stop left left
-stays_kept stops.InputFault left never = absurd (never tt)
-stays_kept other left never = Keeps-refl left
+pub stays_kept : (machine : Machine) (state : State) (stop : Stop) (left : Option (List ℕ)) → (takes_turn stop → ⊥) → LosesBy machine state stop left left
+stays_kept machine state stops.InputFault left never = absurd (never tt)
+stays_kept machine state other left never = Keeps-refl left

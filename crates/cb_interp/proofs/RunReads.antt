@@ -12,6 +12,7 @@ use Rattle.cb_plain.specs.State.{State}
 use Rattle.cb_interp.specs.Reading.{InputFails, LosesBy}
 use Rattle.cb_interp.specs.Running.{ReadStops, SaysBy, StopsBy, TurnStops}
 use Rattle.cb_interp.specs.declared.stop.Stop.{Stop}
+use Rattle.cb_interp.proofs.RunTurns.{refused_so}
 use Rattle.cb_interp.specs.declared.stop.Stop.TheVariants as stops
 
 module _ {Facts : Type 0} (rules : Rules Facts) (machine : Machine) (before after : Moment Facts) where
@@ -31,11 +32,11 @@ module _ {Facts : Type 0} (rules : Rules Facts) (machine : Machine) (before afte
   fails_read (Ok done) is = tt
   fails_read (Err stop) is = fail_reads stop is
 
-  still : (left : Option (List ℕ)) (stop : Stop) → StopsBy rules machine stop before after → LosesBy stop left left
+  still : (left : Option (List ℕ)) (stop : Stop) → StopsBy rules machine stop before after → LosesBy machine before.state stop left left
   still left stops.InputFault is = absurd is
   still left other is = Keeps-refl left
 
-  pub stays_still : (left : Option (List ℕ)) (result : Result (Unit {0}) Stop) → IfErr result (λ stop. StopsBy rules machine stop before after) → IfErr result (λ stop. LosesBy stop left left)
+  pub stays_still : (left : Option (List ℕ)) (result : Result (Unit {0}) Stop) → IfErr result (λ stop. StopsBy rules machine stop before after) → IfErr result (λ stop. LosesBy machine before.state stop left left)
   stays_still left (Ok done) is = tt
   stays_still left (Err stop) is = still left stop is
 
@@ -50,7 +51,9 @@ module _ {Facts : Type 0} (rules : Rules Facts) (machine : Machine) (before afte
   read_stop stops.InputFault is = is
   read_stop stops.OutputFault is = absurd is
   read_stop (stops.Exited status) is = absurd is
-  read_stop other is = is
+  read_stop (stops.NoRoom reason) is = refused_so rules machine reason before after is
+  read_stop stops.Returned is = is
+  read_stop stops.Uncaught is = is
 
   pub reads_stop : (result : Result (Unit {0}) Stop) → IfErr result (λ stop. ReadStops rules machine stop before after) → IfErr result (λ stop. TurnStops rules machine stop before after)
   reads_stop (Ok done) is = tt
@@ -81,7 +84,8 @@ never_room machine state (Ok done) fails same = cc same
 never_room machine state (Err stop) fails same = only_input machine state stop fails (cc same)
 
 -- no call of the input failed
-pub unasked_still : (left : Option (List ℕ)) (result : Result (Unit {0}) Stop) → (result ≡ Err stops.InputFault → ⊥) → IfErr result (λ stop. LosesBy stop left left)
-unasked_still left (Ok done) never = tt
-unasked_still left (Err stops.InputFault) never = absurd (never refl)
-unasked_still left (Err other) never = Keeps-refl left
+pub unasked_still : (machine : Machine) (state : State) (left : Option (List ℕ)) (result : Result (Unit {0}) Stop) → (result ≡ Err stops.InputFault → ⊥)
+    → IfErr result (λ stop. LosesBy machine state stop left left)
+unasked_still machine state left (Ok done) never = tt
+unasked_still machine state left (Err stops.InputFault) never = absurd (never refl)
+unasked_still machine state left (Err other) never = Keeps-refl left

@@ -1,5 +1,5 @@
 -- Runs whose input doesn't tell its bytes, once a step has asked it; and how a run goes on and ends, strayed or not.
-use Rattle.std.proofs.Common.{◌≡◌, ◌⊎◌, ◌+◌, ◌++◌, ◌<◌, ◌≤◌, arith, inl, inr, refl, sym, subst, ℕ, zero, suc, List, Option, None, Some, IfSome}
+use Rattle.std.proofs.Common.{◌≡◌, ◌⊎◌, ◌+◌, ◌++◌, ◌∷◌, ◌<◌, ◌≤◌, [], arith, inl, inr, refl, sym, subst, ℕ, zero, suc, false, List, Option, None, Some, IfSome}
 use Rattle.std.specs.Io.KnownBytes.{Appends}
 use Rattle.cb_heap.specs.Closed.{IsClosed}
 use Rattle.cb_heap.specs.Reading.{View}
@@ -15,7 +15,9 @@ use Rattle.cb_safety.specs.Linked.{IsLinked}
 use Rattle.cb_safety.specs.States.{AreFrames, IsInput, IsTypedState}
 use Rattle.cb_verify.specs.Typed.{IsTyped}
 use Rattle.cb_verify.specs.Within.{kind_of_throwable}
+use Rattle.cb_act.specs.Coming.{MayCome}
 use Rattle.cb_act.specs.Steps.{view_of}
+use Rattle.cb_act.specs.Sweeping.{calls_gc}
 use Rattle.cb_act.specs.Turning.{Moment, Outside, Turns, moment_of, state_of}
 use Rattle.cb_interp.specs.Quick.{AdvancedBy}
 use Rattle.cb_interp.specs.Reading.{LosesBy, TakesInput, TurnedIn, as_bytes, with_given}
@@ -23,9 +25,11 @@ use Rattle.cb_interp.specs.Running.{Ended, IsEndOf, IsThrownAt, SaysBy, Strays, 
 use Rattle.cb_interp.specs.declared.end.End.{End}
 use Rattle.cb_interp.specs.declared.stop.Stop.{Stop}
 use Rattle.cb_interp.specs.declared.stop.Stop.TheVariants as stops
+use Rattle.cb_interp.proofs.Allowed.{coming_on, turn_comes, turns_come}
+use Rattle.cb_interp.proofs.AllowedTurns.{comes_beside}
 use Rattle.cb_interp.proofs.RunLoop.{Ran, appends_more, ends_at, moment_at, takes_turn, takes_whole}
 use Rattle.cb_interp.proofs.RunQuick.{ran_on, ran_read}
-use Rattle.cb_interp.proofs.RunTyped.{after_typed, made_closed, stands_typed, turn_typed}
+use Rattle.cb_interp.proofs.RunTyped.{after_typed, made_closed, stands_typed, turn_typed, whole_typed}
 
 -- the input doesn't tell its bytes, and was asked; then what is kept is typed, and some bytes went out
 pub record Strayed {Facts : Type 0} (rules : Rules Facts) (machine : Machine) (full : State) (number : ℕ) (first : Moment Facts) (view : View) (taken takes left : Option (List ℕ)) : Type 0 where
@@ -36,6 +40,7 @@ pub record Strayed {Facts : Type 0} (rules : Rules Facts) (machine : Machine) (f
   pub turns : Turns rules machine count first before
   pub asks : TakesInput machine (after machine count full)
   pub typed : IsTypedState machine.program (state_of view (outside_of (after machine number full)))
+  pub comes : MayCome machine first.state (state_of view (outside_of (after machine number full)))
   pub said : List ℕ
   pub appends : Appends taken takes said
 
@@ -62,7 +67,7 @@ module _ {Facts : Type 0} (rules : Rules Facts) (machine : Machine) (linked : Is
   turns_typed : (count : ℕ) (first last : Moment Facts) → Turns rules machine count first last → IsTypedState machine.program first.state → IsTypedState machine.program last.state
   turns_typed zero first last same typed = subst (λ (moment : Moment Facts). IsTypedState machine.program moment.state) same typed
   turns_typed (suc count) first last (before, turns, turn) typed =
-      turn_typed machine linked fits rules before last turn (turns_typed count first before turns typed)
+      whole_typed machine linked fits rules before last turn (turns_typed count first before turns typed)
 
   read_typed : (number : ℕ) (view later : View) (facts now : Facts) (left leaves : Option (List ℕ)) → TurnedIn rules machine (outside_of (here number)) view later facts now left leaves
       → IsTypedState machine.program (state_of view (outside_of (here number))) → (count : ℕ) → IsTypedState machine.program (state_of later (outside_of (here count)))
@@ -78,6 +83,29 @@ module _ {Facts : Type 0} (rules : Rules Facts) (machine : Machine) (linked : Is
   ran_typed number first view facts taken takes left leaves ran =
       stands_typed machine.program (moment_at rules machine full number view facts) (here number) ran.stands (here_typed number)
 
+  read_comes : (number : ℕ) (first : Moment Facts) (view later : View) (facts now : Facts) (left leaves : Option (List ℕ))
+      → TurnedIn rules machine (outside_of (here number)) view later facts now left leaves → MayCome machine first.state (state_of view (outside_of (here number))) → (count : ℕ)
+      → MayCome machine first.state (state_of later (outside_of (here count)))
+  read_comes number first view later facts now left leaves turned comes count =
+      let outside : Outside = outside_of (here number) in
+      let before = moment_of view (with_given outside turned.given) facts in
+      let behind = moment_of later (with_given outside turned.rest) now in
+      comes_beside machine first.state later (with_given outside turned.rest) (outside_of (here count))
+      (coming_on machine first.state before.state behind.state
+      (comes_beside machine first.state view outside (with_given outside turned.given) comes (turned.bytes (here_typed number).input))
+      (turn_comes rules machine before behind turned.made))
+      (here_typed count).input
+
+  ran_comes : (number : ℕ) (first : Moment Facts) (view : View) (facts : Facts) (taken takes left leaves : Option (List ℕ))
+      → Ran rules machine full number first view facts taken takes left leaves → MayCome machine first.state (state_of view (outside_of (here number)))
+  ran_comes number first view facts taken takes left leaves ran = turns_come rules machine number first (moment_at rules machine full number view facts) ran.turns
+
+  -- it may come
+  pub gone_comes : (number : ℕ) (first : Moment Facts) (view : View) (facts : Facts) (taken takes left leaves : Option (List ℕ))
+      → Gone rules machine full number first view facts taken takes left leaves → MayCome machine first.state (state_of view (outside_of (here number)))
+  gone_comes number first view facts taken takes left leaves (inl ran) = ran_comes number first view facts taken takes left leaves ran
+  gone_comes number first view facts taken takes left leaves (inr strayed) = strayed.comes
+
   pub gone_typed : (number : ℕ) (first : Moment Facts) (view : View) (facts : Facts) (taken takes left leaves : Option (List ℕ))
       → Gone rules machine full number first view facts taken takes left leaves → IsTypedState machine.program (state_of view (outside_of (here number)))
   gone_typed number first view facts taken takes left leaves (inl ran) = ran_typed number first view facts taken takes left leaves ran
@@ -86,11 +114,12 @@ module _ {Facts : Type 0} (rules : Rules Facts) (machine : Machine) (linked : Is
   -- ---- a run goes on
 
   reads_on : (number : ℕ) (first : Moment Facts) (view later : View) (facts now : Facts) (taken takes left leaves leave : Option (List ℕ))
-      → Ran rules machine full number first view facts taken takes left leaves → TurnedIn rules machine (outside_of (here number)) view later facts now leaves leave
+      → Ran rules machine full number first view facts taken takes left leaves → calls_gc machine.program (state_of view (outside_of (here number))) ≡ false
+      → TurnedIn rules machine (outside_of (here number)) view later facts now leaves leave
       → Gone rules machine full (number + 1) first later now taken takes left leave
-  reads_on number first view later facts now taken takes left leaves leave ran turned = known (as_bytes left) refl where
+  reads_on number first view later facts now taken takes left leaves leave ran still turned = known (as_bytes left) refl where
     goes : turned.given ≡ (here number).input → Gone rules machine full (number + 1) first later now taken takes left leave
-    goes same = inl (ran_read rules machine full number first view later facts now taken takes left leaves leave ran turned same (closed number))
+    goes same = inl (ran_read rules machine full number first view later facts now taken takes left leaves leave ran still turned same (closed number))
 
     asked : as_bytes left ≡ None → (turned.given ≡ (here number).input) ⊎ TakesInput machine (state_of view (outside_of (here number)))
         → Gone rules machine full (number + 1) first later now taken takes left leave
@@ -101,8 +130,9 @@ module _ {Facts : Type 0} (rules : Rules Facts) (machine : Machine) (linked : Is
       low = omega arith;
       before = moment_at rules machine full number view facts;
       turns = ran.turns;
-      asks = takes_whole rules machine full (moment_at rules machine full number view facts) (here number) ran.stands asks;
+      asks = takes_whole rules machine full (moment_at rules machine full number view facts) (here number) ran.stands (0 ∷ []) asks;
       typed = read_typed number view later facts now leaves leave turned (ran_typed number first view facts taken takes left leaves ran) (number + 1);
+      comes = read_comes number first view later facts now leaves leave turned (ran_comes number first view facts taken takes left leaves ran) (number + 1);
       said = ran.said;
       appends = ran.appends;
     })
@@ -122,10 +152,14 @@ module _ {Facts : Type 0} (rules : Rules Facts) (machine : Machine) (linked : Is
     asks = strayed.asks;
     typed = retyped machine.program later turned.next (outside_of (here (number + count)))
         (turns_typed count (moment_of view (outside_of (here number)) facts) (moment_of later turned.next now) turned.made strayed.typed) (here_typed (number + count)).input;
+    comes = comes_beside machine first.state later turned.next (outside_of (here (number + count)))
+        (coming_on machine first.state (state_of view (outside_of (here number))) (state_of later turned.next) strayed.comes
+        (turns_come rules machine count (moment_of view (outside_of (here number)) facts) (moment_of later turned.next now) turned.made))
+        (here_typed (number + count)).input;
     said = strayed.said ++ turned.said;
     appends = appends_more taken takes took strayed.said turned.said strayed.appends turned.appends;
   }
-  strays_on number count first view later facts now taken takes took left leaves leave strayed (AdvancedBy.Read one turned same) = record {
+  strays_on number count first view later facts now taken takes took left leaves leave strayed (AdvancedBy.Read one still turned same) = record {
     untold = strayed.untold;
     count = strayed.count;
     low = omega (arith, strayed.low);
@@ -133,6 +167,7 @@ module _ {Facts : Type 0} (rules : Rules Facts) (machine : Machine) (linked : Is
     turns = strayed.turns;
     asks = strayed.asks;
     typed = read_typed number view later facts now leaves leave turned strayed.typed (number + count);
+    comes = read_comes number first view later facts now leaves leave turned strayed.comes (number + count);
     said = strayed.said;
     appends = subst (λ took. Appends taken took strayed.said) (sym same) strayed.appends;
   }
@@ -143,10 +178,10 @@ module _ {Facts : Type 0} (rules : Rules Facts) (machine : Machine) (linked : Is
   goes_on number count first view later facts now taken takes took left leaves leave (inl ran) (AdvancedBy.Unread turned same) =
       subst (λ leave. Gone rules machine full (number + count) first later now taken took left leave) (sym same)
       (inl (ran_on rules machine full number count first view later facts now taken takes took left leaves ran turned (closed number)))
-  goes_on number count first view later facts now taken takes took left leaves leave (inl ran) (AdvancedBy.Read one turned same) =
+  goes_on number count first view later facts now taken takes took left leaves leave (inl ran) (AdvancedBy.Read one still turned same) =
       subst (λ took. Gone rules machine full (number + count) first later now taken took left leave) (sym same)
       (subst (λ (count : ℕ). Gone rules machine full (number + count) first later now taken takes left leave) (sym one)
-      (reads_on number first view later facts now taken takes left leaves leave ran turned))
+      (reads_on number first view later facts now taken takes left leaves leave ran still turned))
   goes_on number count first view later facts now taken takes took left leaves leave (inr strayed) advanced =
       inr (strays_on number count first view later facts now taken takes took left leaves leave strayed advanced)
 
@@ -160,7 +195,7 @@ module _ {Facts : Type 0} (rules : Rules Facts) (machine : Machine) (linked : Is
   pub gone_ends : (budget number : ℕ) (first : Moment Facts) (view later : View) (facts now : Facts) (taken takes took left leaves leave : Option (List ℕ))
       → Gone rules machine full number first view facts taken takes left leaves → (stop : Stop) (end : End) → number ≤ budget → (takes_turn stop → number < budget)
       → TurnStops rules machine stop (moment_at rules machine full number view facts) (moment_at rules machine full number later now)
-      → SaysBy machine (state_of view (outside_of (here number))) stop takes took → LosesBy stop leaves leave → IsEndOf later stop end
+      → SaysBy machine (state_of view (outside_of (here number))) stop takes took → LosesBy machine (state_of view (outside_of (here number))) stop leaves leave → IsEndOf later stop end
       → Ended rules machine budget end full first later now taken took left leave ⊎ Strays rules machine budget full first left
   gone_ends budget number first view later facts now taken takes took left leaves leave (inl ran) stop end within low stopped says lost is =
       inl (ends_at rules machine full budget number first view later facts now taken takes took left leaves leave ran stop end within low (closed number 0) stopped says lost is)

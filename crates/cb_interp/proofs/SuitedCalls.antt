@@ -91,15 +91,15 @@ module _ (machine : Machine) (state : State) (decoded : Decoded) (at : Here mach
     go (Some linked) there = of_callee linked there (within machine.program method) refl
 
 -- all that is asked for
-pub suits : (allows : ℕ → ℕ → Bool) (machine : Machine) (state : State) (decoded : Decoded) (at : Here machine state decoded)
-    → ((one other : ℕ) → allows one other ≡ true) → IsTyped machine.program → IsSound machine.program → IsTypedState machine.program state → IsClosed (view_of state)
+pub suits : (machine : Machine) (state : State) (decoded : Decoded) (at : Here machine state decoded)
+    → IsTyped machine.program → IsSound machine.program → IsTypedState machine.program state → IsClosed (view_of state)
     → GoesOn decoded → LooksAtArrays machine.program (view_of state) decoded
-    → ((limit : ℕ) → Advances (with_limit machine limit) state) → Suited allows machine.program decoded (view_of state)
-suits allows machine state decoded at all fits sound typed closed goes arrays advances = record {
+    → ((limit : ℕ) → Advances (with_limit machine limit) state) → Suited machine.program decoded (view_of state)
+suits machine state decoded at fits sound typed closed goes arrays advances = record {
   room = subst (λ (decoded : Decoded). HasRoom decoded (view_of state)) (sym at.is)
       (has_room_on machine state at.frame at.below at.insn fits sound typed at.quiet at.frames at.there);
-  words = subst (λ (decoded : Decoded). HasWords allows machine.program decoded (view_of state)) (sym at.is)
-      (has_words machine state at.frame at.below at.insn fits sound typed at.quiet at.frames at.there allows all closed);
+  words = subst (λ (decoded : Decoded). HasWords machine.program decoded (view_of state)) (sym at.is)
+      (has_words machine state at.frame at.below at.insn fits sound typed at.quiet at.frames at.there closed);
   arguments = arguments_suit machine state decoded at goes arrays advances;
 }
 

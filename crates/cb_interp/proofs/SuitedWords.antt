@@ -8,7 +8,6 @@ use Rattle.cb_frames.specs.Tops.{on_top, stack_in, top_stack}
 use Rattle.cb_heap.proofs.Laws.{stack_held}
 use Rattle.cb_heap.specs.Closed.{IsClosed}
 use Rattle.cb_heap.specs.Kept.{content_at, contents_at, is_held}
-use Rattle.cb_heap.specs.Store.{may_point}
 use Rattle.cb_insn.specs.declared.insn.Insn.{Insn}
 use Rattle.cb_kinds.specs.declared.basic.Basic.{Basic}
 use Rattle.cb_kinds.specs.declared.basic.Basic.TheVariants as basics
@@ -20,7 +19,7 @@ use Rattle.cb_machine.specs.Arrays.{element_of}
 use Rattle.cb_machine.specs.Machine.{Machine}
 use Rattle.cb_machine.specs.Values.{sort_of_basic}
 use Rattle.cb_plain.specs.Reach.{references_in}
-use Rattle.cb_plain.specs.State.{Content, Frame, MethodFrame, Object, OfMethod, State}
+use Rattle.cb_plain.specs.State.{Content, Frame, MethodFrame, OfMethod, State}
 use Rattle.cb_plain.specs.Updates.{object_in}
 use Rattle.cb_plain.specs.declared.value.Value.{Value}
 use Rattle.cb_plain.specs.declared.value.Value.TheVariants as values
@@ -41,7 +40,7 @@ use Rattle.cb_safety.specs.Words.{AreAny, AreOfSort, ArrayOn, HasWord, IsArray, 
 use Rattle.cb_safety.proofs.Laws.{arrays_measured, elements_read, elements_written, fields_read, fields_written, references_are_read, references_are_written, Stage, stage_of}
 use Rattle.cb_act.specs.Acting.{basic_on, default_of, elements_of, or_default}
 use Rattle.cb_act.specs.Here.{HasElements}
-use Rattle.cb_act.specs.Objects.{MayPut, Suits, SuitsWord, SuitsWords, object_on, referred, suits_unless_null}
+use Rattle.cb_act.specs.Objects.{Suits, SuitsWord, SuitsWords, object_on, referred, suits_unless_null}
 use Rattle.cb_act.specs.Steps.{view_of}
 use Rattle.cb_act.specs.Suited.{HasWords, SuitsArray}
 use Rattle.cb_act.proofs.Laws.{whole_read}
@@ -182,23 +181,6 @@ module _ (machine : Machine) (state : State) (frame : MethodFrame) (below : List
   pub held_on : IsClosed (view_of state) → (depth : ℕ) → is_held state.objects (object_on (view_of state) depth) ≡ true
   held_on closed depth = held_in (top_stack state.roots) depth (stack_held (is_held state.objects) state.roots closed.roots)
 
-  -- and may be pointed to, where all may
-  points : (allows : ℕ → ℕ → Bool) → ((one other : ℕ) → allows one other ≡ true) → (one other : ℕ) → is_held state.objects (suc one) ≡ true → is_held state.objects other ≡ true
-      → may_point allows state.objects (suc one) other ≡ true
-  points allows all one zero first second = refl
-  points allows all one (suc other) first second = go (object_in state.objects (suc one)) refl (object_in state.objects (suc other)) refl where
-    go : (from : Option Object) → object_in state.objects (suc one) ≡ from → (to : Option Object) → object_in state.objects (suc other) ≡ to
-        → may_point allows state.objects (suc one) (suc other) ≡ true
-    go None is to so = absurd (false≢true (sym (ap is_some is) ∙ first))
-    go (Some from) is None so = absurd (false≢true (sym (ap is_some so) ∙ second))
-    go (Some from) is (Some to) so = rw (is, so) (all from.site to.site)
-
-  pub allowed_on : (allows : ℕ → ℕ → Bool) → ((one other : ℕ) → allows one other ≡ true) → IsClosed (view_of state) → (depth : ℕ) → MayPut allows depth (view_of state)
-  allowed_on allows all closed depth = record {
-    held = held_on closed 0;
-    allowed = λ place is. points allows all place (object_on (view_of state) 0) (ap (is_held state.objects) (sym is) ∙ held_on closed depth) (held_on closed 0);
-  }
-
 module _ (machine : Machine) (state : State) (frame : MethodFrame) (below : List Frame) (insn : Insn)
     (fits : IsTyped machine.program) (sound : IsSound machine.program) (typed : IsTypedState machine.program state) (quiet : state.roots.pending ≡ 0)
     (frames : state.roots.frames ≡ OfMethod frame ∷ below) (there : insn_in (code_at machine.program frame.method) frame.pc ≡ Some insn) where
@@ -214,9 +196,8 @@ module _ (machine : Machine) (state : State) (frame : MethodFrame) (below : List
   stored_references : action_of insn ≡ Some actions.StoreReference → ArrayOn machine.program state frame 2 (AreOfSort sorts.Reference)
   stored_references does = (references_are_written machine state frame below insn fits sound.spelled sound.holds_on sound.holds_elements typed quiet frames there does).array
 
-  pub has_words : (allows : ℕ → ℕ → Bool) → ((one other : ℕ) → allows one other ≡ true) → IsClosed (view_of state)
-      → HasWords allows machine.program (decoded_as machine.program frame.method frame.pc insn) (view_of state)
-  has_words allows all closed = record {
+  pub has_words : IsClosed (view_of state) → HasWords machine.program (decoded_as machine.program frame.method frame.pc insn) (view_of state)
+  has_words closed = record {
     kinds = λ serial object is. (typed.heap.each serial object is).kind;
     told = refl;
     whole = λ value names index. whole_read machine.program frame.method frame.pc value names index;
@@ -233,7 +214,6 @@ module _ (machine : Machine) (state : State) (frame : MethodFrame) (below : List
     stored = λ elements does. suits_array machine state frame below frames (sort_of_elements elements) 2 (stored_array elements does);
     references_loaded = λ does. suits_array machine state frame below frames sorts.Reference 1 (loaded_references does);
     references_stored = λ does. suits_references machine state frame below frames 2 (stored_references does);
-    allowed = λ depth. allowed_on machine state frame below frames allows all closed depth;
   } where
     low : (held : List Value) (slot : ℕ) (value : Value) → slice_get held slot ≡ Some value → slot < length held
     low [] slot value is = absurd (cc is)

@@ -2,7 +2,7 @@
 use Rattle.std.proofs.Common.{◌≡◌, ◌∙◌, ap, refl, sym, subst, arith, ℕ, ◌<◌, true, false, List, [], ◌∷◌, length, map, zero, suc, Bool, Option, Some, None, slice_get, IsTrue}
 use Rattle.std.proofs.lemmas.Bool.{and_parts, eqb-true, false≢true, ltb-true}
 use Rattle.std.proofs.lemmas.Option.{same_Some}
-use Rattle.std.specs.Prelude.{◌==◌, option_and_then, option_map}
+use Rattle.std.specs.Prelude.{◌==◌, is_some, option_and_then, option_map}
 use Rattle.std.specs.declared.result.Result.TheVariants.{Err, Ok}
 use Rattle.cb_heap.specs.Closed.{Collects}
 use Rattle.cb_heap.specs.Kept.{is_kept, residents}
@@ -37,9 +37,12 @@ use Rattle.cb_unwind.specs.declared.answers.Unwound.TheVariants.{NoFrame, Caught
 use Rattle.cb_unwind.specs.Steps.{unwound_plan, with_view}
 use Rattle.cb_unwind.specs.Unwound.{exception_size, unwound, wraps}
 use Rattle.cb_interp.specs.Fit.{ShapesOf}
+use Rattle.cb_act.specs.Coming.{AreAllowed}
 use Rattle.cb_act.specs.Keeping.{kept_plan}
 use Rattle.cb_act.specs.Steps.{view_of}
 use Rattle.cb_act.specs.Turning.{Moment, TurnMade, TurnRefused}
+use Rattle.cb_interp.proofs.Allowed.{allowed_next}
+use Rattle.cb_interp.proofs.FollowTexts.{cause_pair}
 use Rattle.cb_interp.proofs.TurnsMade.{asked_turn, collected, collected_keeping, collected_plan}
 use Rattle.cb_interp.proofs.TurnsThrown.{exception_want}
 
@@ -133,6 +136,13 @@ module _ (machine : Machine) (state : State) where
     go true is = absurd (false≢true (sym (ap (is_kept state.objects) (eqb-true state.roots.pending 0 is)) ∙ kept))
     go false is = rw (runs, is) refl
 
+  -- where what is left follows what sites allow, the exception may refer to the one that it wraps
+  pub wrapped_pair : (allows : ℕ → ℕ → Bool) → AreAllowed allows machine state → state.exit ≡ None → WrapsAt machine.program state
+      → (object : Object) → object_at state state.roots.pending ≡ Some object → allows exception_in_initializer object.site ≡ true
+  wrapped_pair allows allowed runs at object is =
+      cause_pair allows state.objects exception_in_initializer (kind_of_site machine.program exception_in_initializer) 0 state.roots.pending
+      (allowed_next allows machine state (wrap_plan at.class at.below) allowed (pending_plan runs (ap is_some at.there) ∙ unwinding_so at)) object is
+
 -- no other step places anything
 abbrev placed_by : Option Plan → List Placing
 placed_by None = []
@@ -193,6 +203,7 @@ wrapped_refused rules machine before after reason at runs there ruled collects s
     pending_plan machine before.state runs there ∙ unwinding_so machine before.state at in
     record {
       refused = record {
+        asked = λ none. let both : exception_want exception_in_initializer ∷ [] ≡ [] = sym (ap asked_of plans) ∙ none in cc both;
         ruled = subst (λ (wants : List Want). rules.makes_room before.facts (view_of before.state) wants (Err reason) (record { facts = after.facts; residents = residents after.state.objects }))
             (sym (ap asked_of plans)) ruled;
         collects = collects;

@@ -1,10 +1,11 @@
 -- A turn is made where room was made for what is asked for, and what is kept of the plan is carried out.
 use Rattle.std.proofs.Common.{◌≡◌, ◌∙◌, ap, refl, sym, subst, List, [], ◌∷◌, Bool, length, Option, Some, suc}
 use Rattle.std.specs.Prelude.{option_map}
-use Rattle.std.specs.declared.result.Result.TheVariants.{Ok}
+use Rattle.std.specs.declared.result.Result.TheVariants.{Err, Ok}
 use Rattle.cb_heap.specs.Closed.{Collects, IsClosed}
 use Rattle.cb_heap.specs.Kept.{is_held, keep, residents}
 use Rattle.cb_heap.specs.Rules.{Rules}
+use Rattle.cb_heap.specs.declared.no_room.NoRoom.{NoRoom}
 use Rattle.cb_machine.specs.Machine.{Machine}
 use Rattle.cb_machine.specs.Plans.{Plan, asked, made}
 use Rattle.cb_machine.specs.Steps.{asked_of, plan}
@@ -13,7 +14,7 @@ use Rattle.cb_plain.specs.Updates.{with_objects}
 use Rattle.cb_plain.specs.declared.want.Want.{Want}
 use Rattle.cb_act.specs.Keeping.{IsKeeping, KeepsPlan, kept_plan, kept_state}
 use Rattle.cb_act.specs.Steps.{view_of}
-use Rattle.cb_act.specs.Turning.{Asked, Moment, NotAsked, RoomMade, TurnMade, facts_behind}
+use Rattle.cb_act.specs.Turning.{Asked, Moment, NotAsked, RoomMade, RoomRefused, TurnMade, TurnRefused, facts_behind}
 use Rattle.cb_act.proofs.Laws.{keep_unseen, natives_keep, plan_kept}
 
 pub marks_count : (objects : List (Option Object)) → length (residents objects) ≡ length objects
@@ -54,6 +55,15 @@ module _ {Facts : Type 0} (rules : Rules Facts) (machine : Machine) where
       let keeps : KeepsPlan machine kept before.state =
       plan_kept machine (keep kept) (is_held (keep kept before.state.objects)) before.state (keep_unseen kept before.state keeping) (natives_keep machine kept before.state keeping) in
       ap (plan machine) (collected before after collects same) ∙ keeps ∙ ap (option_map (kept_plan kept)) is
+
+  -- it is, and refused
+  pub asked_refused : (before after : Moment Facts) (reason : NoRoom) (own : Plan) (wants : List Want) → plan machine before.state ≡ Some own → wants ≡ asked own → (wants ≡ [] → ⊥)
+      → rules.makes_room before.facts (view_of before.state) wants (Err reason) (record { facts = after.facts; residents = residents after.state.objects })
+      → Collects (view_of before.state) (view_of after.state) → after.state ≡ with_objects before.state after.state.objects → TurnRefused rules machine before reason after
+  asked_refused before after reason own wants is asks some ruled collects same = record {
+    refused = subst (λ (wants : List Want). RoomRefused rules before wants reason after) (asks ∙ sym (ap asked_of is))
+        (record { asked = some; ruled = ruled; collects = collects; same = same });
+  }
 
   -- something is
   pub asked_turn : (before middle after : Moment Facts) (own : Plan) (first : Want) (wants : List Want) → plan machine before.state ≡ Some own

@@ -38,7 +38,7 @@ size_want site size = record { site = site; words = min (words_of size) most_wor
 one_time : (words : ℕ) → (0 + 1) * words ≡ words
 one_time words = omega arith
 
-asks_so : (site size : ℕ) → record { site = site; words = min ((0 + 1) * words_of size) most_words } ∷ [] ≡ size_want site size ∷ []
+pub asks_so : (site size : ℕ) → record { site = site; words = min ((0 + 1) * words_of size) most_words } ∷ [] ≡ size_want site size ∷ []
 asks_so site size = ap (λ words. record { site = site; words = min words most_words } ∷ []) (one_time (words_of size))
 
 -- a new object has as many words as it is asked to have
@@ -126,10 +126,13 @@ pub object_refused : {Facts : Type 0} (rules : Rules Facts) (machine : Machine) 
 object_refused rules machine before after site size pc shapes reason is shaped sized ruled collects same =
     let kind : ℕ = kind_of_site machine.program site in
     let words : length (blank_fields machine.program kind) ≡ size = words_so shapes site kind size (blank_fields machine.program kind) sized shaped in
+    let asked : asked_of (plan machine before.state) ≡ size_want site size ∷ [] =
+    ap asked_of is ∙ asks_so site (length (blank_fields machine.program kind)) ∙ ap (λ size. size_want site size ∷ []) words in
     record {
       refused = record {
+        asked = λ none. let both : size_want site size ∷ [] ≡ [] = sym asked ∙ none in cc both;
         ruled = subst (λ (wants : List Want). rules.makes_room before.facts (view_of before.state) wants (Err reason) (record { facts = after.facts; residents = residents after.state.objects }))
-            (sym (ap asked_of is ∙ asks_so site (length (blank_fields machine.program kind)) ∙ ap (λ size. size_want site size ∷ []) words)) ruled;
+            (sym asked) ruled;
         collects = collects;
         same = same;
       };

@@ -6,6 +6,7 @@ use Rattle.std.specs.Io.KnownBytes.{Appends}
 use Rattle.std.specs.Prelude.{slice_get}
 use Rattle.cb_frames.specs.Tops.{top_stack}
 use Rattle.cb_heap.proofs.Laws.{reads_stack}
+use Rattle.cb_heap.specs.Storage.{Settings}
 use Rattle.cb_heap.specs.Reading.{read_value, seen}
 use Rattle.cb_heap.specs.Rules.{Rules}
 use Rattle.cb_io.specs.Sink.{AppendsProperPrefix}
@@ -16,7 +17,6 @@ use Rattle.cb_machine.specs.Machine.{Machine}
 use Rattle.cb_machine.specs.Natives.{native_of, performed}
 use Rattle.cb_machine.specs.Performing.{Performed}
 use Rattle.cb_plain.specs.State.{Object, Roots, State}
-use Rattle.cb_plain.specs.declared.shape.Shape.{Shape}
 use Rattle.cb_plain.specs.declared.value.Value.{Value}
 use Rattle.cb_plain.specs.declared.value.Value.TheVariants as values
 use Rattle.cb_shapes.specs.declared.sort.Sort.{Sort}
@@ -105,7 +105,7 @@ module _ (index : ℕ → ℕ) where
 module _ (program : Linked) (index : ℕ → ℕ) (objects : List (Option Object)) (limit : ℕ) (held : Roots) (outside : Outside) (decoded : Decoded) (method : ℕ)
     (at : Here (machine_of program limit) (state_of (seen index objects held) outside) decoded)
     (asks : acted program limit decoded (seen index objects held) ≡ Some (Asks (needs.Performs method)))
-    (shapes : List Shape) (knows : ℕ → Bool) (allows : ℕ → ℕ → Bool) (runs : MayRun program shapes knows allows (state_of (seen index objects held) outside)) (print : Print)
+    (fixed : Bool) (settings : Settings) (runs : MayRun fixed (machine_of program limit) settings (state_of (seen index objects held) outside)) (print : Print)
     (is : native_of program method ≡ Some (native_as print)) where
   abbrev state : State
   state = state_of (seen index objects held) outside
@@ -114,7 +114,7 @@ module _ (program : Linked) (index : ℕ → ℕ) (objects : List (Option Object
   each arguments = said (machine_of program limit) state print arguments
 
   here : Printing (machine_of program limit) state (printer_of state print) decoded.next
-  here = printing program index objects limit held outside decoded method at asks shapes knows allows runs (printer_of state print) is each
+  here = printing program index objects limit held outside decoded method at asks fixed settings runs (printer_of state print) is each
 
   pub suits_here : suits print (top_stack held) ≡ true
   suits_here = sym (suits_read index print (top_stack held)) ∙ ap (λ (stack : List Value). suits print stack) (sym (reads_stack index held)) ∙ here.fits
@@ -132,11 +132,11 @@ module _ (program : Linked) (index : ℕ → ℕ) (objects : List (Option Object
       → after ≡ behind_taken (taken_by print) pc held → Appends taken takes (utf8 (units_on print (top_stack held)))
       → Turned rules (machine_of program limit) outside (seen index objects held) (seen index objects after) facts facts taken takes
   print_turn rules facts after pc taken takes next left appends =
-      printed_turn program index objects limit held outside decoded method at asks shapes knows allows runs (printer_of state print) is each rules facts after pc taken takes
+      printed_turn program index objects limit held outside decoded method at asks fixed settings runs (printer_of state print) is each rules facts after pc taken takes
       (units_on print (top_stack held)) text_is next left appends
 
   pub print_part : (pc : ℕ) (taken takes : Option (List ℕ)) → decoded.next ≡ Some pc → AppendsProperPrefix taken takes (utf8 (units_on print (top_stack held)))
       → SaysBy (machine_of program limit) state stops.OutputFault taken takes
   print_part pc taken takes next part =
-      printed_part program index objects limit held outside decoded method at asks shapes knows allows runs (printer_of state print) is each pc taken takes
+      printed_part program index objects limit held outside decoded method at asks fixed settings runs (printer_of state print) is each pc taken takes
       (units_on print (top_stack held)) text_is next part

@@ -1,5 +1,5 @@
 -- The turns of `read()` and of `read(byte[], int, int)`, by their arguments.
-use Rattle.std.proofs.Common.{◌≡◌, ◌∙◌, ap, arith, refl, sym, pos, ℕ, ◌<◌, ◌≤◌, true, List, [], drop, length, map, Option, Some, None, take}
+use Rattle.std.proofs.Common.{◌≡◌, ◌∙◌, ap, arith, refl, sym, pos, ℕ, ◌<◌, ◌≤◌, true, List, [], ◌∷◌, ◌++◌, drop, length, length-append, map, Option, Some, None, take}
 use Rattle.std.proofs.KnownBytes.{Consumes-kept, Consumes-nil}
 use Rattle.std.proofs.lemmas.Bool.{false≢true}
 use Rattle.std.specs.Io.KnownBytes.{Keeps}
@@ -25,7 +25,7 @@ use Rattle.cb_natives.specs.declared.answers.Answer.{Answer}
 use Rattle.cb_natives.specs.declared.answers.Answer.TheVariants as answers
 use Rattle.cb_natives.specs.declared.answers.Exception.{Exception}
 use Rattle.std.specs.declared.result.Result.TheVariants.{Err}
-use Rattle.cb_plain.specs.State.{Object, Roots}
+use Rattle.cb_plain.specs.State.{Object, Roots, State}
 use Rattle.cb_plain.specs.declared.value.Value.{Value}
 use Rattle.cb_safety.specs.Linked.{IsLinked}
 use Rattle.cb_safety.specs.Performing.{HasNatives}
@@ -33,14 +33,23 @@ use Rattle.cb_safety.specs.States.{IsTypedState}
 use Rattle.cb_verify.specs.Typed.{IsTyped}
 use Rattle.cb_interp.specs.Answering.{answer_values, argument_count, behind_answer}
 use Rattle.cb_interp.specs.Performing.{arguments_at}
-use Rattle.cb_interp.specs.Reading.{TakesInput, TurnedIn, reads}
+use Rattle.cb_interp.specs.Reading.{Fails, Takes, TakesInput, TurnedIn, reads}
 use Rattle.cb_interp.proofs.NativesAnswered.{answered_turn, count_there, enough, given_there, goes_on, stops_so}
 use Rattle.cb_interp.proofs.NativesRead.{GivesSo, reader_goes, reader_takes, reader_turn}
 use Rattle.cb_interp.proofs.TurnsNeed.{steps_on}
 
 -- a failed call left what was there
-pub kept_loses : (left leaves : Option (List ℕ)) → Keeps left leaves → Loses left leaves
-kept_loses left leaves kept = ([], Consumes-kept left left leaves [] (Consumes-nil left) kept)
+pub kept_fails : (machine : Machine) (state : State) (left leaves : Option (List ℕ)) → TakesInput machine state → Keeps left leaves → Fails machine state left leaves
+kept_fails machine state left leaves takes kept = record { front = []; consumes = Consumes-kept left left leaves [] (Consumes-nil left) kept; takes = takes }
+
+-- or one behind others that took fewer bytes than the step does
+pub loses_fails : (machine : Machine) (state : State) (count : ℕ) (left leaves : Option (List ℕ)) → ((bytes : List ℕ) → length bytes ≤ count → Takes machine state bytes)
+    → Loses count left leaves → Fails machine state left leaves
+loses_fails machine state count left leaves takes loses = record {
+  front = loses.front;
+  consumes = loses.consumes;
+  takes = takes (loses.front ++ 0 ∷ []) (omega (arith, loses.few, length-append loses.front (0 ∷ [])));
+}
 
 -- another one that reads
 pub reads_other : (native : Native) → reads native ≡ true → (native ≡ natives.ReadByte → ⊥) → native ≡ natives.ReadRange
@@ -84,6 +93,7 @@ module _ (program : Linked) (index : ℕ → ℕ) (objects : List (Option Object
     pub byte_takes : (pc : ℕ) → decoded.next ≡ Some pc → TakesInput machine (state_of view outside)
     byte_takes =
         reader_takes program index objects limit held outside decoded method at asks natives.ReadByte is 1 (omega arith) (λ bytes. objects) (λ bytes. answers.Int (byte_number bytes)) byte_gives
+        (0 ∷ []) (omega arith)
 
     pub byte_turned : {Facts : Type 0} (rules : Rules Facts) (facts : Facts) (pc : ℕ) → decoded.next ≡ Some pc → (left leaves : Option (List ℕ)) (answer : Answer) → ReadsByte left leaves answer
         → (roots : Roots) → roots ≡ behind_answer 1 (answer_values answer) pc held → TurnedIn rules machine outside view (seen index objects roots) facts facts left leaves
@@ -135,7 +145,7 @@ module _ (program : Linked) (index : ℕ → ℕ) (objects : List (Option Object
             reader_goes program index objects limit held outside decoded method at asks natives.ReadRange is count some (with_bytes objects array from)
             (λ bytes. answers.Int (count_number (length bytes))) range_gives linked fits typed
 
-        pub range_takes : (pc : ℕ) → decoded.next ≡ Some pc → TakesInput machine (state_of view outside)
+        pub range_takes : (bytes : List ℕ) → length bytes ≤ count → (pc : ℕ) → decoded.next ≡ Some pc → Takes machine (state_of view outside) bytes
         range_takes =
             reader_takes program index objects limit held outside decoded method at asks natives.ReadRange is count some (with_bytes objects array from)
             (λ bytes. answers.Int (count_number (length bytes))) range_gives

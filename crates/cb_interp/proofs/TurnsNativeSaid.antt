@@ -7,6 +7,7 @@ use Rattle.std.specs.Io.KnownBytes.{Appends}
 use Rattle.std.specs.Prelude.{is_err, option_and_then, option_map, slice_get}
 use Rattle.cb_frames.specs.Tops.{at_place as placed_at, changed_in, on_top, placed, stack_in, top_stack, with_stack as stack_changed}
 use Rattle.cb_heap.proofs.Laws.{reads_placed, reads_stack}
+use Rattle.cb_heap.specs.Storage.{Settings}
 use Rattle.cb_heap.specs.Reading.{read_roots, read_value, seen}
 use Rattle.cb_heap.specs.Rules.{Rules}
 use Rattle.cb_io.specs.Sink.{AppendsProperPrefix}
@@ -27,7 +28,6 @@ use Rattle.cb_machine.specs.declared.outcome.Outcome.TheVariants.{Running}
 use Rattle.cb_plain.specs.Roots.{with_frames as frames_changed}
 use Rattle.cb_plain.specs.State.{Object, OfMethod, Roots, State}
 use Rattle.cb_plain.specs.Updates.{with_frames, with_printed}
-use Rattle.cb_plain.specs.declared.shape.Shape.{Shape}
 use Rattle.cb_plain.specs.declared.value.Value.{Value}
 use Rattle.cb_safety.proofs.Laws.{states_advance}
 use Rattle.cb_safety.specs.Advancing.{Advances}
@@ -179,7 +179,7 @@ module _ (program : Linked) (index : ℕ → ℕ) (objects : List (Option Object
     pub native_low : method < length program.methods
     native_low = low_of program method performing.native performing.is
 
-    module _ (shapes : List Shape) (knows : ℕ → Bool) (allows : ℕ → ℕ → Bool) (runs : MayRun program shapes knows allows state) (printer : Printer state)
+    module _ (fixed : Bool) (settings : Settings) (runs : MayRun fixed machine settings state) (printer : Printer state)
         (is : native_of program method ≡ Some printer.native) (each : Says machine state printer) where
       advances : Advances machine state
       advances = states_advance machine state runs.linked runs.fits runs.typed (goes machine state decoded at)

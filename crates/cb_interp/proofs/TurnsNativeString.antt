@@ -10,6 +10,7 @@ use Rattle.cb_arith.specs.Bits.{low_bits}
 use Rattle.cb_frames.specs.Tops.{on_top, stack_in, top_stack}
 use Rattle.cb_heap.proofs.Laws.{reads_stack}
 use Rattle.cb_heap.specs.Kept.{content_at, contents_at, is_held, is_reference}
+use Rattle.cb_heap.specs.Storage.{Settings}
 use Rattle.cb_heap.specs.Reading.{read_value, seen, serial_of}
 use Rattle.cb_heap.specs.Rules.{Rules}
 use Rattle.cb_io.specs.Sink.{AppendsProperPrefix}
@@ -25,7 +26,6 @@ use Rattle.cb_machine.specs.Performing.{Performed, text_of as text_in}
 use Rattle.cb_machine.specs.Values.{kept_int}
 use Rattle.cb_plain.specs.State.{Content, Frame, Number, Object, Reference, Roots, State}
 use Rattle.cb_plain.specs.Updates.{object_at, object_in}
-use Rattle.cb_plain.specs.declared.shape.Shape.{Shape}
 use Rattle.cb_plain.specs.declared.value.Value.{Value}
 use Rattle.cb_plain.specs.declared.value.Value.TheVariants as values
 use Rattle.cb_shapes.specs.declared.sort.Sort.TheVariants as sorts
@@ -186,7 +186,7 @@ sort_on index objects (values.Ref place ∷ stack) fits = refl
 module _ (program : Linked) (index : ℕ → ℕ) (objects : List (Option Object)) (limit : ℕ) (held : Roots) (outside : Outside) (decoded : Decoded) (method : ℕ)
     (at : Here (machine_of program limit) (state_of (seen index objects held) outside) decoded)
     (asks : acted program limit decoded (seen index objects held) ≡ Some (Asks (needs.Performs method)))
-    (shapes : List Shape) (knows : ℕ → Bool) (allows : ℕ → ℕ → Bool) (runs : MayRun program shapes knows allows (state_of (seen index objects held) outside)) (line : Bool)
+    (fixed : Bool) (settings : Settings) (runs : MayRun fixed (machine_of program limit) settings (state_of (seen index objects held) outside)) (line : Bool)
     (is : native_of program method ≡ Some (native_text line)) where
   abbrev state : State
   state = state_of (seen index objects held) outside
@@ -195,7 +195,7 @@ module _ (program : Linked) (index : ℕ → ℕ) (objects : List (Option Object
   each arguments = said (machine_of program limit) state line arguments
 
   here : Printing (machine_of program limit) state (printer_of state line) decoded.next
-  here = printing program index objects limit held outside decoded method at asks shapes knows allows runs (printer_of state line) is each
+  here = printing program index objects limit held outside decoded method at asks fixed settings runs (printer_of state line) is each
 
   pub string_here : has_sort sorts.Reference (slice_get (top_stack held) 0) ≡ true
   string_here = sort_on index objects (top_stack held) (sym (ap (λ (stack : List Value). suits_text objects stack) (reads_stack index held)) ∙ here.fits)
@@ -230,12 +230,12 @@ module _ (program : Linked) (index : ℕ → ℕ) (objects : List (Option Object
         → after ≡ behind_taken 2 pc held → Appends taken takes (utf8 (as_line line (string_text objects (serial_of index string))))
         → Turned rules (machine_of program limit) outside (seen index objects held) (seen index objects after) facts facts taken takes
     string_turn rules facts after pc taken takes next left appends =
-        printed_turn program index objects limit held outside decoded method at asks shapes knows allows runs (printer_of state line) is each rules facts after pc taken takes
+        printed_turn program index objects limit held outside decoded method at asks fixed settings runs (printer_of state line) is each rules facts after pc taken takes
         (as_line line (string_text objects (serial_of index string))) text_is next left appends
 
     pub string_part : (pc : ℕ) (taken takes : Option (List ℕ)) → decoded.next ≡ Some pc
         → AppendsProperPrefix taken takes (utf8 (as_line line (string_text objects (serial_of index string))))
         → SaysBy (machine_of program limit) state stops.OutputFault taken takes
     string_part pc taken takes next part =
-        printed_part program index objects limit held outside decoded method at asks shapes knows allows runs (printer_of state line) is each pc taken takes
+        printed_part program index objects limit held outside decoded method at asks fixed settings runs (printer_of state line) is each pc taken takes
         (as_line line (string_text objects (serial_of index string))) text_is next part

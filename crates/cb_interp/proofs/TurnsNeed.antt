@@ -3,11 +3,15 @@ use Rattle.std.proofs.Common.{◌≡◌, ap, refl, sym, subst, ℕ, true}
 use Rattle.std.specs.Prelude.{IfErr, IsErrOf, OnOk, is_some}
 use Rattle.std.specs.declared.result.Result.{Result}
 use Rattle.std.specs.declared.result.Result.TheVariants.{Err, Ok}
+use Rattle.cb_frames.specs.Limited.{Limited}
+use Rattle.cb_heap.specs.Rules.{Rules}
+use Rattle.cb_heap.specs.Storage.{Storage}
 use Rattle.cb_heap.specs.Store.{IsFault}
 use Rattle.cb_heap.specs.declared.no_room.NoRoom.{NoRoom}
 use Rattle.cb_heap.specs.declared.no_room.NoRoom.TheVariants.{ReportFault}
 use Rattle.cb_io.specs.Faults.{CountsFaults}
 use Rattle.cb_link.specs.declared.decoded.Decoded.{Decoded}
+use Rattle.cb_link.specs.Program.{Linked}
 use Rattle.cb_machine.specs.Machine.{Machine}
 use Rattle.cb_machine.specs.Runs.{outcome}
 use Rattle.cb_machine.specs.Steps.{plan}
@@ -18,7 +22,9 @@ use Rattle.cb_safety.specs.Linked.{IsLinked}
 use Rattle.cb_safety.specs.States.{IsTypedState}
 use Rattle.cb_verify.specs.Typed.{IsTyped}
 use Rattle.cb_act.specs.Here.{Here}
+use Rattle.cb_act.specs.Turning.{Outside, machine_of, moment_in}
 use Rattle.cb_interp.specs.Needing.{stopped}
+use Rattle.cb_interp.specs.Running.{RoomEnds, StopsBy, TurnEnds}
 use Rattle.cb_interp.specs.declared.stop.Stop.{Stop}
 use Rattle.cb_interp.specs.declared.stop.Stop.TheVariants as stops
 
@@ -68,3 +74,14 @@ steps_on machine state decoded at linked fits typed =
     let frames = at.frames in
     let runs : outcome state ≡ Running = rw (none, frames) refl in
     ap is_some (states_advance machine state linked fits typed runs).is
+
+-- what a turn leaves that hands on what one call of the store left
+pub ends_as : {Facts : Type 0} {rules : Rules Facts} {program : Linked} {outside : Outside} {old new : Storage Facts} {before after : Limited} (own : Room) (result : Turn)
+    → result ≡ stopped own → RoomEnds rules program outside old new before after own → TurnEnds rules program outside old new before after result
+ends_as {Facts} {rules} {program} {outside} {old} {new} {before} {after} own result is ends = record {
+  made = made_as own result _ is ends.made;
+  stopped = stops_as own result (λ stop. StopsBy rules (machine_of program before.limit) stop (moment_in old before.roots outside) (moment_in new after.roots outside)) is ends.refused;
+  counted = counts_as own result _ _ is ends.counted;
+  limit = ends.limit;
+  settings = ends.settings;
+}

@@ -49,7 +49,7 @@ use Rattle.cb_act.proofs.Laws.{now}
 use Rattle.cb_interp.proofs.TurnsMade.{quiet_turn}
 use Rattle.cb_interp.proofs.TurnsMaking.{room_read}
 use Rattle.cb_interp.proofs.TurnsNeedLoads.{Constant, Loads, laid_so, listed_read, loads_so}
-use Rattle.cb_interp.proofs.TypedActs.{typed_suits}
+use Rattle.cb_interp.proofs.FollowHere.{room_here}
 
 -- ---- the plans
 
@@ -116,12 +116,12 @@ module _ (program : Linked) (limit : ℕ) (index : ℕ → ℕ) (kept : List (Op
         let low = here.low in
         omega (arith, whole, same, low)
 
-    pub class_room : Here machine state decoded → IsLinked program → IsTyped program → (allows : ℕ → ℕ → Bool) → ((one other : ℕ) → allows one other ≡ true) → 0 < top_room held
-    class_room at linked fits allows all = go (loads_so decoded.action here.loads) where
+    pub class_room : Here machine state decoded → IsLinked program → IsTyped program → 0 < top_room held
+    class_room at linked fits = go (loads_so decoded.action here.loads) where
       go : Loads decoded.action → 0 < top_room held
       go (Constant number is) =
-          let suits = typed_suits machine state decoded at linked fits typed allows all in
-          subst (λ (room : ℕ). 0 < room) (room_read index held) (suits.room.lays (actions.Constant number) is refl)
+          let room = room_here machine state decoded at linked fits typed in
+          subst (λ (room : ℕ). 0 < room) (room_read index held) (room.lays (actions.Constant number) is refl)
 
   pub class_known_turn : {Facts : Type 0} (rules : Rules Facts) (facts : Facts) (at : Here machine state decoded) (known : ℕ) (after : Roots)
       → slice_get held.tables.classes loading.kind ≡ Some known → (listed held.tables.classes loading.kind ≡ 0 → ⊥) → after ≡ placed (pushed held (Ref known)) loading.next
@@ -218,6 +218,7 @@ module _ {Facts : Type 0} (rules : Rules Facts) (machine : Machine) (before afte
       → Collects (view_of before.state) (view_of after.state) → after.state ≡ with_objects before.state after.state.objects → TurnRefused rules machine before reason after
   class_refused reason ruled collects same = record {
     refused = record {
+      asked = λ none. let both : class_wants ≡ [] = sym asked_so ∙ none in cc both;
       ruled = subst (λ (wants : List Want). rules.makes_room before.facts (view_of before.state) wants (Err reason) (record { facts = after.facts; residents = residents after.state.objects }))
           (sym asked_so) ruled;
       collects = collects;

@@ -1,5 +1,5 @@
 -- Turns in which the exception of a division by zero is thrown: its message has an object, or is placed before it.
-use Rattle.std.proofs.Common.{◌≡◌, ◌∙◌, add-one, ap, ap₂, append_assoc, refl, sym, subst, subst₂, arith, ℕ, zero, suc, ◌+◌, ◌<◌, ◌≤◌, ◌^◌, Bool, false, true, IsTrue, List, [], ◌∷◌, ◌++◌, length, map, Option, Some, None, is_some}
+use Rattle.std.proofs.Common.{◌/◌, ◌≡◌, ◌∙◌, add-one, ap, ap₂, append_assoc, refl, sym, subst, arith, ℕ, zero, suc, ◌+◌, ◌<◌, ◌≤◌, ◌^◌, Bool, true, IsTrue, List, [], ◌∷◌, ◌++◌, length, map, Option, Some, None, is_some}
 use Rattle.std.proofs.lemmas.Bool.{false≢true}
 use Rattle.std.proofs.lemmas.List.{length-append, length-map}
 use Rattle.std.proofs.lemmas.List.Sums.{sum_by-cons}
@@ -9,7 +9,9 @@ use Rattle.std.specs.Prelude.{option_map, slice_get}
 use Rattle.std.specs.declared.result.Result.TheVariants.{Err, Ok}
 use Rattle.cb_heap.proofs.Laws.{closed_entry, closed_new, constants_of, content_of_object, front_of, held_from, held_further, may_point_there, placed_there, rest_of, roots_again, tables_of, there_before}
 use Rattle.cb_heap.specs.Closed.{Collects, IsClosed, reference_in_word}
+use Rattle.cb_heap.specs.Follows.{Follows}
 use Rattle.cb_heap.specs.Grants.{IsBounded, words_granted}
+use Rattle.cb_interp.proofs.TurnsNeedSerials.{HasSerials, serials_all}
 use Rattle.cb_heap.specs.Kept.{content_at, is_held, is_kept, is_reference, keep, residents, with_content}
 use Rattle.cb_heap.specs.Reading.{View, read_roots, seen, serial_of}
 use Rattle.cb_heap.specs.Rules.{Rules}
@@ -33,10 +35,13 @@ use Rattle.cb_plain.specs.declared.want.Want.{Want}
 use Rattle.cb_safety.specs.States.{IsTypedState}
 use Rattle.cb_unwind.specs.Strings.{IsNew, constant_or_new, new_constant, units_of, with_constant}
 use Rattle.cb_interp.specs.Dividing.{thrown_with}
+use Rattle.cb_act.specs.Coming.{AreAllowed}
 use Rattle.cb_act.specs.Steps.{view_of}
 use Rattle.cb_act.specs.Placing.{exception_size, with_view}
 use Rattle.cb_act.specs.Turning.{Asked, Moment, Outside, RoomMade, TurnMade, TurnRefused, facts_behind, state_of}
 use Rattle.cb_act.proofs.Laws.{by_zero_kept, length_kept}
+use Rattle.cb_interp.proofs.Allowed.{allowed_collected, allowed_next}
+use Rattle.cb_interp.proofs.FollowTexts.{message_pair, text_pair}
 use Rattle.cb_interp.proofs.TurnsMade.{collected, collected_keeping, collected_plan}
 use Rattle.cb_interp.proofs.TurnsNeedLoads.{Enough, enough, one_time, text_wants, units_count}
 
@@ -85,12 +90,13 @@ module _ (objects : List (Option Object)) (before after : ℕ → ℕ) (at messa
       subst (λ (serial : ℕ). IsTrue (is_held more serial)) (sym same)
       (held_further objects (blank kind) (serial_of before message) (kept_held objects (serial_of before message) there))
 
-  pub message_allowed : (allows : ℕ → ℕ → Bool) → ((one other : ℕ) → allows one other ≡ true) → IsTrue (may_point allows more (serial_of after at) (serial_of after message))
-  message_allowed allows all =
+  pub message_allowed : (allows : ℕ → ℕ → Bool) → ((object : Object) → object_in objects (serial_of before message) ≡ Some object → allows arithmetic object.site ≡ true)
+      → IsTrue (may_point allows more (serial_of after at) (serial_of after message))
+  message_allowed allows allowed =
       let (object, is) = some_object (object_in objects (serial_of before message)) there in
       may_point_there allows more (serial_of after at) (serial_of after message) (blank kind) object
       (ap (object_in more) serial ∙ placed_there objects (blank kind))
-      (ap (object_in more) same ∙ there_before objects (blank kind) (serial_of before message) object is) (all arithmetic object.site)
+      (ap (object_in more) same ∙ there_before objects (blank kind) (serial_of before message) object is) (allowed object is)
 
   pub thrown_so : (held : Roots) → IsTrue (list_all (is_held objects) (root_references (read_roots before held))) → (kept : List (Option Object)) (index : ℕ → ℕ)
       → kept ≡ with_content more (serial_of after at) 0 (Reference (serial_of after message)) → index ≡ after
@@ -216,11 +222,11 @@ abbrev pub exception_wants : List Want
 exception_wants = record { site = arithmetic; words = 6 } ∷ []
 
 -- what is granted is enough for all three
-pub divide_granted : (program : Linked) (objects : ℕ) (fixed : Bool) (granted wants : List Want) → fixed ≡ false → granted ≡ wants → wants ≡ divide_wants program
+pub divide_granted : (program : Linked) (objects : ℕ) (fixed : Bool) (granted wants : List Want) → HasSerials fixed objects → granted ≡ wants → wants ≡ divide_wants program
     → length (units_of program 0) < 2 ^ 32 → IsBounded fixed objects wants → Enough program 0 objects granted × (objects + 2 + 1 < 2 ^ 63)
 divide_granted program objects fixed granted wants grows is asked few bounded =
     let both =
-    enough program 0 objects exception_wants few (subst₂ (λ (fixed : Bool) (wants : List Want). IsBounded fixed objects wants) grows asked bounded) in
+    enough program 0 objects exception_wants few (subst (λ (wants : List Want). objects + 1 + words_granted wants / 3 < 2 ^ 63) asked (serials_all fixed objects wants grows bounded)) in
     let six : words_granted exception_wants ≡ 6 + 0 = sum_by-cons (λ (want : Want). want.words) (record { site = arithmetic; words = 6 }) [] in
     let left = both.1 in (
       subst (Enough program 0 objects) (sym (is ∙ asked)) both.0,
@@ -287,6 +293,44 @@ module _ (machine : Machine) (state : State) where
   knows_text rules facts is =
       rw is (ap (λ (count : ℕ). rules.placed (rules.placed (rules.placed facts constant_characters count) constant_strings 1) arithmetic exception_size) (units_count machine.program 0))
 
+module _ {Facts : Type 0} (rules : Rules Facts) (machine : Machine) (before : Moment Facts) (is : plan machine before.state ≡ Some (throws_by_zero machine before.state)) where
+  -- the plan of what is kept
+  pub divided_again : (middle : Moment Facts) → Collects (view_of before.state) (view_of middle.state) → middle.state ≡ with_objects before.state middle.state.objects
+      → plan machine middle.state ≡ Some (throws_by_zero machine middle.state)
+  divided_again middle collects same =
+      let count : length (keep (residents middle.state.objects) before.state.objects) ≡ length before.state.objects =
+      length_kept (residents middle.state.objects) before.state.objects (collected_keeping rules machine before middle collects same).count in
+      collected_plan rules machine before middle (throws_by_zero machine before.state) collects same is
+      ∙ ap {B = Option Plan} Some (sym (by_zero_kept (keep (residents middle.state.objects)) before.state count machine))
+      ∙ ap (λ (state : State). Some (throws_by_zero machine state)) (sym (collected rules machine before middle collects same))
+
+  -- what is left follows what sites allow: the exception refers to its message
+  divided_objects : (allows : ℕ → ℕ → Bool) (middle : Moment Facts) → AreAllowed allows machine before.state → Collects (view_of before.state) (view_of middle.state)
+      → middle.state ≡ with_objects before.state middle.state.objects → (found : ℕ × View) → with_constant machine.program 0 (view_of middle.state) ≡ found
+      → Follows allows (thrown_with arithmetic (kind_of_site machine.program arithmetic) found.0 found.1).objects
+  divided_objects allows middle allowed collects same found finds =
+      subst (λ (found : ℕ × View). Follows allows (thrown_with arithmetic (kind_of_site machine.program arithmetic) found.0 found.1).objects) finds
+      (subst (λ (state : State). Follows allows state.objects) (divided_made machine middle.state)
+      (allowed_next allows machine middle.state (throws_by_zero machine middle.state) (allowed_collected rules machine allows before middle allowed collects same)
+      (divided_again middle collects same)))
+
+  pub divided_message : (allows : ℕ → ℕ → Bool) (middle : Moment Facts) → AreAllowed allows machine before.state → Collects (view_of before.state) (view_of middle.state)
+      → middle.state ≡ with_objects before.state middle.state.objects → (found : ℕ × View) → with_constant machine.program 0 (view_of middle.state) ≡ found
+      → (object : Object) → object_in found.1.objects found.0 ≡ Some object → allows arithmetic object.site ≡ true
+  divided_message allows middle allowed collects same found finds =
+      message_pair allows found.1.objects arithmetic (kind_of_site machine.program arithmetic) found.0 0 (divided_objects allows middle allowed collects same found finds)
+
+  -- and the message to its characters
+  pub divided_text : (allows : ℕ → ℕ → Bool) (middle : Moment Facts) → AreAllowed allows machine before.state → Collects (view_of before.state) (view_of middle.state)
+      → middle.state ≡ with_objects before.state middle.state.objects → listed middle.state.roots.tables.constants 0 ≡ 0 → allows constant_strings constant_characters ≡ true
+  divided_text allows middle allowed collects same new =
+      text_pair allows machine.program 0 (view_of middle.state)
+      (Some (object_of arithmetic (kind_of_site machine.program arithmetic) (exception_contents (new_constant machine.program 0 (view_of middle.state)).0 0)) ∷ [])
+      (thrown_with arithmetic (kind_of_site machine.program arithmetic) (new_constant machine.program 0 (view_of middle.state)).0 (new_constant machine.program 0 (view_of middle.state)).1).objects
+      refl
+      (divided_objects allows middle allowed collects same (new_constant machine.program 0 (view_of middle.state))
+      (ap (constant_or_new machine.program 0 (view_of middle.state)) new))
+
 module _ {Facts : Type 0} (rules : Rules Facts) (machine : Machine) (before after : Moment Facts) (first : Want) (rest : List Want)
     (is : plan machine before.state ≡ Some (throws_by_zero machine before.state)) (asks : asked (throws_by_zero machine before.state) ≡ first ∷ rest) where
   asked_so : asked_of (plan machine before.state) ≡ first ∷ rest
@@ -297,26 +341,21 @@ module _ {Facts : Type 0} (rules : Rules Facts) (machine : Machine) (before afte
       → Collects (view_of before.state) (view_of middle.state) → middle.state ≡ with_objects before.state middle.state.objects
       → after.state ≡ made (throws_by_zero machine middle.state) → after.facts ≡ facts_behind rules middle.facts (throws_by_zero machine middle.state).placed
       → TurnMade rules machine before after
-  divided_turn middle ruled collects same steps knows =
-      let kept : List Bool = residents middle.state.objects in
-      let count : length (keep (residents middle.state.objects) before.state.objects) ≡ length before.state.objects =
-      length_kept (residents middle.state.objects) before.state.objects (collected_keeping rules machine before middle collects same).count in
-      record {
-        middle = middle;
-        room = subst (λ (wants : List Want). RoomMade rules before wants middle) (sym asked_so) (Asked first rest middle ruled collects same);
-        own = throws_by_zero machine middle.state;
-        plans = collected_plan rules machine before middle (throws_by_zero machine before.state) collects same is
-            ∙ ap {B = Option Plan} Some (sym (by_zero_kept (keep (residents middle.state.objects)) before.state count machine))
-            ∙ ap (λ (state : State). Some (throws_by_zero machine state)) (sym (collected rules machine before middle collects same));
-        steps = steps;
-        knows = knows;
-      }
+  divided_turn middle ruled collects same steps knows = record {
+    middle = middle;
+    room = subst (λ (wants : List Want). RoomMade rules before wants middle) (sym asked_so) (Asked first rest middle ruled collects same);
+    own = throws_by_zero machine middle.state;
+    plans = divided_again rules machine before is middle collects same;
+    steps = steps;
+    knows = knows;
+  }
 
   pub divided_refused : (reason : NoRoom)
       → rules.makes_room before.facts (view_of before.state) (first ∷ rest) (Err reason) (record { facts = after.facts; residents = residents after.state.objects })
       → Collects (view_of before.state) (view_of after.state) → after.state ≡ with_objects before.state after.state.objects → TurnRefused rules machine before reason after
   divided_refused reason ruled collects same = record {
     refused = record {
+      asked = λ none. let both : first ∷ rest ≡ [] = sym asked_so ∙ none in cc both;
       ruled = subst (λ (wants : List Want). rules.makes_room before.facts (view_of before.state) wants (Err reason) (record { facts = after.facts; residents = residents after.state.objects }))
           (sym asked_so) ruled;
       collects = collects;

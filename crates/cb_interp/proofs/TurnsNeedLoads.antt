@@ -1,5 +1,5 @@
 -- Turns in which the string of a text is loaded: one that has an object, and one that has none yet.
-use Rattle.std.proofs.Common.{◌≡◌, ◌∙◌, ap, ap₂, append_assoc, refl, sym, subst, subst₂, arith, ℕ, zero, suc, ◌+◌, ◌*◌, ◌/◌, ◌<◌, ◌≤◌, ◌^◌, Bool, true, false, List, [], ◌∷◌, length, map, min, Option, Some, None}
+use Rattle.std.proofs.Common.{◌≡◌, ◌∙◌, ap, ap₂, append_assoc, refl, sym, subst, arith, ℕ, zero, suc, ◌+◌, ◌*◌, ◌/◌, ◌<◌, ◌≤◌, ◌^◌, Bool, true, List, [], ◌∷◌, length, map, min, Option, Some, None}
 use Rattle.std.proofs.Math.Nat.{min-eq_left}
 use Rattle.std.proofs.lemmas.Bool.{false≢true}
 use Rattle.std.proofs.lemmas.List.{length-map}
@@ -11,6 +11,7 @@ use Rattle.cb_frames.specs.Tops.{at_place as placed_at, changed_in, on_top, plac
 use Rattle.cb_heap.proofs.Laws.{reads_placed, reads_pushed}
 use Rattle.cb_heap.specs.Closed.{Collects}
 use Rattle.cb_heap.specs.Grants.{IsBounded, words_granted}
+use Rattle.cb_interp.proofs.TurnsNeedSerials.{HasSerials, serials_all}
 use Rattle.cb_heap.specs.Kept.{residents}
 use Rattle.cb_heap.specs.Reading.{View, read_roots, seen, serial_of}
 use Rattle.cb_heap.specs.Rules.{Rules}
@@ -41,6 +42,7 @@ use Rattle.cb_shapes.specs.declared.action.Action.{Action}
 use Rattle.cb_shapes.specs.declared.action.Action.TheVariants as actions
 use Rattle.cb_unwind.specs.Strings.{IsNew, constant_or_new, new_constant, units_of, with_constant}
 use Rattle.cb_verify.specs.Typed.{IsTyped}
+use Rattle.cb_act.specs.Coming.{AreAllowed}
 use Rattle.cb_act.specs.Here.{Here}
 use Rattle.cb_interp.specs.Loading.{IsTextHere, LoadsNew, laid, loads_by, loads_new}
 use Rattle.cb_act.specs.Placing.{with_view}
@@ -50,7 +52,10 @@ use Rattle.cb_interp.specs.declared.load_turns.Loading.{Loading}
 use Rattle.cb_act.proofs.Laws.{now}
 use Rattle.cb_interp.proofs.TurnsMade.{quiet_turn}
 use Rattle.cb_interp.proofs.TurnsMaking.{room_read}
-use Rattle.cb_interp.proofs.TypedActs.{typed_goes, typed_suits}
+use Rattle.cb_interp.proofs.Allowed.{allowed_collected, allowed_next}
+use Rattle.cb_interp.proofs.FollowHere.{room_here}
+use Rattle.cb_interp.proofs.FollowTexts.{text_pair_last}
+use Rattle.cb_interp.proofs.TypedActs.{typed_goes}
 
 -- ---- tables that are read
 
@@ -206,12 +211,12 @@ module _ (program : Linked) (limit : ℕ) (index : ℕ → ℕ) (kept : List (Op
         let low = here.low in
         omega (arith, whole, same, low)
 
-    pub load_room : Here machine state decoded → IsLinked program → IsTyped program → (allows : ℕ → ℕ → Bool) → ((one other : ℕ) → allows one other ≡ true) → 0 < top_room held
-    load_room at linked fits allows all = go (loads_so decoded.action here.loads) where
+    pub load_room : Here machine state decoded → IsLinked program → IsTyped program → 0 < top_room held
+    load_room at linked fits = go (loads_so decoded.action here.loads) where
       go : Loads decoded.action → 0 < top_room held
       go (Constant number is) =
-          let suits = typed_suits machine state decoded at linked fits typed allows all in
-          subst (λ (room : ℕ). 0 < room) (room_read index held) (suits.room.lays (actions.Constant number) is refl)
+          let room = room_here machine state decoded at linked fits typed in
+          subst (λ (room : ℕ). 0 < room) (room_read index held) (room.lays (actions.Constant number) is refl)
 
   pub known_turn : {Facts : Type 0} (rules : Rules Facts) (facts : Facts) (at : Here machine state decoded) (known : ℕ) (after : Roots)
       → slice_get held.tables.constants loading.text ≡ Some known → (IsNew held loading.text → ⊥) → after ≡ placed (pushed held (Ref known)) loading.next
@@ -258,6 +263,16 @@ new_made machine state text pc =
     string : Object
     string = object_of constant_strings (kind_of_site machine.program constant_strings) (Reference (length state.objects + 1) ∷ [])
 
+module _ {Facts : Type 0} (rules : Rules Facts) (machine : Machine) (before : Moment Facts) (text pc : ℕ) where
+  -- a string is allowed to refer to its characters, where what is left follows
+  pub new_pair : (allows : ℕ → ℕ → Bool) (middle : Moment Facts) → AreAllowed allows machine before.state → Collects (view_of before.state) (view_of middle.state)
+      → middle.state ≡ with_objects before.state middle.state.objects → plan machine middle.state ≡ Some (loads_new machine middle.state text pc)
+      → allows constant_strings constant_characters ≡ true
+  new_pair allows middle allowed collects same again =
+      text_pair_last allows machine.program text (view_of middle.state) (made (loads_new machine middle.state text pc)).objects
+      (ap (λ (state : State). state.objects) (new_made machine middle.state text pc))
+      (allowed_next allows machine middle.state (loads_new machine middle.state text pc) (allowed_collected rules machine allows before middle allowed collects same) again)
+
 module _ {Facts : Type 0} (rules : Rules Facts) (machine : Machine) (before after : Moment Facts) (text pc : ℕ)
     (is : plan machine before.state ≡ Some (loads_new machine before.state text pc)) where
   asked_so : asked_of (plan machine before.state) ≡ text_wants machine.program text
@@ -285,6 +300,7 @@ module _ {Facts : Type 0} (rules : Rules Facts) (machine : Machine) (before afte
       → Collects (view_of before.state) (view_of after.state) → after.state ≡ with_objects before.state after.state.objects → TurnRefused rules machine before reason after
   new_refused reason ruled collects same = record {
     refused = record {
+      asked = λ none. let both : text_wants machine.program text ≡ [] = sym asked_so ∙ none in cc both;
       ruled = subst (λ (wants : List Want). rules.makes_room before.facts (view_of before.state) wants (Err reason) (record { facts = after.facts; residents = residents after.state.objects }))
           (sym asked_so) ruled;
       collects = collects;
@@ -302,12 +318,11 @@ abbrev two_wants : Linked → (text : ℕ) → List Want → List Want
 two_wants program text rest =
     record { site = constant_characters; words = min (words_of (length (units_of program text))) most_words } ∷ record { site = constant_strings; words = 4 } ∷ rest
 
-pub enough : (program : Linked) (text objects : ℕ) (rest : List Want) → length (units_of program text) < 2 ^ 32 → IsBounded false objects (two_wants program text rest)
+pub enough : (program : Linked) (text objects : ℕ) (rest : List Want) → length (units_of program text) < 2 ^ 32 → objects + 1 + words_granted (two_wants program text rest) / 3 < 2 ^ 63
     → Enough program text objects (two_wants program text rest) × (objects + 1 + (7 + length (units_of program text) + words_granted rest) / 3 < 2 ^ 63)
-enough program text objects rest few bounded =
+enough program text objects rest few serials =
     let low : words_of (length (units_of program text)) ≤ most_words = omega (arith, few) in
     let words : min (words_of (length (units_of program text))) most_words ≡ words_of (length (units_of program text)) = min-eq_left low in
-    let serials = bounded.serials refl in
     let sum : words_granted (two_wants program text rest) ≡ min (words_of (length (units_of program text))) most_words + (4 + words_granted rest) =
     sum_by-cons (λ (want : Want). want.words) (record { site = constant_characters; words = min (words_of (length (units_of program text))) most_words })
     (record { site = constant_strings; words = 4 } ∷ rest)
@@ -318,11 +333,11 @@ enough program text objects rest few bounded =
       left,
     )
 
-pub text_granted : (program : Linked) (text objects : ℕ) (fixed : Bool) (granted wants : List Want) → fixed ≡ false → granted ≡ wants → wants ≡ text_wants program text
+pub text_granted : (program : Linked) (text objects : ℕ) (fixed : Bool) (granted wants : List Want) → HasSerials fixed objects → granted ≡ wants → wants ≡ text_wants program text
     → length (units_of program text) < 2 ^ 32 → IsBounded fixed objects wants → Enough program text objects granted
 text_granted program text objects fixed granted wants grows is asked few bounded =
     subst (Enough program text objects) (sym (is ∙ asked))
-    (enough program text objects [] few (subst₂ (λ (fixed : Bool) (wants : List Want). IsBounded fixed objects wants) grows asked bounded)).0
+    (enough program text objects [] few (subst (λ (wants : List Want). objects + 1 + words_granted wants / 3 < 2 ^ 63) asked (serials_all fixed objects wants grows bounded))).0
 
 -- one mark
 pub one_mark : (marks : List Bool) (own : Bool) → length marks ≡ 1 → slice_get marks 0 ≡ Some own → marks ≡ own ∷ []

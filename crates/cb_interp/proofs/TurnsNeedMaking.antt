@@ -53,7 +53,7 @@ use Rattle.cb_interp.proofs.TurnsMaking.{room_read}
 use Rattle.cb_interp.proofs.MadeNames.{count_of}
 use Rattle.cb_interp.proofs.TurnsNeedThere.{array_kinds, elements_there, method_in, next_there, object_kinds, pc_in}
 use Rattle.cb_interp.proofs.TurnsSwitched.{top_again}
-use Rattle.cb_interp.proofs.TypedActs.{typed_suits}
+use Rattle.cb_interp.proofs.FollowHere.{room_here}
 
 -- ---- what is placed
 
@@ -271,13 +271,12 @@ module _ (program : Linked) (limit : ℕ) (index : ℕ → ℕ) (objects : List 
       go (Arrays number is) = by (actions.NewArrays number 1) is refl (omega arith)
 
     -- there is room for a reference to an object
-    pub object_room : IsLinked program → IsTyped program → IsTypedState program state → (allows : ℕ → ℕ → Bool) → ((one other : ℕ) → allows one other ≡ true)
-        → makes_object_by decoded.action ≡ true → 0 < top_room held
-    object_room linked fits typed allows all makes = go (makes_object_so decoded.action makes) where
+    pub object_room : IsLinked program → IsTyped program → IsTypedState program state → makes_object_by decoded.action ≡ true → 0 < top_room held
+    object_room linked fits typed makes = go (makes_object_so decoded.action makes) where
       go : MakesObject decoded.action → 0 < top_room held
       go (New number is) =
-          let suits = typed_suits machine state decoded at linked fits typed allows all in
-          subst (λ (room : ℕ). 0 < room) (room_read index held) (suits.room.lays (actions.New number) is refl)
+          let room = room_here machine state decoded at linked fits typed in
+          subst (λ (room : ℕ). 0 < room) (room_read index held) (room.lays (actions.New number) is refl)
 
   -- and there is the size of an array
   pub array_sized : (making : Making) → IsArrayHere program held decoded making → 0 < length (top_stack held)

@@ -1,7 +1,7 @@
 -- Arrays are placed one after the other, and other arrays refer to them: one by one into the words of an array, those of all arrays of a
 -- dimension, and those of all dimensions.
-use Rattle.std.proofs.Common.{◌≡◌, ◌∙◌, add-one, ap, refl, sym, arith, ℕ, zero, suc, ◌+◌, ◌-◌, ◌<◌, Bool, true, false, List, [], ◌∷◌, ◌++◌, append_assoc, length, map, replicate, Option, Some, None, IsTrue, slice_get, slice_set}
-use Rattle.std.specs.Prelude.{option_map, take}
+use Rattle.std.proofs.Common.{◌≡◌, ◌∙◌, add-one, ap, refl, subst, sym, arith, ℕ, zero, suc, ◌+◌, ◌-◌, ◌<◌, Bool, true, false, List, [], ◌∷◌, ◌++◌, append_assoc, length, map, replicate, Option, Some, None, IsTrue, slice_get, slice_set}
+use Rattle.std.specs.Prelude.{IfSome, option_map, take}
 use Rattle.std.proofs.lemmas.Bool.{false≢true}
 use Rattle.std.proofs.lemmas.List.{append-nil, length-append, length-replicate, replicate_more}
 use Rattle.std.proofs.lemmas.Option.{none-some, same_Some}
@@ -60,11 +60,12 @@ module _ (objects : List (Option Object)) (serial turn : ℕ) (new : Object) (ho
         ap (is_held kept) last ∙ ap (λ (kept : List (Option Object)). is_held kept (length objects + 1)) is
         ∙ held_there more (length objects + 1) new (placed_there objects new)
 
-    pub new_allowed : (allows : ℕ → ℕ → Bool) → ((one other : ℕ) → allows one other ≡ true) → IsTrue (may_point allows kept one other)
-    new_allowed allows all =
+    pub new_allowed : (allows : ℕ → ℕ → Bool) → IfSome (object_in objects serial) (λ object. allows object.site new.site ≡ true) → IsTrue (may_point allows kept one other)
+    new_allowed allows allowed =
         ap (λ (one : ℕ). may_point allows kept one other) first ∙ ap (may_point allows kept serial) last
         ∙ ap (λ (kept : List (Option Object)). may_point allows kept serial (length objects + 1)) is
-        ∙ may_point_there allows more serial (length objects + 1) has.array new still_there (placed_there objects new) (all has.array.site new.site)
+        ∙ may_point_there allows more serial (length objects + 1) has.array new still_there (placed_there objects new)
+        (subst (λ (found : Option Object). IfSome found (λ object. allows object.site new.site ≡ true)) has.there allowed)
 
     pub refers_so : with_content kept one turn (Reference other) ≡ with_content more serial turn (Reference (length objects + 1))
     refers_so =
@@ -266,6 +267,15 @@ module _ (program : Linked) (array : Object) (count site size : ℕ) where
         ∙ ap (λ (serial : ℕ). is_reference (content_at (placed_rows stands.before stands.rest done) serial done)) stands.at
         ∙ row_in stands.before stands.rest done low
 
+    -- it has its site
+    fill_allowed : (allows : ℕ → ℕ → Bool) (done : ℕ) → allows array.site site ≡ true → IfSome (object_in (so done) serial) (λ object. allows object.site site ≡ true)
+    fill_allowed allows done allowed =
+        let all : List (Option Object) = placed_rows stands.before stands.rest done in
+        let there : object_in (so done) serial ≡ Some (partly stands.before stands.rest done) =
+        ap (λ (objects : List (Option Object)). object_in objects serial) (so_is done) ∙ ap (object_in all) (stands.at ∙ add-one (length stands.before))
+        ∙ in_middle stands.before (partly stands.before stands.rest done) (stands.rest ++ replicate done (Some child)) in
+        subst (λ (found : Option Object). IfSome found (λ object. allows object.site site ≡ true)) (sym there) allowed
+
     fill_next : (done : ℕ) → done < count → with_row program (so done) serial done site size ≡ so (done + 1)
     fill_next done low =
         ap (λ (objects : List (Option Object)). with_row program objects serial done site size) (so_is done)
@@ -303,6 +313,12 @@ module _ (program : Linked) (objects : List (Option Object)) (serial count site 
   pub filling_next : (done : ℕ) → done < count → with_row program (filled_so program objects serial count done site size) serial done site size
       ≡ filled_so program objects serial count (done + 1) site size
   filling_next done low = fill_next program own.array count site size objects serial own.there done low
+
+  pub filling_allowed : (allows : ℕ → ℕ → Bool) (done : ℕ) → IfSome (object_in objects serial) (λ object. allows object.site site ≡ true)
+      → IfSome (object_in (filled_so program objects serial count done site size) serial) (λ object. allows object.site site ≡ true)
+  filling_allowed allows done allowed =
+      fill_allowed program own.array count site size objects serial own.there allows done
+      (subst (λ (found : Option Object). IfSome found (λ object. allows object.site site ≡ true)) own.there allowed)
 
   pub filling_first : objects ≡ filled_so program objects serial count 0 site size
   filling_first = fill_first program own.array count site size objects serial own.there own.holds

@@ -230,7 +230,7 @@ module _ (program : Linked) (grid : Grid) (start : List (Option Object)) where
       ≡ Some (Reference (first + turn * size_of grid.sizes dimension + word))) (next_first dimension)
       (row_word program (grid.site dimension) (kind_of_site program (grid.site dimension)) (size_of grid.sizes dimension) (count_of grid.sizes dimension) 0 0 (above dimension) rest turn word few short)
 
-  above_next : (dimension : ℕ) (rest : List (Option Object)) → above (suc dimension) ++ rest ≡ above dimension ++ (rows program grid lowest dimension ++ rest)
+  pub above_next : (dimension : ℕ) (rest : List (Option Object)) → above (suc dimension) ++ rest ≡ above dimension ++ (rows program grid lowest dimension ++ rest)
   above_next dimension rest =
       ap (λ (objects : List (Option Object)). objects ++ rest) (sym (append_assoc start (rows_above program grid lowest dimension) (rows program grid lowest dimension)))
       ∙ append_assoc (above dimension) (rows program grid lowest dimension) rest
@@ -288,6 +288,14 @@ module _ (program : Linked) (grid : Grid) (start : List (Option Object)) where
       ∙ ap (option_map (λ object. object.contents)) (level_blank program (grid.site dimension) (kind_of_site program (grid.site dimension)) (size_of grid.sizes dimension) (count_of grid.sizes dimension)
       (grid.site (dimension + 1)) (size_of grid.sizes (dimension + 1)) (above dimension) turn low)
       ∙ ap (λ (content : Content). Some (replicate (size_of grid.sizes dimension) content)) nulls
+
+  -- it is of the site of its dimension
+  pub turn_there : (dimension turn : ℕ) → turn < count_of grid.sizes dimension
+      → object_in (level_at_turn dimension turn) (first_of grid.sizes lowest dimension + turn) ≡ Some (new_array program (grid.site dimension) (size_of grid.sizes dimension))
+  turn_there dimension turn low =
+      ap (λ (serial : ℕ). object_in (level_at_turn dimension turn) serial) (turn_place dimension turn)
+      ∙ level_blank program (grid.site dimension) (kind_of_site program (grid.site dimension)) (size_of grid.sizes dimension) (count_of grid.sizes dimension)
+      (grid.site (dimension + 1)) (size_of grid.sizes (dimension + 1)) (above dimension) turn low
 
   pub turn_next : (dimension turn : ℕ) → turn < count_of grid.sizes dimension
       → with_rows program (level_at_turn dimension turn) (first_of grid.sizes lowest dimension + turn) (size_of grid.sizes dimension) (grid.site (dimension + 1)) (size_of grid.sizes (dimension + 1))

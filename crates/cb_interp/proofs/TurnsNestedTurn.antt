@@ -75,12 +75,12 @@ module _ (machine : Machine) (grid : Grid) (last pc : ℕ) where
       ∙ ap (λ (blanks : List (Option Object)). objects ++ (rows_above machine.program grid first last ++ blanks))
       (all_there (count_of grid.sizes last) (new_array machine.program (grid.site last) (size_of grid.sizes last)))
 
-  nested_so : (state : State) → made (makes_nested machine state grid last pc) ≡ with_view state (at_place (made_nested machine.program grid last (view_of state)) pc)
+  pub nested_so : (state : State) → made (makes_nested machine state grid last pc) ≡ with_view state (at_place (made_nested machine.program grid last (view_of state)) pc)
   nested_so state =
       ap (with_objects (with_roots state (placed (stacked state.roots (Ref (length state.objects + 1) ∷ drop (suc last) (top_stack state.roots))) pc)))
       (placed_so state.objects (length state.objects + 1))
 
-  nested_kept : (kept : List Bool) (state : State) → length kept ≡ length state.objects
+  pub nested_kept : (kept : List Bool) (state : State) → length kept ≡ length state.objects
       → kept_plan kept (makes_nested machine state grid last pc) ≡ makes_nested machine (kept_state kept state) grid last pc
   nested_kept kept state same =
       ap (λ (count : ℕ). record {
@@ -150,6 +150,10 @@ module _ {Facts : Type 0} (rules : Rules Facts) (machine : Machine) (before : Mo
       → Collects (view_of before.state) (view_of after.state) → after.state ≡ with_objects before.state after.state.objects → TurnRefused rules machine before reason after
   nested_refused after reason ruled collects same = record {
     refused = record {
+      asked = λ none.
+          let some : IsAsked (fold add_want [] (nested_wants grid (last + 1))) = nested_asked grid last in
+          let both : some.first ∷ some.rest ≡ [] = sym (ap asked_of is ∙ asks_nested machine before.state grid last pc ∙ some.is) ∙ none in
+          cc both;
       ruled = subst (λ (wants : List Want). rules.makes_room before.facts (view_of before.state) wants (Err reason) (record { facts = after.facts; residents = residents after.state.objects }))
           (asks ∙ sym (ap asked_of is ∙ asks_nested machine before.state grid last pc)) ruled;
       collects = collects;

@@ -62,7 +62,7 @@ module _ (program : Linked) where
   abbrev characters_kind : ℕ
   characters_kind = kind_of_site program sites.argument_characters
 
-  abbrev texts_placed : ℕ → List (List ℕ) → List Placing
+  abbrev pub texts_placed : ℕ → List (List ℕ) → List Placing
   texts_placed next [] = []
   texts_placed next (units ∷ given) =
       One sites.argument_characters characters_kind (unit_contents units) ∷ One sites.argument_strings string_kind (Reference next ∷ []) ∷ texts_placed (next + 2) given
@@ -73,7 +73,7 @@ module _ (program : Linked) where
   abbrev array_placed : List (List ℕ) → Placing
   array_placed given = One sites.arguments array_kind (map string_behind (range_with_len 0 (length given)))
 
-  abbrev placed_first : List (List ℕ) → List Placing
+  abbrev pub placed_first : List (List ℕ) → List Placing
   placed_first given = array_placed given ∷ (texts_placed 2 given ++ streams)
 
   -- what they ask for
@@ -134,7 +134,7 @@ module _ (program : Linked) where
       (append_assoc objects (characters ∷ string ∷ []) (flat_map objects_of (texts_placed (2 * (turn + 1) + 2) given))
       ∙ ap (λ (next : ℕ). objects ++ characters ∷ string ∷ flat_map objects_of (texts_placed next given)) (let same : 2 * (turn + 1) + 2 ≡ 2 * turn + 2 + 2 = omega arith in same))
 
-  objects_first : (given : List (List ℕ)) → map Some (flat_map objects_of (placed_first given)) ≡ first_objects program given
+  pub objects_first : (given : List (List ℕ)) → map Some (flat_map objects_of (placed_first given)) ≡ first_objects program given
   objects_first given =
       let count : ℕ = length given in
       let out : Object = bare program sites.system_out in

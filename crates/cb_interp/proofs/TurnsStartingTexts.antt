@@ -2,7 +2,8 @@
 use Rattle.std.proofs.Common.{◌≡◌, ◌∙◌, add-one, ap, refl, sym, arith, ℕ, zero, suc, ◌+◌, ◌<◌, ◌≤◌, List, [], ◌∷◌, ◌++◌, append_assoc, drop, get_or, is_some, length, replicate, Option, Some, IsTrue, slice_get, slice_set, true, Bool}
 use Rattle.std.proofs.Math.Seq.{drop-cons}
 use Rattle.std.proofs.lemmas.List.{length-append}
-use Rattle.std.proofs.lemmas.Option.{slice_get-get_or}
+use Rattle.std.proofs.lemmas.Option.{same_Some, slice_get-get_or}
+use Rattle.std.specs.Prelude.{option_map}
 use Rattle.std.specs.List.{AllByRecursion}
 use Rattle.cb_heap.proofs.Laws.{content_of_object, may_point_there, placed_there}
 use Rattle.cb_heap.specs.Kept.{content_at, is_held, is_reference, with_content}
@@ -96,11 +97,11 @@ module _ (sites : TextSites) (units : List ℕ) (objects : List (Option Object))
           ap (is_held kept) last ∙ ap (λ (kept : List (Option Object)). is_held kept (length objects + 2)) is
           ∙ held_there (with_text sites units objects) (length objects + 2) string string_there
 
-      pub is_allowed : (allows : ℕ → ℕ → Bool) → ((one other : ℕ) → allows one other ≡ true) → IsTrue (may_point allows kept one other)
-      is_allowed allows all =
+      pub is_allowed : (allows : ℕ → ℕ → Bool) → allows has.array.site sites.site ≡ true → IsTrue (may_point allows kept one other)
+      is_allowed allows allowed =
           ap (λ (one : ℕ). may_point allows kept one other) first ∙ ap (may_point allows kept 1) last
           ∙ ap (λ (kept : List (Option Object)). may_point allows kept 1 (length objects + 2)) is
-          ∙ may_point_there allows (with_text sites units objects) 1 (length objects + 2) has.array string array_there string_there (all has.array.site string.site)
+          ∙ may_point_there allows (with_text sites units objects) 1 (length objects + 2) has.array string array_there string_there allowed
 
       pub refers_so : with_content kept one turn (Reference other) ≡ with_content (with_text sites units objects) 1 turn (Reference (length objects + 2))
       refers_so =
@@ -129,6 +130,20 @@ module _ (program : Linked) (objects : List (Option Object)) (turn : ℕ) (units
     is = ap (λ (own : List (Option Object)). with_content (own ++ more) 1 turn (Reference (length objects + 2))) has.is;
     holds = λ word low. set_holds has.array.contents turn (length objects + 2) word (has.holds word low);
   }
+
+-- it has its site
+pub array_site : (objects : List (Option Object)) (count site : ℕ) → (has : HasArray objects count) → option_map (λ (object : Object). object.site) (object_in objects 1) ≡ Some site
+    → has.array.site ≡ site
+array_site objects count site has is =
+    same_Some has.array.site site (sym (ap (λ (objects : List (Option Object)). option_map (λ (object : Object). object.site) (object_in objects 1)) has.is) ∙ is)
+
+pub site_still : (program : Linked) (objects : List (Option Object)) (turn : ℕ) (units : List ℕ) (count site : ℕ) → HasArray objects count
+    → option_map (λ (object : Object). object.site) (object_in objects 1) ≡ Some site
+    → option_map (λ (object : Object). object.site) (object_in (with_argument_text program objects turn units) 1) ≡ Some site
+unfolding has_still
+site_still program objects turn units count site has is =
+    ap (λ (objects : List (Option Object)). option_map (λ (object : Object). object.site) (object_in objects 1)) (has_still program objects turn units count has).is
+    ∙ ap {B = Option ℕ} Some (array_site objects count site has is)
 
 -- ---- the array, before any of them and behind all
 

@@ -10,7 +10,9 @@ use Rattle.cb_frames.specs.Limited.{Limited, with_roots as with_held}
 use Rattle.cb_frames.specs.Tops.{entered_init}
 use Rattle.cb_heap.proofs.Laws.{reads_room}
 use Rattle.cb_heap.specs.Closed.{Collects}
+use Rattle.cb_heap.specs.Follows.{Follows}
 use Rattle.cb_heap.specs.Grants.{IsBounded, words_granted}
+use Rattle.cb_interp.proofs.TurnsNeedSerials as Serials
 use Rattle.cb_heap.specs.Kept.{keep, residents}
 use Rattle.cb_heap.specs.Reading.{seen}
 use Rattle.cb_heap.specs.Rules.{Rules}
@@ -31,11 +33,13 @@ use Rattle.cb_plain.specs.Updates.{with_objects}
 use Rattle.cb_plain.specs.declared.class_state.ClassState.TheVariants.{Busy}
 use Rattle.cb_plain.specs.declared.want.Want.{Want}
 use Rattle.cb_interp.specs.Arguments.{Covers}
+use Rattle.cb_act.specs.Coming.{AreAllowed}
 use Rattle.cb_act.specs.Keeping.{kept_plan}
 use Rattle.cb_act.specs.Steps.{view_of}
 use Rattle.cb_interp.specs.TextStatics.{AreLow, AsksTexts, HasSerials, NoText, SomeTexts, first_plan, set_initial, wants_behind, wants_to}
 use Rattle.cb_act.specs.Turning.{Moment, Outside, TurnMade, TurnRefused, facts_behind, machine_of, state_of}
 use Rattle.cb_act.proofs.Laws.{begun_kept, length_kept}
+use Rattle.cb_interp.proofs.Allowed.{allowed_asked}
 use Rattle.cb_interp.proofs.TurnsMade.{asked_turn, collected, collected_keeping, quiet_turn}
 use Rattle.cb_interp.proofs.TurnsTextAsks.{asks_to, begins_so}
 
@@ -108,9 +112,9 @@ serials_for : (objects : ℕ) (granted all : List Want) → AreLow objects grant
 serials_for objects granted [] low = tt
 serials_for objects granted (want ∷ all) low = low
 
-pub serials_granted : (objects : ℕ) (fixed : Bool) (granted wants all : List Want) → fixed ≡ false → granted ≡ wants → IsBounded fixed objects wants → HasSerials objects granted all
+pub serials_granted : (objects : ℕ) (fixed : Bool) (granted wants all : List Want) → Serials.HasSerials fixed objects → granted ≡ wants → IsBounded fixed objects wants → HasSerials objects granted all
 serials_granted objects fixed granted wants all grows is bounded =
-    let low = bounded.serials grows in
+    let low = Serials.serials_all fixed objects wants grows bounded in
     let both = both_granted wants constant_characters constant_strings refl in
     let so : AreLow objects wants = omega (arith, low, both) in
     serials_for objects granted all (subst (AreLow objects) (sym is) so)
@@ -152,6 +156,12 @@ module _ {Facts : Type 0} (rules : Rules Facts) (machine : Machine) (before : Mo
     pub asks_again : asked (begun_upon machine middle.state (frames middle.state.roots) class) ≡ asked own
     asks_again = ap asked begun_again
 
+    -- what is left follows what sites allow
+    pub begun_follows : (allows : ℕ → ℕ → Bool) → AreAllowed allows machine before.state
+        → Follows allows (made (begun_upon machine middle.state (frames middle.state.roots) class)).objects
+    begun_follows allows allowed =
+        subst (λ (own : Plan). Follows allows (made own).objects) (sym begun_again) (allowed_asked rules machine allows before middle own allowed is collects same)
+
     pub texts_turn : (after : Moment Facts) (wants : List Want) → wants ≡ asked own → (wants ≡ [] → ⊥)
         → rules.makes_room before.facts (view_of before.state) wants (Ok tt) (record { facts = middle.facts; residents = residents middle.state.objects })
         → after.state ≡ made (begun_upon machine middle.state (frames middle.state.roots) class)
@@ -161,11 +171,12 @@ module _ {Facts : Type 0} (rules : Rules Facts) (machine : Machine) (before : Mo
         asked_turn rules machine before middle after own want wants is (sym asks) ruled collects same (steps ∙ ap made begun_again)
         (knows ∙ ap (λ (own : Plan). facts_behind rules middle.facts own.placed) begun_again)
 
-  pub texts_refused : (after : Moment Facts) (reason : NoRoom) (wants : List Want) → wants ≡ asked own
+  pub texts_refused : (after : Moment Facts) (reason : NoRoom) (wants : List Want) → wants ≡ asked own → (wants ≡ [] → ⊥)
       → rules.makes_room before.facts (view_of before.state) wants (Err reason) (record { facts = after.facts; residents = residents after.state.objects })
       → Collects (view_of before.state) (view_of after.state) → after.state ≡ with_objects before.state after.state.objects → TurnRefused rules machine before reason after
-  texts_refused after reason wants asks ruled collects same = record {
+  texts_refused after reason wants asks some ruled collects same = record {
     refused = record {
+      asked = λ none. some (asks ∙ sym (ap asked_of is) ∙ none);
       ruled = subst (λ (wants : List Want). rules.makes_room before.facts (view_of before.state) wants (Err reason) (record { facts = after.facts; residents = residents after.state.objects }))
           (asks ∙ sym (ap asked_of is)) ruled;
       collects = collects;

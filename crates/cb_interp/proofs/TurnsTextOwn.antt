@@ -4,6 +4,7 @@ use Rattle.std.proofs.lemmas.Bool.{eq-eqb, ne_eqb}
 use Rattle.std.specs.Prelude.{option_map}
 use Rattle.std.specs.List.{fold}
 use Rattle.cb_heap.specs.Closed.{IsClosed}
+use Rattle.cb_heap.specs.Follows.{Follows}
 use Rattle.cb_heap.specs.Reading.{View, seen}
 use Rattle.cb_heap.specs.Rules.{Rules}
 use Rattle.cb_link.specs.Named.{static_initial}
@@ -12,7 +13,7 @@ use Rattle.cb_link.specs.Slots.{static_at, statics}
 use Rattle.cb_link.specs.declared.named.Named.TheVariants as meanings
 use Rattle.cb_machine.specs.Initialising.{own_statics}
 use Rattle.cb_machine.specs.Machine.{Machine, kind_of_site}
-use Rattle.cb_machine.specs.Plans.{Plan, leaving}
+use Rattle.cb_machine.specs.Plans.{Plan, leaving, made}
 use Rattle.cb_machine.specs.Sites.{constant_characters, constant_strings}
 use Rattle.cb_plain.specs.State.{Object, Roots}
 use Rattle.cb_plain.specs.declared.shape.Shape.{Shape}
@@ -23,6 +24,7 @@ use Rattle.cb_interp.specs.Fit.{ShapesOf}
 use Rattle.cb_interp.specs.Loading.{MayPlace}
 use Rattle.cb_interp.specs.TextStatics.{HasSerials, MayPlaceOwn, declared_by, set_initial, text_of, text_wants, wants_behind}
 use Rattle.cb_act.specs.Turning.{Outside, machine_of, state_of}
+use Rattle.cb_interp.proofs.FollowStatics.{new_pair}
 use Rattle.cb_interp.proofs.TurnsNeedLoads.{new_read}
 use Rattle.cb_interp.proofs.TurnsTextPlaced.{PlacedSoFar, covers_new, low_new, room_array, room_serials, room_string}
 use Rattle.cb_interp.proofs.TurnsTextSlots.{declared_so, other_next, own_is, own_next, slots_from, slots_whole}
@@ -63,9 +65,9 @@ module _ {Facts : Type 0} (rules : Rules Facts) (program : Linked) (limit class 
 
   module _ (slot : ℕ) (index : ℕ → ℕ) (kept : List (Option Object)) (held : Roots) (facts : Facts) (granted : List Want) where
     pub may_enter : SoNext slot (seen index kept held) facts granted → (text : ℕ) → static_initial program slot ≡ meanings.Text text → IsNew held text → MayPlace program text
-        → (shapes : List Shape) → ShapesOf program shapes → (allows : ℕ → ℕ → Bool) → ((one other : ℕ) → allows one other ≡ true)
+        → (shapes : List Shape) → ShapesOf program shapes → (allows : ℕ → ℕ → Bool) → Follows allows (made whole).objects
         → MayEnter program text shapes granted allows (seen index kept held)
-    may_enter so text named new may shapes shaped allows pairs =
+    may_enter so text named new may shapes shaped allows follows =
         let rest : List Want = wants_behind machine (set_initial machine so.plan slot) (slots_from program class count (slot + 1)) in
         let covers : Covers granted (text_wants program text ++ rest) =
         covers_new rules machine first whole outside slot (slots_from program class count (slot + 1)) (seen index kept held) facts granted so text named (new_read index held text new) in
@@ -79,7 +81,8 @@ module _ {Facts : Type 0} (rules : Rules Facts) (program : Linked) (limit class 
               (low_new rules machine first whole outside slot (slots_from program class count (slot + 1)) (seen index kept held) facts granted so text named (new_read index held text new)) text covers;
           few = may.few;
           closed = so.closed;
-          allowed = pairs constant_strings constant_characters;
+          allowed = new_pair rules machine first whole outside slot (slots_from program class count (slot + 1)) (seen index kept held) facts granted so allows text named
+              (new_read index held text new) follows;
         }
 
 pub placed_first : {Facts : Type 0} (rules : Rules Facts) (program : Linked) (limit class count : ℕ) (facts : Facts) (outside : Outside) (view : View) (granted : List Want)

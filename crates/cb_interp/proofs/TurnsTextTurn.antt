@@ -1,10 +1,11 @@
 -- What is asked of roots and a store where a class begins to be initialised of which static fields have strings as constants, before and
 -- after room was made.
-use Rattle.std.proofs.Common.{◌≡◌, ◌∙◌, ap, arith, sym, subst, ℕ, ◌<◌, ◌≤◌, Bool, true, false, List, [], length, map, slice_get, Option}
+use Rattle.std.proofs.Common.{◌≡◌, ◌∙◌, ap, arith, sym, subst, ℕ, ◌<◌, ◌≤◌, Bool, true, List, [], length, map, slice_get, Option}
 use Rattle.std.proofs.lemmas.List.{length-map}
 use Rattle.std.specs.List.{fold}
 use Rattle.cb_heap.proofs.Laws.{reads_room}
 use Rattle.cb_heap.specs.Grants.{IsBounded}
+use Rattle.cb_interp.proofs.TurnsNeedSerials as Serials
 use Rattle.cb_heap.specs.Reading.{read_roots, read_value, seen, serial_of}
 use Rattle.cb_link.specs.Program.{Linked}
 use Rattle.cb_machine.specs.Initialising.{begun_upon, own_statics}
@@ -77,5 +78,5 @@ module _ (program : Linked) (limit class : ℕ) (state : State) (frames : List F
         covers_asked granted wanted (is ∙ asks_all ∙ asks)
         (λ want place there. bounded.each want place (sym (ap (λ (wants : List Want). slice_get wants place) is) ∙ there))
 
-    pub serials_made : fixed ≡ false → HasSerials objects granted wanted
+    pub serials_made : Serials.HasSerials fixed objects → HasSerials objects granted wanted
     serials_made grows = serials_granted objects fixed granted wants wanted grows is bounded

@@ -8,7 +8,6 @@ use Rattle.cb_library.specs.declared.native.Native.{Native}
 use Rattle.cb_library.specs.declared.native.Native.TheVariants as natives
 use Rattle.cb_machine.specs.Machine.{Machine}
 use Rattle.cb_machine.specs.Steps.{step}
-use Rattle.cb_natives.specs.Input.{Loses}
 use Rattle.cb_plain.specs.State.{State}
 use Rattle.cb_plain.specs.Updates.{with_input}
 use Rattle.cb_safety.specs.States.{IsInput}
@@ -30,11 +29,15 @@ abbrev pub as_bytes : Option (List ℕ) → Option (List ℕ)
 as_bytes None = None
 as_bytes (Some left) = if are_bytes left then Some left else None
 
--- a step asks the input: given an input of one byte, it leaves none
-pub record TakesInput (machine : Machine) (state : State) : Type 0 where
+-- a step takes these bytes: given them as its input, it leaves none
+pub record Takes (machine : Machine) (state : State) (bytes : List ℕ) : Type 0 where
   pub next : State
-  pub steps : step machine (with_input state (0 ∷ [])) ≡ Some next
+  pub steps : step machine (with_input state bytes) ≡ Some next
   pub taken : next.input ≡ []
+
+-- a step asks the input: it takes a byte
+abbrev pub TakesInput : Machine → State → Type 0
+TakesInput machine state = Takes machine state (0 ∷ [])
 
 -- the outside with this input
 abbrev pub with_given : Outside → List ℕ → Outside
@@ -59,7 +62,14 @@ abbrev pub InputFails : Machine → State → Stop → Type 0
 InputFails machine state stops.InputFault = TakesInput machine state
 InputFails machine state other = ⊥
 
--- what is left of the input where no turn is made: a call that failed may have come behind others of the same step
-abbrev pub LosesBy : Stop → (left leaves : Option (List ℕ)) → Type 0
-LosesBy stops.InputFault left leaves = Loses left leaves
-LosesBy other left leaves = Keeps left leaves
+-- a call of the input failed: others of the same step may have taken some bytes before, but none that the step doesn't take, and fewer than it
+-- takes
+pub record Fails (machine : Machine) (state : State) (left leaves : Option (List ℕ)) : Type 0 where
+  pub front : List ℕ
+  pub consumes : Consumes left leaves front
+  pub takes : Takes machine state (front ++ 0 ∷ [])
+
+-- what is left of the input where no turn is made
+abbrev pub LosesBy : Machine → State → Stop → (left leaves : Option (List ℕ)) → Type 0
+LosesBy machine state stops.InputFault left leaves = Fails machine state left leaves
+LosesBy machine state other left leaves = Keeps left leaves

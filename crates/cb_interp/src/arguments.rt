@@ -1,13 +1,14 @@
 // The arguments of a run.
-ghost use Rattle.std.specs.Prelude.{◌≡◌, ◌+◌, ◌*◌, ◌<◌, ◌≤◌, ◌^◌, ◌++◌, [], ℕ, length, true};
+ghost use Rattle.std.specs.Prelude.{◌≡◌, ◌+◌, ◌*◌, ◌<◌, ◌≤◌, ◌^◌, ◌++◌, [], length, option_map, true, Some};
 ghost use Rattle.std.specs.List.{AllByRecursion, flat_map, fold};
 ghost use Rattle.cb_heap.specs.Reading.{serial_of};
 ghost use Rattle.cb_heap.specs.Store.{ReadsAsBefore};
 ghost use Rattle.cb_link.specs.Having.{site_kinds};
 ghost use Rattle.cb_machine.specs.Performing.{most_elements};
-ghost use Rattle.cb_machine.specs.Sites.{argument_characters, argument_strings};
+ghost use Rattle.cb_machine.specs.Sites.{argument_characters, argument_strings, arguments};
 ghost use Rattle.cb_plain.specs.Requests.{add_want, spent, words_at};
 ghost use Rattle.cb_plain.specs.State.{words_of};
+ghost use Rattle.cb_plain.specs.Updates.{object_in};
 ghost use Rattle.cb_safety.specs.Strings.{IsText};
 ghost use Rattle.cb_interp.specs.Arguments.{AskedFor, Covers, HasArray, MayHold, argument_sites, knows_text, knows_texts, stream_wants, text_wants, with_argument_text, with_texts};
 
@@ -51,26 +52,26 @@ fn ask_text(request: &mut Request, text: &Units)
 /// Places the strings of texts behind the array of arguments, which is alone, and puts them into it. There is room for them, and for the
 /// streams of System. Takes time in the texts.
 pub(crate) fn place_texts<S: Store>(program: &Program, store: &mut S, array: u64, texts: &[Units])
-    requires fits { MayHold program.now (S.shapes store.old) }
-    requires granted { Covers (S.granted store.old) (flat_map text_wants texts.now
+    requires fits { MayHold program.now (S.storage store.old).settings.shapes }
+    requires granted { Covers (S.storage store.old).granted (flat_map text_wants texts.now
         ++ stream_wants) }
-    requires there { HasArray (S.kept store.old) (length texts.now) }
-    requires alone { length (S.kept store.old) ≡ 1 }
-    requires array { serial_of (S.index store.old) array ≡ 1 }
+    requires there { HasArray (S.storage store.old).kept (length texts.now) }
+    requires alone { length (S.storage store.old).kept ≡ 1 }
+    requires array { serial_of (S.storage store.old).index array ≡ 1 }
     requires few { length texts.now ≤ most_elements }
     requires short { AllByRecursion IsText texts.now }
-    requires pairs { (one other : ℕ) → S.allows store.old one other ≡ true }
-    ensures kept { S.kept store.new ≡ with_texts program.now (S.kept store.old) 0 texts.now }
-    ensures there { HasArray (S.kept store.new) (length texts.now) }
-    ensures long { length (S.kept store.new) ≡ 2 * length texts.now + 1 }
-    ensures array { serial_of (S.index store.new) array ≡ 1 }
-    ensures places { ReadsAsBefore [] (S.index store.old) (S.index store.new) }
-    ensures facts { S.facts store.new ≡ knows_texts S.rules (S.facts store.old) texts.now }
-    ensures granted { Covers (S.granted store.new) stream_wants }
-    ensures faults { S.faults store.new ≡ S.faults store.old }
-    ensures knows { S.knows store.new ≡ S.knows store.old }
-    ensures allows { S.allows store.new ≡ S.allows store.old }
-    ensures shapes { S.shapes store.new ≡ S.shapes store.old }
+    requires sited { option_map (λ object. object.site) (object_in (S.storage store.old).kept 1) ≡ Some arguments }
+    requires refers { 0 < length texts.now → (S.storage store.old).settings.allows arguments argument_strings ≡ true }
+    requires holds { 0 < length texts.now → (S.storage store.old).settings.allows argument_strings argument_characters ≡ true }
+    ensures kept { (S.storage store.new).kept ≡ with_texts program.now (S.storage store.old).kept 0 texts.now }
+    ensures there { HasArray (S.storage store.new).kept (length texts.now) }
+    ensures long { length (S.storage store.new).kept ≡ 2 * length texts.now + 1 }
+    ensures array { serial_of (S.storage store.new).index array ≡ 1 }
+    ensures places { ReadsAsBefore [] (S.storage store.old).index (S.storage store.new).index }
+    ensures facts { (S.storage store.new).facts ≡ knows_texts S.rules (S.storage store.old).facts texts.now }
+    ensures granted { Covers (S.storage store.new).granted stream_wants }
+    ensures faults { (S.storage store.new).faults ≡ (S.storage store.old).faults }
+    ensures settings { (S.storage store.new).settings ≡ (S.storage store.old).settings }
 {
     for (i, text) in texts.iter().enumerate() {
         place_argument(program, store, array, i as u32, text);
@@ -79,27 +80,27 @@ pub(crate) fn place_texts<S: Store>(program: &Program, store: &mut S, array: u64
 
 /// Places the string of a text, and puts it into a word of the array, which is the first object.
 fn place_argument<S: Store>(program: &Program, store: &mut S, array: u64, turn: u32, text: &Units)
-    requires fits { MayHold program.now (S.shapes store.old) }
+    requires fits { MayHold program.now (S.storage store.old).settings.shapes }
     requires characters { words_of (length text.now)
-        ≤ words_at (S.granted store.old) argument_characters }
-    requires string { words_of 1 ≤ words_at (spent (S.granted store.old) argument_characters
+        ≤ words_at (S.storage store.old).granted argument_characters }
+    requires string { words_of 1 ≤ words_at (spent (S.storage store.old).granted argument_characters
         (words_of (length text.now))) argument_strings }
-    requires there { HasArray (S.kept store.old) (turn + 1) }
-    requires array { serial_of (S.index store.old) array ≡ 1 }
-    requires serials { length (S.kept store.old) + 2 < 2 ^ 63 }
+    requires there { HasArray (S.storage store.old).kept (turn + 1) }
+    requires array { serial_of (S.storage store.old).index array ≡ 1 }
+    requires serials { length (S.storage store.old).kept + 2 < 2 ^ 63 }
     requires short { length text.now < 2 ^ 32 }
-    requires pairs { (one other : ℕ) → S.allows store.old one other ≡ true }
-    ensures kept { S.kept store.new ≡ with_argument_text program.now (S.kept store.old) turn
+    requires sited { option_map (λ object. object.site) (object_in (S.storage store.old).kept 1) ≡ Some arguments }
+    requires refers { (S.storage store.old).settings.allows arguments argument_strings ≡ true }
+    requires holds { (S.storage store.old).settings.allows argument_strings argument_characters ≡ true }
+    ensures kept { (S.storage store.new).kept ≡ with_argument_text program.now (S.storage store.old).kept turn
         text.now }
-    ensures array { serial_of (S.index store.new) array ≡ 1 }
-    ensures places { ReadsAsBefore (S.kept store.old) (S.index store.old) (S.index store.new) }
-    ensures facts { S.facts store.new ≡ knows_text S.rules (S.facts store.old) text.now }
-    ensures granted { S.granted store.new ≡ spent (spent (S.granted store.old) argument_characters
+    ensures array { serial_of (S.storage store.new).index array ≡ 1 }
+    ensures places { ReadsAsBefore (S.storage store.old).kept (S.storage store.old).index (S.storage store.new).index }
+    ensures facts { (S.storage store.new).facts ≡ knows_text S.rules (S.storage store.old).facts text.now }
+    ensures granted { (S.storage store.new).granted ≡ spent (spent (S.storage store.old).granted argument_characters
         (words_of (length text.now))) argument_strings (words_of 1) }
-    ensures faults { S.faults store.new ≡ S.faults store.old }
-    ensures knows { S.knows store.new ≡ S.knows store.old }
-    ensures allows { S.allows store.new ≡ S.allows store.old }
-    ensures shapes { S.shapes store.new ≡ S.shapes store.old }
+    ensures faults { (S.storage store.new).faults ≡ (S.storage store.old).faults }
+    ensures settings { (S.storage store.new).settings ≡ (S.storage store.old).settings }
 {
     let sites = argument_sites(program);
     let at = place_text(store, sites, text.as_slice());

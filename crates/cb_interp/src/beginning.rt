@@ -1,6 +1,6 @@
 // Turns of a run in which a class begins to be initialised.
+ghost use Rattle.cb_heap.specs.Storage.{view_in};
 ghost use Rattle.std.specs.Prelude.{◌≡◌, ◌<◌, ◌≤◌, length, OnErr, OnOk, Some};
-ghost use Rattle.cb_heap.specs.Reading.{seen};
 ghost use Rattle.cb_link.specs.Slots.{statics};
 ghost use Rattle.cb_machine.specs.Initialising.{begun_upon};
 ghost use Rattle.cb_machine.specs.Sites.{stack_overflow};
@@ -23,22 +23,17 @@ pub fn begin_turn<S: Store>(
     class: u32,
 ) -> Result<(), Deep>
     ghost outside: { Outside }
-    requires plans { plan (machine_of program.now roots.old.limit) (state_of (seen
-        (S.index store.now) (S.kept store.now) roots.old.roots) outside)
-        ≡ Some (begun_upon (machine_of program.now roots.old.limit) (state_of (seen
-        (S.index store.now) (S.kept store.now) roots.old.roots) outside) (seen (S.index store.now)
-        (S.kept store.now) roots.old.roots).roots.frames class) }
+    requires plans { plan (machine_of program.now roots.old.limit) (state_of (view_in (S.storage store.now) roots.old.roots) outside)
+        ≡ Some (begun_upon (machine_of program.now roots.old.limit) (state_of (view_in (S.storage store.now) roots.old.roots) outside) (view_in (S.storage store.now) roots.old.roots).roots.frames class) }
     requires class { class < length roots.old.roots.classes }
     requires statics { length (statics program.now.classes) ≤ length roots.old.roots.statics }
     requires numbers { NumbersOnly program.now class }
     ensures made { OnOk result (TurnMade S.rules (machine_of program.now roots.old.limit) (moment_of
-        (seen (S.index store.now) (S.kept store.now) roots.old.roots) outside (S.facts store.now))
-        (moment_of (seen (S.index store.now) (S.kept store.now) roots.new.roots) outside
-        (S.facts store.now))) }
-    ensures deep { OnErr result (plan (machine_of program.now roots.old.limit) (state_of (seen
-        (S.index store.now) (S.kept store.now) roots.old.roots) outside)
-        ≡ Some (throws (machine_of program.now roots.old.limit) (state_of (seen (S.index store.now)
-        (S.kept store.now) roots.old.roots) outside) stack_overflow)) }
+        (view_in (S.storage store.now) roots.old.roots) outside (S.storage store.now).facts)
+        (moment_of (view_in (S.storage store.now) roots.new.roots) outside
+        (S.storage store.now).facts)) }
+    ensures deep { OnErr result (plan (machine_of program.now roots.old.limit) (state_of (view_in (S.storage store.now) roots.old.roots) outside)
+        ≡ Some (throws (machine_of program.now roots.old.limit) (state_of (view_in (S.storage store.now) roots.old.roots) outside) stack_overflow)) }
     ensures same { OnErr result (roots.new ≡ roots.old) }
     ensures limit { roots.new.limit ≡ roots.old.limit }
 {

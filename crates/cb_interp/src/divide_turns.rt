@@ -1,12 +1,11 @@
 // Turns of a run in which the exception of a division by zero is thrown, which has a message (JVMS §6.5, idiv).
-ghost use Rattle.std.specs.Prelude.{◌≡◌, ◌+◌, ◌<◌, ◌≤◌, ◌^◌, ℕ, false, length, true, IfErr, IsErrOf, IsTrue, OnOk, Some};
+ghost use Rattle.cb_heap.specs.Storage.{view_in};
+ghost use Rattle.std.specs.Prelude.{◌≡◌, ◌+◌, ◌<◌, ◌≤◌, ◌^◌, ℕ, length, true, IsTrue, Some};
 ghost use Rattle.std.specs.List.{list_all};
 ghost use Rattle.cb_heap.specs.Kept.{is_held, is_kept};
-ghost use Rattle.cb_heap.specs.Reading.{read_roots, seen, serial_of};
+ghost use Rattle.cb_heap.specs.Reading.{read_roots, serial_of};
 ghost use Rattle.cb_heap.specs.Shaped.{has_size, new_object};
-ghost use Rattle.cb_heap.specs.Store.{IsFault};
 ghost use Rattle.cb_heap.specs.declared.no_room.NoRoom.TheVariants as rooms;
-ghost use Rattle.cb_io.specs.Faults.{CountsFaults};
 ghost use Rattle.cb_machine.specs.Computing.{throws_by_zero};
 ghost use Rattle.cb_machine.specs.Plans.{object_of};
 ghost use Rattle.cb_machine.specs.Sites.{arithmetic};
@@ -14,13 +13,14 @@ ghost use Rattle.cb_machine.specs.Steps.{plan};
 ghost use Rattle.cb_machine.specs.Throwing.{exception_contents};
 ghost use Rattle.cb_plain.specs.Reach.{root_references};
 ghost use Rattle.cb_plain.specs.Requests.{words_at};
-ghost use Rattle.cb_plain.specs.State.{words_of};
+ghost use Rattle.cb_plain.specs.State.{Object, words_of};
+ghost use Rattle.cb_plain.specs.Updates.{object_in};
 ghost use Rattle.cb_unwind.specs.Strings.{IsNew};
 ghost use Rattle.cb_interp.specs.Dividing.{thrown_with};
 ghost use Rattle.cb_interp.specs.Loading.{MayPlace};
 ghost use Rattle.cb_act.specs.Placing.{exception_size};
-ghost use Rattle.cb_interp.specs.Running.{MayRun, StopsBy};
-ghost use Rattle.cb_act.specs.Turning.{Outside, TurnMade, TurnRefused, machine_of, moment_of, state_of};
+ghost use Rattle.cb_interp.specs.Running.{Ready, RoomEnds, TurnEnds};
+ghost use Rattle.cb_act.specs.Turning.{Outside, machine_of, state_of};
 ghost use Rattle.cb_interp.specs.declared.stop.Stop.TheVariants as stops;
 
 use crate::Stop;
@@ -55,27 +55,10 @@ pub(crate) fn divide_need<S: Store>(
     request: &mut Request,
 ) -> Result<(), Stop>
     ghost outside: { Outside }
-    requires runs { MayRun program.now (S.shapes store.old) (S.knows store.old) (S.allows store.old)
-        (state_of (seen (S.index store.old) (S.kept store.old) roots.old.roots) outside) }
-    requires open { S.FIXED ≡ false }
-    requires plans { plan (machine_of program.now roots.old.limit) (state_of (seen
-        (S.index store.old) (S.kept store.old) roots.old.roots) outside)
-        ≡ Some (throws_by_zero (machine_of program.now roots.old.limit) (state_of (seen
-        (S.index store.old) (S.kept store.old) roots.old.roots) outside)) }
-    ensures made { OnOk result (TurnMade S.rules (machine_of program.now roots.old.limit) (moment_of
-        (seen (S.index store.old) (S.kept store.old) roots.old.roots) outside (S.facts store.old))
-        (moment_of (seen (S.index store.new) (S.kept store.new) roots.new.roots) outside
-        (S.facts store.new))) }
-    ensures stopped { IfErr result (λ stop. StopsBy S.rules
-        (machine_of program.now roots.old.limit) stop (moment_of (seen (S.index store.old)
-        (S.kept store.old) roots.old.roots) outside (S.facts store.old)) (moment_of (seen
-        (S.index store.new) (S.kept store.new) roots.new.roots) outside (S.facts store.new))) }
-    ensures counted { CountsFaults (S.faults store.old) (S.faults store.new) (IsErrOf result
-        (stops.NoRoom rooms.ReportFault)) }
-    ensures limit { roots.new.limit ≡ roots.old.limit }
-    ensures knows { S.knows store.new ≡ S.knows store.old }
-    ensures allows { S.allows store.new ≡ S.allows store.old }
-    ensures shapes { S.shapes store.new ≡ S.shapes store.old }
+    requires ready { Ready S.rules program.now (S.storage store.old) roots.old outside }
+    requires plans { plan (machine_of program.now roots.old.limit) (state_of (view_in (S.storage store.old) roots.old.roots) outside)
+        ≡ Some (throws_by_zero (machine_of program.now roots.old.limit) (state_of (view_in (S.storage store.old) roots.old.roots) outside)) }
+    ensures { TurnEnds S.rules program.now outside (S.storage store.old) (S.storage store.new) roots.old roots.new result }
 {
     linked_constants();
     if roots.table(Table::Constants, DIVIDE_MESSAGE) != 0 {
@@ -93,29 +76,13 @@ fn divide_known<S: Store>(
     request: &mut Request,
 ) -> Result<(), NoRoom>
     ghost outside: { Outside }
-    requires runs { MayRun program.now (S.shapes store.old) (S.knows store.old) (S.allows store.old)
-        (state_of (seen (S.index store.old) (S.kept store.old) roots.old.roots) outside) }
-    requires open { S.FIXED ≡ false }
-    requires plans { plan (machine_of program.now roots.old.limit) (state_of (seen
-        (S.index store.old) (S.kept store.old) roots.old.roots) outside)
-        ≡ Some (throws_by_zero (machine_of program.now roots.old.limit) (state_of (seen
-        (S.index store.old) (S.kept store.old) roots.old.roots) outside)) }
+    requires ready { Ready S.rules program.now (S.storage store.old) roots.old outside }
+    requires plans { plan (machine_of program.now roots.old.limit) (state_of (view_in (S.storage store.old) roots.old.roots) outside)
+        ≡ Some (throws_by_zero (machine_of program.now roots.old.limit) (state_of (view_in (S.storage store.old) roots.old.roots) outside)) }
     requires there { 0 < length program.now.constants }
     requires table { 0 < length roots.old.roots.tables.constants }
     requires known { IsNew roots.old.roots 0 → ⊥ }
-    ensures made { OnOk result (TurnMade S.rules (machine_of program.now roots.old.limit) (moment_of
-        (seen (S.index store.old) (S.kept store.old) roots.old.roots) outside (S.facts store.old))
-        (moment_of (seen (S.index store.new) (S.kept store.new) roots.new.roots) outside
-        (S.facts store.new))) }
-    ensures refused { IfErr result (λ reason. TurnRefused S.rules
-        (machine_of program.now roots.old.limit) (moment_of (seen (S.index store.old)
-        (S.kept store.old) roots.old.roots) outside (S.facts store.old)) reason (moment_of (seen
-        (S.index store.new) (S.kept store.new) roots.new.roots) outside (S.facts store.new))) }
-    ensures counted { CountsFaults (S.faults store.old) (S.faults store.new) (IsFault result) }
-    ensures limit { roots.new.limit ≡ roots.old.limit }
-    ensures knows { S.knows store.new ≡ S.knows store.old }
-    ensures allows { S.allows store.new ≡ S.allows store.old }
-    ensures shapes { S.shapes store.new ≡ S.shapes store.old }
+    ensures { RoomEnds S.rules program.now outside (S.storage store.old) (S.storage store.new) roots.old roots.new result }
 {
     linked_programs_fit();
     request.clear();
@@ -134,30 +101,14 @@ fn divide_new<S: Store>(
     request: &mut Request,
 ) -> Result<(), NoRoom>
     ghost outside: { Outside }
-    requires runs { MayRun program.now (S.shapes store.old) (S.knows store.old) (S.allows store.old)
-        (state_of (seen (S.index store.old) (S.kept store.old) roots.old.roots) outside) }
-    requires open { S.FIXED ≡ false }
-    requires plans { plan (machine_of program.now roots.old.limit) (state_of (seen
-        (S.index store.old) (S.kept store.old) roots.old.roots) outside)
-        ≡ Some (throws_by_zero (machine_of program.now roots.old.limit) (state_of (seen
-        (S.index store.old) (S.kept store.old) roots.old.roots) outside)) }
+    requires ready { Ready S.rules program.now (S.storage store.old) roots.old outside }
+    requires plans { plan (machine_of program.now roots.old.limit) (state_of (view_in (S.storage store.old) roots.old.roots) outside)
+        ≡ Some (throws_by_zero (machine_of program.now roots.old.limit) (state_of (view_in (S.storage store.old) roots.old.roots) outside)) }
     requires there { 0 < length program.now.constants }
     requires table { 0 < length roots.old.roots.tables.constants }
     requires new { IsNew roots.old.roots 0 }
     requires may { MayPlace program.now 0 }
-    ensures made { OnOk result (TurnMade S.rules (machine_of program.now roots.old.limit) (moment_of
-        (seen (S.index store.old) (S.kept store.old) roots.old.roots) outside (S.facts store.old))
-        (moment_of (seen (S.index store.new) (S.kept store.new) roots.new.roots) outside
-        (S.facts store.new))) }
-    ensures refused { IfErr result (λ reason. TurnRefused S.rules
-        (machine_of program.now roots.old.limit) (moment_of (seen (S.index store.old)
-        (S.kept store.old) roots.old.roots) outside (S.facts store.old)) reason (moment_of (seen
-        (S.index store.new) (S.kept store.new) roots.new.roots) outside (S.facts store.new))) }
-    ensures counted { CountsFaults (S.faults store.old) (S.faults store.new) (IsFault result) }
-    ensures limit { roots.new.limit ≡ roots.old.limit }
-    ensures knows { S.knows store.new ≡ S.knows store.old }
-    ensures allows { S.allows store.new ≡ S.allows store.old }
-    ensures shapes { S.shapes store.new ≡ S.shapes store.old }
+    ensures { RoomEnds S.rules program.now outside (S.storage store.old) (S.storage store.new) roots.old roots.new result }
 {
     linked_programs_fit();
     let words = text_words(program, DIVIDE_MESSAGE);
@@ -173,25 +124,23 @@ fn divide_new<S: Store>(
 
 /// Places the exception of a division by zero with its message, which becomes pending.
 fn throw_message<S: Store>(store: &mut S, roots: &mut Roots, kind: u32, message: u64)
-    requires granted { words_of exception_size ≤ words_at (S.granted store.old) arithmetic }
-    requires sized { IsTrue (has_size (S.shapes store.old) kind exception_size) }
-    requires shaped { new_object (S.shapes store.old) arithmetic kind exception_size
+    requires granted { words_of exception_size ≤ words_at (S.storage store.old).granted arithmetic }
+    requires sized { IsTrue (has_size (S.storage store.old).settings.shapes kind exception_size) }
+    requires shaped { new_object (S.storage store.old).settings.shapes arithmetic kind exception_size
         ≡ object_of arithmetic kind (exception_contents 0 0) }
-    requires serials { length (S.kept store.old) + 1 < 2 ^ 63 }
-    requires held { IsTrue (list_all (is_held (S.kept store.old)) (root_references (read_roots
-        (S.index store.old) roots.old.roots))) }
-    requires there { IsTrue (is_kept (S.kept store.old) (serial_of (S.index store.old) message)) }
-    requires allowed { (one other : ℕ) → S.allows store.old one other ≡ true }
-    ensures behind { seen (S.index store.new) (S.kept store.new) roots.new.roots
-        ≡ thrown_with arithmetic kind (serial_of (S.index store.old) message) (seen
-        (S.index store.old) (S.kept store.old) roots.old.roots) }
+    requires serials { length (S.storage store.old).kept + 1 < 2 ^ 63 }
+    requires held { IsTrue (list_all (is_held (S.storage store.old).kept) (root_references (read_roots
+        (S.storage store.old).index roots.old.roots))) }
+    requires there { IsTrue (is_kept (S.storage store.old).kept (serial_of (S.storage store.old).index message)) }
+    requires allowed { (object : Object) → object_in (S.storage store.old).kept (serial_of (S.storage store.old).index message) ≡ Some object
+        → (S.storage store.old).settings.allows arithmetic object.site ≡ true }
+    ensures behind { view_in (S.storage store.new) roots.new.roots
+        ≡ thrown_with arithmetic kind (serial_of (S.storage store.old).index message) (view_in (S.storage store.old) roots.old.roots) }
     ensures limit { roots.new.limit ≡ roots.old.limit }
-    ensures facts { S.facts store.new ≡ S.rules.placed
-        (S.facts store.old) arithmetic exception_size }
-    ensures faults { S.faults store.new ≡ S.faults store.old }
-    ensures knows { S.knows store.new ≡ S.knows store.old }
-    ensures allows { S.allows store.new ≡ S.allows store.old }
-    ensures shapes { S.shapes store.new ≡ S.shapes store.old }
+    ensures facts { (S.storage store.new).facts ≡ S.rules.placed
+        (S.storage store.old).facts arithmetic exception_size }
+    ensures faults { (S.storage store.new).faults ≡ (S.storage store.old).faults }
+    ensures settings { (S.storage store.new).settings ≡ (S.storage store.old).settings }
 {
     let at = store.place(ARITHMETIC, kind, EXCEPTION_SIZE);
     store.put_ref(at, MESSAGE_WORD, message);

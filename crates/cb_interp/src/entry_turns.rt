@@ -1,9 +1,9 @@
 // Turns of a run in which no frame stands: main is entered once its class is ready (JLS §12.1.4, JVMS §5.2).
-ghost use Rattle.std.specs.Prelude.{◌≡◌, ◌∷◌, ◌<◌, [], false, slice_get, true, IfErr, IsErrOf, None, OnErr, OnOk, Some};
+ghost use Rattle.cb_heap.specs.Storage.{view_in};
+ghost use Rattle.std.specs.Prelude.{◌≡◌, ◌∷◌, ◌<◌, [], slice_get, true, None, OnErr, OnOk, Some};
 ghost use Rattle.cb_frames.specs.Tops.{topmost};
 ghost use Rattle.cb_heap.specs.declared.no_room.NoRoom.TheVariants as rooms;
-ghost use Rattle.cb_heap.specs.Reading.{seen, serial_of};
-ghost use Rattle.cb_io.specs.Faults.{CountsFaults};
+ghost use Rattle.cb_heap.specs.Reading.{serial_of};
 ghost use Rattle.cb_machine.specs.Entering.{entered_from};
 ghost use Rattle.cb_machine.specs.Sites.{stack_overflow};
 ghost use Rattle.cb_machine.specs.Steps.{plan};
@@ -12,7 +12,7 @@ ghost use Rattle.cb_plain.specs.declared.value.Value.TheVariants.{Ref};
 ghost use Rattle.cb_plain.specs.Updates.{with_argument};
 ghost use Rattle.cb_interp.specs.declared.stop.Stop.TheVariants as stops;
 ghost use Rattle.cb_act.specs.Going.{is_ready};
-ghost use Rattle.cb_interp.specs.Running.{MayRun, StopsBy};
+ghost use Rattle.cb_interp.specs.Running.{Ready, TurnEnds};
 ghost use Rattle.cb_act.specs.Turning.{Outside, TurnMade, machine_of, moment_of, state_of};
 
 use crate::Stop;
@@ -33,25 +33,10 @@ pub(crate) fn idle_turn<S: Store>(
     request: &mut Request,
 ) -> Result<(), Stop>
     ghost outside: { Outside }
-    requires runs { MayRun program.now (S.shapes store.old) (S.knows store.old) (S.allows store.old)
-        (state_of (seen (S.index store.old) (S.kept store.old) roots.old.roots) outside) }
-    requires open { S.FIXED ≡ false }
+    requires ready { Ready S.rules program.now (S.storage store.old) roots.old outside }
     requires quiet { roots.old.roots.pending ≡ 0 }
     requires none { topmost roots.old.roots.frames ≡ None }
-    ensures made { OnOk result (TurnMade S.rules (machine_of program.now roots.old.limit) (moment_of
-        (seen (S.index store.old) (S.kept store.old) roots.old.roots) outside (S.facts store.old))
-        (moment_of (seen (S.index store.new) (S.kept store.new) roots.new.roots) outside
-        (S.facts store.new))) }
-    ensures stopped { IfErr result (λ stop. StopsBy S.rules
-        (machine_of program.now roots.old.limit) stop (moment_of (seen (S.index store.old)
-        (S.kept store.old) roots.old.roots) outside (S.facts store.old)) (moment_of (seen
-        (S.index store.new) (S.kept store.new) roots.new.roots) outside (S.facts store.new))) }
-    ensures counted { CountsFaults (S.faults store.old) (S.faults store.new) (IsErrOf result
-        (stops.NoRoom rooms.ReportFault)) }
-    ensures limit { roots.new.limit ≡ roots.old.limit }
-    ensures knows { S.knows store.new ≡ S.knows store.old }
-    ensures allows { S.allows store.new ≡ S.allows store.old }
-    ensures shapes { S.shapes store.new ≡ S.shapes store.old }
+    ensures { TurnEnds S.rules program.now outside (S.storage store.old) (S.storage store.new) roots.old roots.new result }
 {
     if roots.argument() == 0 {
         return Err(Stop::Returned);
@@ -67,26 +52,11 @@ fn starts_main<S: Store>(
     request: &mut Request,
 ) -> Result<(), Stop>
     ghost outside: { Outside }
-    requires runs { MayRun program.now (S.shapes store.old) (S.knows store.old) (S.allows store.old)
-        (state_of (seen (S.index store.old) (S.kept store.old) roots.old.roots) outside) }
-    requires open { S.FIXED ≡ false }
+    requires ready { Ready S.rules program.now (S.storage store.old) roots.old outside }
     requires quiet { roots.old.roots.pending ≡ 0 }
     requires none { topmost roots.old.roots.frames ≡ None }
     requires waits { 0 < roots.old.roots.argument }
-    ensures made { OnOk result (TurnMade S.rules (machine_of program.now roots.old.limit) (moment_of
-        (seen (S.index store.old) (S.kept store.old) roots.old.roots) outside (S.facts store.old))
-        (moment_of (seen (S.index store.new) (S.kept store.new) roots.new.roots) outside
-        (S.facts store.new))) }
-    ensures stopped { IfErr result (λ stop. StopsBy S.rules
-        (machine_of program.now roots.old.limit) stop (moment_of (seen (S.index store.old)
-        (S.kept store.old) roots.old.roots) outside (S.facts store.old)) (moment_of (seen
-        (S.index store.new) (S.kept store.new) roots.new.roots) outside (S.facts store.new))) }
-    ensures counted { CountsFaults (S.faults store.old) (S.faults store.new) (IsErrOf result
-        (stops.NoRoom rooms.ReportFault)) }
-    ensures limit { roots.new.limit ≡ roots.old.limit }
-    ensures knows { S.knows store.new ≡ S.knows store.old }
-    ensures allows { S.allows store.new ≡ S.allows store.old }
-    ensures shapes { S.shapes store.new ≡ S.shapes store.old }
+    ensures { TurnEnds S.rules program.now outside (S.storage store.old) (S.storage store.new) roots.old roots.new result }
 {
     let class = program.main_class();
     match roots.state(class) {
@@ -104,27 +74,12 @@ fn enters_main<S: Store>(
     request: &mut Request,
 ) -> Result<(), Stop>
     ghost outside: { Outside }
-    requires runs { MayRun program.now (S.shapes store.old) (S.knows store.old) (S.allows store.old)
-        (state_of (seen (S.index store.old) (S.kept store.old) roots.old.roots) outside) }
-    requires open { S.FIXED ≡ false }
+    requires ready { Ready S.rules program.now (S.storage store.old) roots.old outside }
     requires quiet { roots.old.roots.pending ≡ 0 }
     requires none { topmost roots.old.roots.frames ≡ None }
     requires waits { 0 < roots.old.roots.argument }
-    requires ready { is_ready (slice_get roots.old.roots.classes program.now.main_class) ≡ true }
-    ensures made { OnOk result (TurnMade S.rules (machine_of program.now roots.old.limit) (moment_of
-        (seen (S.index store.old) (S.kept store.old) roots.old.roots) outside (S.facts store.old))
-        (moment_of (seen (S.index store.new) (S.kept store.new) roots.new.roots) outside
-        (S.facts store.new))) }
-    ensures stopped { IfErr result (λ stop. StopsBy S.rules
-        (machine_of program.now roots.old.limit) stop (moment_of (seen (S.index store.old)
-        (S.kept store.old) roots.old.roots) outside (S.facts store.old)) (moment_of (seen
-        (S.index store.new) (S.kept store.new) roots.new.roots) outside (S.facts store.new))) }
-    ensures counted { CountsFaults (S.faults store.old) (S.faults store.new) (IsErrOf result
-        (stops.NoRoom rooms.ReportFault)) }
-    ensures limit { roots.new.limit ≡ roots.old.limit }
-    ensures knows { S.knows store.new ≡ S.knows store.old }
-    ensures allows { S.allows store.new ≡ S.allows store.old }
-    ensures shapes { S.shapes store.new ≡ S.shapes store.old }
+    requires begun { is_ready (slice_get roots.old.roots.classes program.now.main_class) ≡ true }
+    ensures { TurnEnds S.rules program.now outside (S.storage store.old) (S.storage store.new) roots.old roots.new result }
 {
     let method = program.main_method();
     match &program.method(method).body {
@@ -144,31 +99,14 @@ fn enters_first<S: Store>(
     body: &Body,
 ) -> Result<(), Stop>
     ghost outside: { Outside }
-    requires runs { MayRun program.now (S.shapes store.old) (S.knows store.old) (S.allows store.old)
-        (state_of (seen (S.index store.old) (S.kept store.old) roots.old.roots) outside) }
-    requires open { S.FIXED ≡ false }
+    requires ready { Ready S.rules program.now (S.storage store.old) roots.old outside }
     requires none { topmost roots.old.roots.frames ≡ None }
-    requires plans { plan (machine_of program.now roots.old.limit) (state_of (seen
-        (S.index store.old) (S.kept store.old) roots.old.roots) outside)
-        ≡ Some (entered_from (machine_of program.now roots.old.limit) (state_of (seen
-        (S.index store.old) (S.kept store.old) roots.old.roots) outside) (with_argument (state_of
-        (seen (S.index store.old) (S.kept store.old) roots.old.roots) outside) 0) [] method (Ref
-        (serial_of (S.index store.old) roots.old.roots.argument) ∷ []) body.now) }
+    requires plans { plan (machine_of program.now roots.old.limit) (state_of (view_in (S.storage store.old) roots.old.roots) outside)
+        ≡ Some (entered_from (machine_of program.now roots.old.limit) (state_of (view_in (S.storage store.old) roots.old.roots) outside) (with_argument (state_of
+        (view_in (S.storage store.old) roots.old.roots) outside) 0) [] method (Ref
+        (serial_of (S.storage store.old).index roots.old.roots.argument) ∷ []) body.now) }
     requires locals { 0 < body.now.max_locals }
-    ensures made { OnOk result (TurnMade S.rules (machine_of program.now roots.old.limit) (moment_of
-        (seen (S.index store.old) (S.kept store.old) roots.old.roots) outside (S.facts store.old))
-        (moment_of (seen (S.index store.new) (S.kept store.new) roots.new.roots) outside
-        (S.facts store.new))) }
-    ensures stopped { IfErr result (λ stop. StopsBy S.rules
-        (machine_of program.now roots.old.limit) stop (moment_of (seen (S.index store.old)
-        (S.kept store.old) roots.old.roots) outside (S.facts store.old)) (moment_of (seen
-        (S.index store.new) (S.kept store.new) roots.new.roots) outside (S.facts store.new))) }
-    ensures counted { CountsFaults (S.faults store.old) (S.faults store.new) (IsErrOf result
-        (stops.NoRoom rooms.ReportFault)) }
-    ensures limit { roots.new.limit ≡ roots.old.limit }
-    ensures knows { S.knows store.new ≡ S.knows store.old }
-    ensures allows { S.allows store.new ≡ S.allows store.old }
-    ensures shapes { S.shapes store.new ≡ S.shapes store.old }
+    ensures { TurnEnds S.rules program.now outside (S.storage store.old) (S.storage store.new) roots.old roots.new result }
 {
     match enter_turn(program, store, roots, method, body) {
         Ok(()) => Ok(()),
@@ -188,21 +126,17 @@ fn enter_turn<S: Store>(
 ) -> Result<(), Deep>
     ghost outside: { Outside }
     requires none { topmost roots.old.roots.frames ≡ None }
-    requires plans { plan (machine_of program.now roots.old.limit) (state_of (seen
-        (S.index store.now) (S.kept store.now) roots.old.roots) outside)
-        ≡ Some (entered_from (machine_of program.now roots.old.limit) (state_of (seen
-        (S.index store.now) (S.kept store.now) roots.old.roots) outside) (with_argument (state_of
-        (seen (S.index store.now) (S.kept store.now) roots.old.roots) outside) 0) [] method (Ref
-        (serial_of (S.index store.now) roots.old.roots.argument) ∷ []) body.now) }
+    requires plans { plan (machine_of program.now roots.old.limit) (state_of (view_in (S.storage store.now) roots.old.roots) outside)
+        ≡ Some (entered_from (machine_of program.now roots.old.limit) (state_of (view_in (S.storage store.now) roots.old.roots) outside) (with_argument (state_of
+        (view_in (S.storage store.now) roots.old.roots) outside) 0) [] method (Ref
+        (serial_of (S.storage store.now).index roots.old.roots.argument) ∷ []) body.now) }
     requires locals { 0 < body.now.max_locals }
     ensures made { OnOk result (TurnMade S.rules (machine_of program.now roots.old.limit) (moment_of
-        (seen (S.index store.now) (S.kept store.now) roots.old.roots) outside (S.facts store.now))
-        (moment_of (seen (S.index store.now) (S.kept store.now) roots.new.roots) outside
-        (S.facts store.now))) }
-    ensures deep { OnErr result (plan (machine_of program.now roots.old.limit) (state_of (seen
-        (S.index store.now) (S.kept store.now) roots.old.roots) outside)
-        ≡ Some (throws (machine_of program.now roots.old.limit) (state_of (seen (S.index store.now)
-        (S.kept store.now) roots.old.roots) outside) stack_overflow)) }
+        (view_in (S.storage store.now) roots.old.roots) outside (S.storage store.now).facts)
+        (moment_of (view_in (S.storage store.now) roots.new.roots) outside
+        (S.storage store.now).facts)) }
+    ensures deep { OnErr result (plan (machine_of program.now roots.old.limit) (state_of (view_in (S.storage store.now) roots.old.roots) outside)
+        ≡ Some (throws (machine_of program.now roots.old.limit) (state_of (view_in (S.storage store.now) roots.old.roots) outside) stack_overflow)) }
     ensures same { OnErr result (roots.new ≡ roots.old) }
     ensures limit { roots.new.limit ≡ roots.old.limit }
 {

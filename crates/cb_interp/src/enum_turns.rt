@@ -1,20 +1,19 @@
 // Turns of a run in which `Enum.valueOf` is performed (Java SE 8 API, java.lang.Enum).
-ghost use Rattle.std.specs.Prelude.{◌≡◌, ◌<◌, ◌≤◌, [], ◌∷◌, false, length, true, IfErr, IsErrOf, OnOk, Some};
+ghost use Rattle.cb_heap.specs.Storage.{view_in};
+ghost use Rattle.std.specs.Prelude.{◌≡◌, ◌<◌, ◌≤◌, [], ◌∷◌, false, length, true, Some};
 ghost use Rattle.cb_act.specs.Acting.{Asks, acted};
 ghost use Rattle.cb_act.specs.Here.{Here};
-ghost use Rattle.cb_act.specs.Turning.{Outside, TurnMade, machine_of, moment_of, state_of};
+ghost use Rattle.cb_act.specs.Turning.{Outside, machine_of, state_of};
 ghost use Rattle.cb_act.specs.declared.need.Need.TheVariants as needs;
 ghost use Rattle.cb_frames.specs.Limited.{with_roots};
 ghost use Rattle.cb_frames.specs.Tops.{top_stack};
-ghost use Rattle.cb_heap.specs.Reading.{seen};
 ghost use Rattle.cb_heap.specs.declared.no_room.NoRoom.TheVariants as rooms;
-ghost use Rattle.cb_io.specs.Faults.{CountsFaults};
 ghost use Rattle.cb_library.specs.declared.native.Native.TheVariants as natives;
 ghost use Rattle.cb_machine.specs.Natives.{native_of};
 ghost use Rattle.cb_natives.specs.Enums.{finds};
 ghost use Rattle.cb_interp.specs.Answering.{behind_answer};
 ghost use Rattle.cb_interp.specs.Printing.{IsNoneOf};
-ghost use Rattle.cb_interp.specs.Running.{MayRun, StopsBy};
+ghost use Rattle.cb_interp.specs.Running.{Ready, TurnEnds};
 ghost use Rattle.cb_interp.specs.declared.stop.Stop.TheVariants as stops;
 
 use crate::Stop;
@@ -52,29 +51,11 @@ pub(crate) fn enum_turn<S: Store>(
     method: u32,
 ) -> Result<(), Stop>
     ghost outside: { Outside }
-    requires runs { MayRun program.now (S.shapes store.old) (S.knows store.old)
-        (S.allows store.old) (state_of (seen (S.index store.old)
-        (S.kept store.old) roots.old.roots) outside) }
-    requires open { S.FIXED ≡ false }
-    requires here { Here (machine_of program.now roots.old.limit) (state_of (seen
-        (S.index store.old) (S.kept store.old) roots.old.roots) outside) decoded.now }
-    requires asked { acted program.now roots.old.limit decoded.now (seen (S.index store.old)
-        (S.kept store.old) roots.old.roots) ≡ Some (Asks (needs.Performs method)) }
+    requires ready { Ready S.rules program.now (S.storage store.old) roots.old outside }
+    requires here { Here (machine_of program.now roots.old.limit) (state_of (view_in (S.storage store.old) roots.old.roots) outside) decoded.now }
+    requires asked { acted program.now roots.old.limit decoded.now (view_in (S.storage store.old) roots.old.roots) ≡ Some (Asks (needs.Performs method)) }
     requires native { native_of program.now method ≡ Some natives.EnumValueOf }
-    ensures made { OnOk result (TurnMade S.rules (machine_of program.now roots.old.limit) (moment_of
-        (seen (S.index store.old) (S.kept store.old) roots.old.roots) outside (S.facts store.old))
-        (moment_of (seen (S.index store.new) (S.kept store.new) roots.new.roots) outside
-        (S.facts store.new))) }
-    ensures stopped { IfErr result (λ stop. StopsBy S.rules
-        (machine_of program.now roots.old.limit) stop (moment_of (seen (S.index store.old)
-        (S.kept store.old) roots.old.roots) outside (S.facts store.old)) (moment_of (seen
-        (S.index store.new) (S.kept store.new) roots.new.roots) outside (S.facts store.new))) }
-    ensures counted { CountsFaults (S.faults store.old) (S.faults store.new) (IsErrOf result
-        (stops.NoRoom rooms.ReportFault)) }
-    ensures limit { roots.new.limit ≡ roots.old.limit }
-    ensures knows { S.knows store.new ≡ S.knows store.old }
-    ensures allows { S.allows store.new ≡ S.allows store.old }
-    ensures shapes { S.shapes store.new ≡ S.shapes store.old }
+    ensures { TurnEnds S.rules program.now outside (S.storage store.old) (S.storage store.new) roots.old roots.new result }
 {
     linked_programs_fit();
     linked_constants();

@@ -1,4 +1,5 @@
 // Turns of a run in which the program ends it.
+ghost use Rattle.cb_heap.specs.Storage.{view_in};
 ghost use Rattle.std.specs.Prelude.{◌≡◌, ◌<◌, ℤ, false, length, slice_get, true, Some};
 ghost use Rattle.cb_act.specs.Acting.{Asks, acted};
 ghost use Rattle.cb_act.specs.Effects.{has_sort};
@@ -7,14 +8,13 @@ ghost use Rattle.cb_act.specs.Turning.{Outside, TurnMade, machine_of, moment_of,
 ghost use Rattle.cb_act.specs.declared.need.Need.TheVariants as needs;
 ghost use Rattle.cb_frames.specs.Limited.{with_roots};
 ghost use Rattle.cb_frames.specs.Tops.{top_stack};
-ghost use Rattle.cb_heap.specs.Reading.{seen};
 ghost use Rattle.cb_library.specs.declared.native.Native.TheVariants as natives;
 ghost use Rattle.cb_machine.specs.Natives.{native_of};
 ghost use Rattle.cb_plain.specs.declared.value.Value.TheVariants as values;
 ghost use Rattle.cb_shapes.specs.declared.sort.Sort.TheVariants as sorts;
 ghost use Rattle.cb_interp.specs.Performed.{exits};
 ghost use Rattle.cb_interp.specs.Printing.{IsNoneOf, behind_taken};
-ghost use Rattle.cb_interp.specs.Running.{MayRun, exited};
+ghost use Rattle.cb_interp.specs.Running.{Ready, exited};
 
 use crate::linked::linked_programs_fit;
 use cb_act::{int_at, take_one};
@@ -54,20 +54,16 @@ pub(crate) fn exit_turn<S: Store>(
     method: u32,
 ) -> i32
     ghost outside: { Outside }
-    requires runs { MayRun program.now (S.shapes store.now) (S.knows store.now)
-        (S.allows store.now) (state_of (seen (S.index store.now)
-        (S.kept store.now) roots.old.roots) outside) }
-    requires here { Here (machine_of program.now roots.old.limit) (state_of (seen
-        (S.index store.now) (S.kept store.now) roots.old.roots) outside) decoded.now }
-    requires asked { acted program.now roots.old.limit decoded.now (seen (S.index store.now)
-        (S.kept store.now) roots.old.roots) ≡ Some (Asks (needs.Performs method)) }
+    requires ready { Ready S.rules program.now (S.storage store.now) roots.old outside }
+    requires here { Here (machine_of program.now roots.old.limit) (state_of (view_in (S.storage store.now) roots.old.roots) outside) decoded.now }
+    requires asked { acted program.now roots.old.limit decoded.now (view_in (S.storage store.now) roots.old.roots) ≡ Some (Asks (needs.Performs method)) }
     requires native { native_of program.now method ≡ Some natives.SystemExit }
     ensures status { slice_get (top_stack roots.old.roots) 0 ≡ Some (values.Int result) }
     ensures made { (status : ℤ) → slice_get (top_stack roots.old.roots) 0 ≡ Some (values.Int status)
         → TurnMade S.rules (machine_of program.now roots.old.limit) (moment_of
-        (seen (S.index store.now) (S.kept store.now) roots.old.roots) outside (S.facts store.now))
-        (exited status (moment_of (seen (S.index store.now) (S.kept store.now) roots.new.roots)
-        outside (S.facts store.now))) }
+        (view_in (S.storage store.now) roots.old.roots) outside (S.storage store.now).facts)
+        (exited status (moment_of (view_in (S.storage store.now) roots.new.roots)
+        outside (S.storage store.now).facts)) }
     ensures limit { roots.new.limit ≡ roots.old.limit }
 {
     linked_programs_fit();

@@ -1,10 +1,9 @@
 // Turns of a run in which an exception is pending, or a class is being initialised.
-ghost use Rattle.std.specs.Prelude.{◌≡◌, ◌+◌, ◌<◌, ◌^◌, ℕ, false, is_some, length, slice_get, true, IfErr, IsErrOf, OnOk, Some};
+ghost use Rattle.cb_heap.specs.Storage.{view_in};
+ghost use Rattle.std.specs.Prelude.{◌≡◌, ◌+◌, ◌<◌, ◌^◌, ℕ, false, is_some, length, slice_get, true, Some};
 ghost use Rattle.std.specs.List.{Contains};
 ghost use Rattle.cb_frames.specs.Tops.{topmost};
 ghost use Rattle.cb_heap.specs.declared.no_room.NoRoom.TheVariants as rooms;
-ghost use Rattle.cb_heap.specs.Reading.{seen};
-ghost use Rattle.cb_io.specs.Faults.{CountsFaults};
 ghost use Rattle.cb_link.specs.Calls.{initial_parents};
 ghost use Rattle.cb_link.specs.Program.{Linked};
 ghost use Rattle.cb_machine.specs.Initialising.{begun_upon};
@@ -17,8 +16,8 @@ ghost use Rattle.cb_unwind.specs.Begun.{NumbersOnly};
 ghost use Rattle.cb_unwind.specs.Initialised.{IsOnTop, NumbersNext, initialised};
 ghost use Rattle.cb_interp.specs.declared.stop.Stop.TheVariants as stops;
 ghost use Rattle.cb_interp.specs.Initials.{fails};
-ghost use Rattle.cb_interp.specs.Running.{MayRun, StopsBy};
-ghost use Rattle.cb_act.specs.Turning.{Outside, TurnMade, machine_of, moment_of, state_of};
+ghost use Rattle.cb_interp.specs.Running.{Ready, TurnEnds};
+ghost use Rattle.cb_act.specs.Turning.{Outside, machine_of, state_of};
 
 use crate::Stop;
 use crate::beginning::begin_turn;
@@ -48,24 +47,9 @@ pub(crate) fn pending_turn<S: Store>(
     request: &mut Request,
 ) -> Result<(), Stop>
     ghost outside: { Outside }
-    requires runs { MayRun program.now (S.shapes store.old) (S.knows store.old) (S.allows store.old)
-        (state_of (seen (S.index store.old) (S.kept store.old) roots.old.roots) outside) }
-    requires open { S.FIXED ≡ false }
+    requires ready { Ready S.rules program.now (S.storage store.old) roots.old outside }
     requires pending { 0 < roots.old.roots.pending }
-    ensures made { OnOk result (TurnMade S.rules (machine_of program.now roots.old.limit) (moment_of
-        (seen (S.index store.old) (S.kept store.old) roots.old.roots) outside (S.facts store.old))
-        (moment_of (seen (S.index store.new) (S.kept store.new) roots.new.roots) outside
-        (S.facts store.new))) }
-    ensures stopped { IfErr result (λ stop. StopsBy S.rules
-        (machine_of program.now roots.old.limit) stop (moment_of (seen (S.index store.old)
-        (S.kept store.old) roots.old.roots) outside (S.facts store.old)) (moment_of (seen
-        (S.index store.new) (S.kept store.new) roots.new.roots) outside (S.facts store.new))) }
-    ensures counted { CountsFaults (S.faults store.old) (S.faults store.new) (IsErrOf result
-        (stops.NoRoom rooms.ReportFault)) }
-    ensures limit { roots.new.limit ≡ roots.old.limit }
-    ensures knows { S.knows store.new ≡ S.knows store.old }
-    ensures allows { S.allows store.new ≡ S.allows store.old }
-    ensures shapes { S.shapes store.new ≡ S.shapes store.old }
+    ensures { TurnEnds S.rules program.now outside (S.storage store.old) (S.storage store.new) roots.old roots.new result }
 {
     match roots.top() {
         Some(_) => unwinds(program, store, roots, request),
@@ -81,25 +65,10 @@ fn unwinds<S: Store>(
     request: &mut Request,
 ) -> Result<(), Stop>
     ghost outside: { Outside }
-    requires runs { MayRun program.now (S.shapes store.old) (S.knows store.old) (S.allows store.old)
-        (state_of (seen (S.index store.old) (S.kept store.old) roots.old.roots) outside) }
-    requires open { S.FIXED ≡ false }
+    requires ready { Ready S.rules program.now (S.storage store.old) roots.old outside }
     requires pending { 0 < roots.old.roots.pending }
     requires stands { is_some (topmost roots.old.roots.frames) ≡ true }
-    ensures made { OnOk result (TurnMade S.rules (machine_of program.now roots.old.limit) (moment_of
-        (seen (S.index store.old) (S.kept store.old) roots.old.roots) outside (S.facts store.old))
-        (moment_of (seen (S.index store.new) (S.kept store.new) roots.new.roots) outside
-        (S.facts store.new))) }
-    ensures stopped { IfErr result (λ stop. StopsBy S.rules
-        (machine_of program.now roots.old.limit) stop (moment_of (seen (S.index store.old)
-        (S.kept store.old) roots.old.roots) outside (S.facts store.old)) (moment_of (seen
-        (S.index store.new) (S.kept store.new) roots.new.roots) outside (S.facts store.new))) }
-    ensures counted { CountsFaults (S.faults store.old) (S.faults store.new) (IsErrOf result
-        (stops.NoRoom rooms.ReportFault)) }
-    ensures limit { roots.new.limit ≡ roots.old.limit }
-    ensures knows { S.knows store.new ≡ S.knows store.old }
-    ensures allows { S.allows store.new ≡ S.allows store.old }
-    ensures shapes { S.shapes store.new ≡ S.shapes store.old }
+    ensures { TurnEnds S.rules program.now outside (S.storage store.old) (S.storage store.new) roots.old roots.new result }
 {
     linked_frames();
     if wraps(program, store, roots) {
@@ -119,25 +88,10 @@ pub(crate) fn initial_turn<S: Store>(
     place: u32,
 ) -> Result<(), Stop>
     ghost outside: { Outside }
-    requires runs { MayRun program.now (S.shapes store.old) (S.knows store.old) (S.allows store.old)
-        (state_of (seen (S.index store.old) (S.kept store.old) roots.old.roots) outside) }
-    requires open { S.FIXED ≡ false }
+    requires ready { Ready S.rules program.now (S.storage store.old) roots.old outside }
     requires quiet { roots.old.roots.pending ≡ 0 }
     requires top { IsOnTop roots.old.roots class place }
-    ensures made { OnOk result (TurnMade S.rules (machine_of program.now roots.old.limit) (moment_of
-        (seen (S.index store.old) (S.kept store.old) roots.old.roots) outside (S.facts store.old))
-        (moment_of (seen (S.index store.new) (S.kept store.new) roots.new.roots) outside
-        (S.facts store.new))) }
-    ensures stopped { IfErr result (λ stop. StopsBy S.rules
-        (machine_of program.now roots.old.limit) stop (moment_of (seen (S.index store.old)
-        (S.kept store.old) roots.old.roots) outside (S.facts store.old)) (moment_of (seen
-        (S.index store.new) (S.kept store.new) roots.new.roots) outside (S.facts store.new))) }
-    ensures counted { CountsFaults (S.faults store.old) (S.faults store.new) (IsErrOf result
-        (stops.NoRoom rooms.ReportFault)) }
-    ensures limit { roots.new.limit ≡ roots.old.limit }
-    ensures knows { S.knows store.new ≡ S.knows store.old }
-    ensures allows { S.allows store.new ≡ S.allows store.old }
-    ensures shapes { S.shapes store.new ≡ S.shapes store.old }
+    ensures { TurnEnds S.rules program.now outside (S.storage store.old) (S.storage store.new) roots.old roots.new result }
 {
     if fails_next(program, roots) {
         return parent_failed(program, store, roots, request, place);
@@ -156,28 +110,13 @@ fn initialises<S: Store>(
     request: &mut Request,
 ) -> Result<(), Stop>
     ghost outside: { Outside }
-    requires runs { MayRun program.now (S.shapes store.old) (S.knows store.old) (S.allows store.old)
-        (state_of (seen (S.index store.old) (S.kept store.old) roots.old.roots) outside) }
-    requires open { S.FIXED ≡ false }
+    requires ready { Ready S.rules program.now (S.storage store.old) roots.old outside }
     requires quiet { roots.old.roots.pending ≡ 0 }
     requires stands { is_some (topmost roots.old.roots.frames) ≡ true }
     requires goes { fails (initialised program.now roots.old.limit roots.old.roots) ≡ false }
     requires initial { (class : ℕ) × (place : ℕ) × IsOnTop roots.old.roots class place }
     requires numbers { NumbersNext program.now roots.old.roots }
-    ensures made { OnOk result (TurnMade S.rules (machine_of program.now roots.old.limit) (moment_of
-        (seen (S.index store.old) (S.kept store.old) roots.old.roots) outside (S.facts store.old))
-        (moment_of (seen (S.index store.new) (S.kept store.new) roots.new.roots) outside
-        (S.facts store.new))) }
-    ensures stopped { IfErr result (λ stop. StopsBy S.rules
-        (machine_of program.now roots.old.limit) stop (moment_of (seen (S.index store.old)
-        (S.kept store.old) roots.old.roots) outside (S.facts store.old)) (moment_of (seen
-        (S.index store.new) (S.kept store.new) roots.new.roots) outside (S.facts store.new))) }
-    ensures counted { CountsFaults (S.faults store.old) (S.faults store.new) (IsErrOf result
-        (stops.NoRoom rooms.ReportFault)) }
-    ensures limit { roots.new.limit ≡ roots.old.limit }
-    ensures knows { S.knows store.new ≡ S.knows store.old }
-    ensures allows { S.allows store.new ≡ S.allows store.old }
-    ensures shapes { S.shapes store.new ≡ S.shapes store.old }
+    ensures { TurnEnds S.rules program.now outside (S.storage store.old) (S.storage store.new) roots.old roots.new result }
 {
     linked_frames();
     match init_turn(program, store, roots) {
@@ -212,29 +151,11 @@ pub(crate) fn begins_class<S: Store>(
     class: u32,
 ) -> Result<(), Stop>
     ghost outside: { Outside }
-    requires runs { MayRun program.now (S.shapes store.old) (S.knows store.old) (S.allows store.old)
-        (state_of (seen (S.index store.old) (S.kept store.old) roots.old.roots) outside) }
-    requires open { S.FIXED ≡ false }
-    requires plans { plan (machine_of program.now roots.old.limit) (state_of (seen
-        (S.index store.old) (S.kept store.old) roots.old.roots) outside)
-        ≡ Some (begun_upon (machine_of program.now roots.old.limit) (state_of (seen
-        (S.index store.old) (S.kept store.old) roots.old.roots) outside) (seen (S.index store.old)
-        (S.kept store.old) roots.old.roots).roots.frames class) }
+    requires ready { Ready S.rules program.now (S.storage store.old) roots.old outside }
+    requires plans { plan (machine_of program.now roots.old.limit) (state_of (view_in (S.storage store.old) roots.old.roots) outside)
+        ≡ Some (begun_upon (machine_of program.now roots.old.limit) (state_of (view_in (S.storage store.old) roots.old.roots) outside) (view_in (S.storage store.old) roots.old.roots).roots.frames class) }
     requires class { class < length program.now.classes }
-    ensures made { OnOk result (TurnMade S.rules (machine_of program.now roots.old.limit) (moment_of
-        (seen (S.index store.old) (S.kept store.old) roots.old.roots) outside (S.facts store.old))
-        (moment_of (seen (S.index store.new) (S.kept store.new) roots.new.roots) outside
-        (S.facts store.new))) }
-    ensures stopped { IfErr result (λ stop. StopsBy S.rules
-        (machine_of program.now roots.old.limit) stop (moment_of (seen (S.index store.old)
-        (S.kept store.old) roots.old.roots) outside (S.facts store.old)) (moment_of (seen
-        (S.index store.new) (S.kept store.new) roots.new.roots) outside (S.facts store.new))) }
-    ensures counted { CountsFaults (S.faults store.old) (S.faults store.new) (IsErrOf result
-        (stops.NoRoom rooms.ReportFault)) }
-    ensures limit { roots.new.limit ≡ roots.old.limit }
-    ensures knows { S.knows store.new ≡ S.knows store.old }
-    ensures allows { S.allows store.new ≡ S.allows store.old }
-    ensures shapes { S.shapes store.new ≡ S.shapes store.old }
+    ensures { TurnEnds S.rules program.now outside (S.storage store.old) (S.storage store.new) roots.old roots.new result }
 {
     if has_numbers_only(program, class) {
         return begins_numbers(program, store, roots, request, class);
@@ -251,30 +172,12 @@ fn begins_numbers<S: Store>(
     class: u32,
 ) -> Result<(), Stop>
     ghost outside: { Outside }
-    requires runs { MayRun program.now (S.shapes store.old) (S.knows store.old) (S.allows store.old)
-        (state_of (seen (S.index store.old) (S.kept store.old) roots.old.roots) outside) }
-    requires open { S.FIXED ≡ false }
-    requires plans { plan (machine_of program.now roots.old.limit) (state_of (seen
-        (S.index store.old) (S.kept store.old) roots.old.roots) outside)
-        ≡ Some (begun_upon (machine_of program.now roots.old.limit) (state_of (seen
-        (S.index store.old) (S.kept store.old) roots.old.roots) outside) (seen (S.index store.old)
-        (S.kept store.old) roots.old.roots).roots.frames class) }
+    requires ready { Ready S.rules program.now (S.storage store.old) roots.old outside }
+    requires plans { plan (machine_of program.now roots.old.limit) (state_of (view_in (S.storage store.old) roots.old.roots) outside)
+        ≡ Some (begun_upon (machine_of program.now roots.old.limit) (state_of (view_in (S.storage store.old) roots.old.roots) outside) (view_in (S.storage store.old) roots.old.roots).roots.frames class) }
     requires class { class < length program.now.classes }
     requires numbers { NumbersOnly program.now class }
-    ensures made { OnOk result (TurnMade S.rules (machine_of program.now roots.old.limit) (moment_of
-        (seen (S.index store.old) (S.kept store.old) roots.old.roots) outside (S.facts store.old))
-        (moment_of (seen (S.index store.new) (S.kept store.new) roots.new.roots) outside
-        (S.facts store.new))) }
-    ensures stopped { IfErr result (λ stop. StopsBy S.rules
-        (machine_of program.now roots.old.limit) stop (moment_of (seen (S.index store.old)
-        (S.kept store.old) roots.old.roots) outside (S.facts store.old)) (moment_of (seen
-        (S.index store.new) (S.kept store.new) roots.new.roots) outside (S.facts store.new))) }
-    ensures counted { CountsFaults (S.faults store.old) (S.faults store.new) (IsErrOf result
-        (stops.NoRoom rooms.ReportFault)) }
-    ensures limit { roots.new.limit ≡ roots.old.limit }
-    ensures knows { S.knows store.new ≡ S.knows store.old }
-    ensures allows { S.allows store.new ≡ S.allows store.old }
-    ensures shapes { S.shapes store.new ≡ S.shapes store.old }
+    ensures { TurnEnds S.rules program.now outside (S.storage store.old) (S.storage store.new) roots.old roots.new result }
 {
     match begin_turn(program, store, roots, class) {
         Ok(()) => Ok(()),
@@ -291,28 +194,11 @@ pub(crate) fn throws_at<S: Store>(
     site: u32,
 ) -> Result<(), Stop>
     ghost outside: { Outside }
-    requires runs { MayRun program.now (S.shapes store.old) (S.knows store.old) (S.allows store.old)
-        (state_of (seen (S.index store.old) (S.kept store.old) roots.old.roots) outside) }
-    requires open { S.FIXED ≡ false }
-    requires plans { plan (machine_of program.now roots.old.limit) (state_of (seen
-        (S.index store.old) (S.kept store.old) roots.old.roots) outside)
-        ≡ Some (throws (machine_of program.now roots.old.limit) (state_of (seen (S.index store.old)
-        (S.kept store.old) roots.old.roots) outside) site) }
+    requires ready { Ready S.rules program.now (S.storage store.old) roots.old outside }
+    requires plans { plan (machine_of program.now roots.old.limit) (state_of (view_in (S.storage store.old) roots.old.roots) outside)
+        ≡ Some (throws (machine_of program.now roots.old.limit) (state_of (view_in (S.storage store.old) roots.old.roots) outside) site) }
     requires among { Contains thrown_sites site }
-    ensures made { OnOk result (TurnMade S.rules (machine_of program.now roots.old.limit) (moment_of
-        (seen (S.index store.old) (S.kept store.old) roots.old.roots) outside (S.facts store.old))
-        (moment_of (seen (S.index store.new) (S.kept store.new) roots.new.roots) outside
-        (S.facts store.new))) }
-    ensures stopped { IfErr result (λ stop. StopsBy S.rules
-        (machine_of program.now roots.old.limit) stop (moment_of (seen (S.index store.old)
-        (S.kept store.old) roots.old.roots) outside (S.facts store.old)) (moment_of (seen
-        (S.index store.new) (S.kept store.new) roots.new.roots) outside (S.facts store.new))) }
-    ensures counted { CountsFaults (S.faults store.old) (S.faults store.new) (IsErrOf result
-        (stops.NoRoom rooms.ReportFault)) }
-    ensures limit { roots.new.limit ≡ roots.old.limit }
-    ensures knows { S.knows store.new ≡ S.knows store.old }
-    ensures allows { S.allows store.new ≡ S.allows store.old }
-    ensures shapes { S.shapes store.new ≡ S.shapes store.old }
+    ensures { TurnEnds S.rules program.now outside (S.storage store.old) (S.storage store.new) roots.old roots.new result }
 {
     linked_programs_fit();
     match throw_turn(program, store, roots, request, site) {

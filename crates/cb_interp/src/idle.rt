@@ -1,6 +1,5 @@
 // Whether a run has ended.
-ghost use Rattle.std.specs.Prelude.{◌≡◌, IfSome};
-ghost use Rattle.cb_heap.specs.Reading.{read_roots};
+ghost use Rattle.std.specs.Prelude.{◌≡◌};
 ghost use Rattle.cb_interp.specs.Running.{has_ended};
 
 use crate::Stop;

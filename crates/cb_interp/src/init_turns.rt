@@ -1,6 +1,6 @@
 // Turns of a run in which the initialisation of a class takes a step.
+ghost use Rattle.cb_heap.specs.Storage.{view_in};
 ghost use Rattle.std.specs.Prelude.{◌≡◌, ◌<◌, ◌≤◌, false, is_ok, is_some, length, true, OnErr, OnOk, Some};
-ghost use Rattle.cb_heap.specs.Reading.{seen};
 ghost use Rattle.cb_link.specs.Slots.{statics};
 ghost use Rattle.cb_machine.specs.Sites.{stack_overflow};
 ghost use Rattle.cb_machine.specs.Steps.{plan};
@@ -29,13 +29,11 @@ pub fn init_turn<S: Store>(program: &Program, store: &S, roots: &mut Roots) -> R
     requires classes { length program.now.classes ≤ length roots.old.roots.classes }
     requires statics { length (statics program.now.classes) ≤ length roots.old.roots.statics }
     ensures made { OnOk result (TurnMade S.rules (machine_of program.now roots.old.limit) (moment_of
-        (seen (S.index store.now) (S.kept store.now) roots.old.roots) outside (S.facts store.now))
-        (moment_of (seen (S.index store.now) (S.kept store.now) roots.new.roots) outside
-        (S.facts store.now))) }
-    ensures deep { OnErr result (plan (machine_of program.now roots.old.limit) (state_of (seen
-        (S.index store.now) (S.kept store.now) roots.old.roots) outside)
-        ≡ Some (throws (machine_of program.now roots.old.limit) (state_of (seen (S.index store.now)
-        (S.kept store.now) roots.old.roots) outside) stack_overflow)) }
+        (view_in (S.storage store.now) roots.old.roots) outside (S.storage store.now).facts)
+        (moment_of (view_in (S.storage store.now) roots.new.roots) outside
+        (S.storage store.now).facts)) }
+    ensures deep { OnErr result (plan (machine_of program.now roots.old.limit) (state_of (view_in (S.storage store.now) roots.old.roots) outside)
+        ≡ Some (throws (machine_of program.now roots.old.limit) (state_of (view_in (S.storage store.now) roots.old.roots) outside) stack_overflow)) }
     ensures same { OnErr result (roots.new ≡ roots.old) }
     ensures limit { roots.new.limit ≡ roots.old.limit }
 {

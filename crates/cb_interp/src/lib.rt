@@ -2,13 +2,14 @@
 //!
 //! `run` promises that so many turns were made, that what is kept at their end stands for the machine's state after as many steps, that just what
 //! these steps print went out, and why it ended (`Running` in `specs/`). `start` promises that what is kept of new roots and an empty store is the
-//! start of the machine (`Starting`). Today `run` asks that the store isn't of fixed size, and both ask that each object may refer to each.
+//! start of the machine (`Starting`). `run` asks of a store that it allows the references of each state that may come (`Coming` of `cb_act`), and
+//! of one of fixed size that serials are left for all that its steps may place; `start` that it allows those of what is there at the start.
 //!
-//! A turn (`Turning` of `cb_act`) makes room for what the next step places, by the store's own rule, and makes the step. An instruction is done by
-//! `act` of `cb_act`, which typed states of a linked program allow (`typed_states_act`), or in a turn of its own: an exception is thrown or unwinds,
-//! an object or an array is made (`Making`), arrays of several dimensions are (`Nested`), a class begins or goes on to be initialised
-//! (`Initials`), a switch is resolved, a native is performed (`Performing`, `Answering`, `Printing`, `Reading`). `Fit` says what a linked program
-//! says of what they place.
+//! A turn (`Turning` of `cb_act`) makes room for what the next step places, by the store's own rule, makes the step, and collects where that
+//! calls `System.gc`. An instruction is done by `act` of `cb_act`, which typed states of a linked program allow (`typed_states_act`), or in a
+//! turn of its own: an exception is thrown or unwinds, an object or an array is made (`Making`), arrays of several dimensions are (`Nested`), a
+//! class begins or goes on to be initialised (`Initials`), a switch is resolved, a native is performed (`Performing`, `Answering`, `Printing`,
+//! `Reading`). `Fit` says what a linked program says of what they place.
 #![tactic(auto)]
 
 mod answer_turns;

@@ -1,12 +1,11 @@
 // Turns of a run in which a constant that is an object is loaded (JVMS §6.5, ldc).
-ghost use Rattle.std.specs.Prelude.{◌≡◌, false, IfErr, IsErrOf, OnOk, Some};
-ghost use Rattle.cb_heap.specs.Reading.{seen};
+ghost use Rattle.cb_heap.specs.Storage.{view_in};
+ghost use Rattle.std.specs.Prelude.{◌≡◌, Some};
 ghost use Rattle.cb_heap.specs.declared.no_room.NoRoom.TheVariants as rooms;
-ghost use Rattle.cb_io.specs.Faults.{CountsFaults};
 ghost use Rattle.cb_act.specs.Acting.{Asks, acted};
 ghost use Rattle.cb_act.specs.Here.{Here};
-ghost use Rattle.cb_interp.specs.Running.{MayRun, StopsBy};
-ghost use Rattle.cb_act.specs.Turning.{Outside, TurnMade, machine_of, moment_of, state_of};
+ghost use Rattle.cb_interp.specs.Running.{Ready, TurnEnds};
+ghost use Rattle.cb_act.specs.Turning.{Outside, machine_of, state_of};
 ghost use Rattle.cb_act.specs.declared.need.Need.TheVariants as needs;
 ghost use Rattle.cb_interp.specs.declared.stop.Stop.TheVariants as stops;
 
@@ -28,27 +27,10 @@ pub(crate) fn loads_need<S: Store>(
     decoded: &Decoded,
 ) -> Result<(), Stop>
     ghost outside: { Outside }
-    requires runs { MayRun program.now (S.shapes store.old) (S.knows store.old) (S.allows store.old)
-        (state_of (seen (S.index store.old) (S.kept store.old) roots.old.roots) outside) }
-    requires open { S.FIXED ≡ false }
-    requires here { Here (machine_of program.now roots.old.limit) (state_of (seen
-        (S.index store.old) (S.kept store.old) roots.old.roots) outside) decoded.now }
-    requires asked { acted program.now roots.old.limit decoded.now (seen (S.index store.old)
-        (S.kept store.old) roots.old.roots) ≡ Some (Asks needs.Loads) }
-    ensures made { OnOk result (TurnMade S.rules (machine_of program.now roots.old.limit) (moment_of
-        (seen (S.index store.old) (S.kept store.old) roots.old.roots) outside (S.facts store.old))
-        (moment_of (seen (S.index store.new) (S.kept store.new) roots.new.roots) outside
-        (S.facts store.new))) }
-    ensures stopped { IfErr result (λ stop. StopsBy S.rules
-        (machine_of program.now roots.old.limit) stop (moment_of (seen (S.index store.old)
-        (S.kept store.old) roots.old.roots) outside (S.facts store.old)) (moment_of (seen
-        (S.index store.new) (S.kept store.new) roots.new.roots) outside (S.facts store.new))) }
-    ensures counted { CountsFaults (S.faults store.old) (S.faults store.new) (IsErrOf result
-        (stops.NoRoom rooms.ReportFault)) }
-    ensures limit { roots.new.limit ≡ roots.old.limit }
-    ensures knows { S.knows store.new ≡ S.knows store.old }
-    ensures allows { S.allows store.new ≡ S.allows store.old }
-    ensures shapes { S.shapes store.new ≡ S.shapes store.old }
+    requires ready { Ready S.rules program.now (S.storage store.old) roots.old outside }
+    requires here { Here (machine_of program.now roots.old.limit) (state_of (view_in (S.storage store.old) roots.old.roots) outside) decoded.now }
+    requires asked { acted program.now roots.old.limit decoded.now (view_in (S.storage store.old) roots.old.roots) ≡ Some (Asks needs.Loads) }
+    ensures { TurnEnds S.rules program.now outside (S.storage store.old) (S.storage store.new) roots.old roots.new result }
 {
     linked_constants();
     match decoded.named {

@@ -1,14 +1,14 @@
 // Turns of a run in which a native prints.
+ghost use Rattle.cb_heap.specs.Storage.{view_in};
 ghost use Rattle.std.specs.Prelude.{◌≡◌, ◌<◌, ◌≤◌, length, IfErr, IsErrOf, OnErr, OnOk, Some};
 ghost use Rattle.cb_frames.specs.Limited.{with_roots};
 ghost use Rattle.cb_frames.specs.Tops.{top_stack};
-ghost use Rattle.cb_heap.specs.Reading.{seen};
 ghost use Rattle.cb_io.specs.Faults.{CountsFaults};
 ghost use Rattle.cb_act.specs.Acting.{Asks, acted};
 ghost use Rattle.cb_act.specs.Here.{Here};
 ghost use Rattle.cb_interp.specs.Performed.{is_performed};
 ghost use Rattle.cb_interp.specs.Printing.{IsNoneOf, behind_taken, prints_value, taken_by};
-ghost use Rattle.cb_interp.specs.Running.{MayRun, SaysBy, Turned};
+ghost use Rattle.cb_interp.specs.Running.{Ready, SaysBy, Turned};
 ghost use Rattle.cb_act.specs.Turning.{Outside, machine_of, state_of};
 ghost use Rattle.cb_act.specs.declared.need.Need.TheVariants as needs;
 ghost use Rattle.cb_interp.specs.declared.stop.Stop.TheVariants as stops;
@@ -34,21 +34,16 @@ pub(crate) fn native_turn<S: Store, O: Sink>(
     method: u32,
 ) -> Result<(), Stop>
     ghost outside: { Outside }
-    requires runs { MayRun program.now (S.shapes store.now) (S.knows store.now)
-        (S.allows store.now) (state_of (seen (S.index store.now)
-        (S.kept store.now) roots.old.roots) outside) }
-    requires here { Here (machine_of program.now roots.old.limit) (state_of (seen
-        (S.index store.now) (S.kept store.now) roots.old.roots) outside) decoded.now }
-    requires asked { acted program.now roots.old.limit decoded.now (seen (S.index store.now)
-        (S.kept store.now) roots.old.roots) ≡ Some (Asks (needs.Performs method)) }
+    requires ready { Ready S.rules program.now (S.storage store.now) roots.old outside }
+    requires here { Here (machine_of program.now roots.old.limit) (state_of (view_in (S.storage store.now) roots.old.roots) outside) decoded.now }
+    requires asked { acted program.now roots.old.limit decoded.now (view_in (S.storage store.now) roots.old.roots) ≡ Some (Asks (needs.Performs method)) }
     requires unanswered { IsNoneOf is_performed program.now method }
     ensures made { OnOk result (Turned S.rules (machine_of program.now roots.old.limit) outside
-        (seen (S.index store.now) (S.kept store.now) roots.old.roots) (seen (S.index store.now)
-        (S.kept store.now) roots.new.roots) (S.facts store.now) (S.facts store.now)
+        (view_in (S.storage store.now) roots.old.roots) (view_in (S.storage store.now) roots.new.roots) (S.storage store.now).facts (S.storage store.now).facts
         (O.taken out.old) (O.taken out.new)) }
     ensures same { OnErr result (roots.new ≡ roots.old) }
     ensures left { IfErr result (λ stop. SaysBy (machine_of program.now roots.old.limit) (state_of
-        (seen (S.index store.now) (S.kept store.now) roots.old.roots) outside) stop
+        (view_in (S.storage store.now) roots.old.roots) outside) stop
         (O.taken out.old) (O.taken out.new)) }
     ensures only { IfErr result (λ stop. stop ≡ stops.OutputFault) }
     ensures output { CountsFaults (O.faults out.old) (O.faults out.new)
@@ -79,22 +74,17 @@ fn string_turn<S: Store, O: Sink>(
     method: u32,
 ) -> Result<(), Stop>
     ghost outside: { Outside }
-    requires runs { MayRun program.now (S.shapes store.now) (S.knows store.now)
-        (S.allows store.now) (state_of (seen (S.index store.now)
-        (S.kept store.now) roots.old.roots) outside) }
-    requires here { Here (machine_of program.now roots.old.limit) (state_of (seen
-        (S.index store.now) (S.kept store.now) roots.old.roots) outside) decoded.now }
-    requires asked { acted program.now roots.old.limit decoded.now (seen (S.index store.now)
-        (S.kept store.now) roots.old.roots) ≡ Some (Asks (needs.Performs method)) }
+    requires ready { Ready S.rules program.now (S.storage store.now) roots.old outside }
+    requires here { Here (machine_of program.now roots.old.limit) (state_of (view_in (S.storage store.now) roots.old.roots) outside) decoded.now }
+    requires asked { acted program.now roots.old.limit decoded.now (view_in (S.storage store.now) roots.old.roots) ≡ Some (Asks (needs.Performs method)) }
     requires other { IsNoneOf prints_value program.now method }
     requires unanswered { IsNoneOf is_performed program.now method }
     ensures made { OnOk result (Turned S.rules (machine_of program.now roots.old.limit) outside
-        (seen (S.index store.now) (S.kept store.now) roots.old.roots) (seen (S.index store.now)
-        (S.kept store.now) roots.new.roots) (S.facts store.now) (S.facts store.now)
+        (view_in (S.storage store.now) roots.old.roots) (view_in (S.storage store.now) roots.new.roots) (S.storage store.now).facts (S.storage store.now).facts
         (O.taken out.old) (O.taken out.new)) }
     ensures same { OnErr result (roots.new ≡ roots.old) }
     ensures left { IfErr result (λ stop. SaysBy (machine_of program.now roots.old.limit) (state_of
-        (seen (S.index store.now) (S.kept store.now) roots.old.roots) outside) stop
+        (view_in (S.storage store.now) roots.old.roots) outside) stop
         (O.taken out.old) (O.taken out.new)) }
     ensures only { IfErr result (λ stop. stop ≡ stops.OutputFault) }
     ensures output { CountsFaults (O.faults out.old) (O.faults out.new)

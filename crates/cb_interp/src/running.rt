@@ -1,14 +1,15 @@
 // Runs over a store.
-ghost use Rattle.std.specs.Prelude.{◌≡◌, ◌⊎◌, ℕ, false, IfSome, IsTrue, List};
+ghost use Rattle.cb_heap.specs.Storage.{view_in};
+ghost use Rattle.std.specs.Prelude.{◌≡◌, ◌⊎◌, ◌+◌, ◌*◌, ◌^◌, ◌<◌, ℕ, true, length, IfSome, IsTrue, List};
 ghost use Rattle.cb_heap.specs.Kept.{is_kept};
-ghost use Rattle.cb_heap.specs.Reading.{seen, serial_of};
+ghost use Rattle.cb_heap.specs.Reading.{serial_of};
 ghost use Rattle.cb_io.specs.Faults.{CountsFaults};
 ghost use Rattle.cb_plain.specs.State.{State};
 ghost use Rattle.cb_safety.specs.States.{IsTypedState};
 ghost use Rattle.std.specs.Io.KnownBytes.{Appends};
 ghost use Rattle.cb_interp.specs.Reading.{as_bytes};
-ghost use Rattle.cb_interp.specs.Running.{Ended, IsEndOf, IsThrownAt, IsUncaught, MayRun, Strays, outside_of};
-ghost use Rattle.cb_act.specs.Turning.{StandsAt, machine_of, moment_of, state_of};
+ghost use Rattle.cb_interp.specs.Running.{Ended, IsEndOf, IsThrownAt, IsUncaught, Ready, Strays, outside_of};
+ghost use Rattle.cb_act.specs.Turning.{StandsAt, machine_of, moment_of, most_at_once};
 ghost use Rattle.cb_interp.specs.declared.end.End.TheVariants as ends;
 ghost use Rattle.cb_interp.specs.declared.stop.Stop.TheVariants as stops;
 
@@ -21,8 +22,9 @@ use cb_io::{Sink, Source};
 use cb_link::Program;
 use cb_plain::Request;
 
-/// Runs a program from where roots and store stand, for at most so many steps. Each is a turn: room is made for what the step places, and
-/// the step is made. `full` is the state of the machine that never frees for which they stand; where the input tells its bytes, it has these. Takes no memory but what the store takes.
+/// Runs a program from where roots and store stand, for at most so many steps. Each is a turn: room is made for what the step places, the step
+/// is made, and the store collects where that calls `System.gc`. `full` is the state of the machine that never frees for which they stand;
+/// where the input tells its bytes, it has these. Takes no memory but what the store takes.
 pub fn run<S: Store, I: Source, O: Sink>(
     program: &Program,
     store: &mut S,
@@ -32,20 +34,20 @@ pub fn run<S: Store, I: Source, O: Sink>(
     steps: u64,
 ) -> End
     ghost full: { State }
-    requires runs { MayRun program.now (S.shapes store.old) (S.knows store.old) (S.allows store.old) (state_of (seen (S.index store.old) (S.kept store.old) roots.old.roots) (outside_of full)) }
+    requires ready { Ready S.rules program.now (S.storage store.old) roots.old (outside_of full) }
     requires whole { IsTypedState program.now full }
-    requires stands { StandsAt (moment_of (seen (S.index store.old) (S.kept store.old) roots.old.roots) (outside_of full) (S.facts store.old)) full }
-    requires open { S.FIXED ≡ false }
+    requires stands { StandsAt (moment_of (view_in (S.storage store.old) roots.old.roots) (outside_of full) (S.storage store.old).facts) full }
+    requires few { S.rules.fixed ≡ true → length (S.storage store.old).kept + (steps + 1) * most_at_once < 2 ^ 63 }
     requires told { IfSome (as_bytes (I.left input.old)) (λ left. full.input ≡ left) }
     ensures ended { Ended S.rules (machine_of program.now roots.old.limit) steps result full
-        (moment_of (seen (S.index store.old) (S.kept store.old) roots.old.roots) (outside_of full) (S.facts store.old))
-        (seen (S.index store.new) (S.kept store.new) roots.new.roots) (S.facts store.new) (O.taken out.old) (O.taken out.new) (I.left input.old) (I.left input.new)
+        (moment_of (view_in (S.storage store.old) roots.old.roots) (outside_of full) (S.storage store.old).facts)
+        (view_in (S.storage store.new) roots.new.roots) (S.storage store.new).facts (O.taken out.old) (O.taken out.new) (I.left input.old) (I.left input.new)
         ⊎ Strays S.rules (machine_of program.now roots.old.limit) steps full
-        (moment_of (seen (S.index store.old) (S.kept store.old) roots.old.roots) (outside_of full) (S.facts store.old)) (I.left input.old) }
+        (moment_of (view_in (S.storage store.old) roots.old.roots) (outside_of full) (S.storage store.old).facts) (I.left input.old) }
     ensures place { (class at : ℕ) → result ≡ ends.Uncaught class at → at ≡ roots.new.roots.pending }
-    ensures thrown { (class at : ℕ) → result ≡ ends.Uncaught class at → IsThrownAt program.now (S.kept store.new) (serial_of (S.index store.new) at) }
+    ensures thrown { (class at : ℕ) → result ≡ ends.Uncaught class at → IsThrownAt program.now (S.storage store.new).kept (serial_of (S.storage store.new).index at) }
     ensures appends { (said : List ℕ) × Appends (O.taken out.old) (O.taken out.new) said }
-    ensures counted { CountsFaults (S.faults store.old) (S.faults store.new) (result ≡ ends.ReportFault) }
+    ensures counted { CountsFaults (S.storage store.old).faults (S.storage store.new).faults (result ≡ ends.ReportFault) }
     ensures output { CountsFaults (O.faults out.old) (O.faults out.new) (result ≡ ends.OutputFault) }
     ensures read { CountsFaults (I.faults input.old) (I.faults input.new) (result ≡ ends.InputFault) }
 {
@@ -74,8 +76,8 @@ pub fn run<S: Store, I: Source, O: Sink>(
 
 /// The end of a run of which no further turn is made.
 fn stopped<S: Store>(store: &S, roots: &Roots, stop: Stop) -> End
-    requires there { stop ≡ stops.Uncaught → IsTrue (is_kept (S.kept store.now) (serial_of (S.index store.now) roots.now.roots.pending)) }
-    ensures is { IsEndOf (seen (S.index store.now) (S.kept store.now) roots.now.roots) stop result }
+    requires there { stop ≡ stops.Uncaught → IsTrue (is_kept (S.storage store.now).kept (serial_of (S.storage store.now).index roots.now.roots.pending)) }
+    ensures is { IsEndOf (view_in (S.storage store.now) roots.now.roots) stop result }
     ensures place { (class at : ℕ) → result ≡ ends.Uncaught class at → at ≡ roots.now.roots.pending }
 {
     match stop {
@@ -92,8 +94,8 @@ fn stopped<S: Store>(store: &S, roots: &Roots, stop: Stop) -> End
 
 /// The end where the pending exception finds no handler.
 fn uncaught<S: Store>(store: &S, roots: &Roots) -> End
-    requires { IsTrue (is_kept (S.kept store.now) (serial_of (S.index store.now) roots.now.roots.pending)) }
-    ensures is { IsUncaught (seen (S.index store.now) (S.kept store.now) roots.now.roots) result }
+    requires { IsTrue (is_kept (S.storage store.now).kept (serial_of (S.storage store.now).index roots.now.roots.pending)) }
+    ensures is { IsUncaught (view_in (S.storage store.now) roots.now.roots) result }
     ensures place { (class at : ℕ) → result ≡ ends.Uncaught class at → at ≡ roots.now.roots.pending }
 {
     let at = roots.pending();

@@ -1,9 +1,11 @@
 // The start of a run.
-ghost use Rattle.std.specs.Prelude.{◌≡◌, ◌+◌, ◌*◌, ◌<◌, ◌≤◌, ◌^◌, ◌++◌, ◌∷◌, [], ℕ, List, false, length, true, IfErr, IfOk, IsTrue, OnOk, Some};
+ghost use Rattle.cb_heap.specs.Storage.{view_in};
+ghost use Rattle.std.specs.Prelude.{◌≡◌, ◌+◌, ◌*◌, ◌<◌, ◌≤◌, ◌^◌, ◌++◌, ◌∷◌, [], ℕ, List, length, IfErr, IfOk, IsTrue, OnOk, Some};
 ghost use Rattle.std.specs.List.{AllByRecursion, fold};
 ghost use Rattle.cb_frames.specs.Limited.{with_roots};
-ghost use Rattle.cb_heap.specs.Reading.{seen, serial_of};
-ghost use Rattle.cb_heap.specs.Store.{IsFault, ReadsAsBefore, WantsMemory};
+ghost use Rattle.cb_heap.specs.Follows.{Follows};
+ghost use Rattle.cb_heap.specs.Reading.{serial_of};
+ghost use Rattle.cb_heap.specs.Store.{IsFault, ReadsAsBefore};
 ghost use Rattle.cb_io.specs.Faults.{CountsFaults};
 ghost use Rattle.cb_link.specs.Having.{site_kinds};
 ghost use Rattle.cb_link.specs.Program.{Linked};
@@ -130,27 +132,25 @@ pub fn start<S: Store>(
 ) -> Result<(), NoRoom>
     requires linked { IsLinked program.now }
     requires fits { IsTyped program.now }
-    requires shaped { ShapesOf program.now (S.shapes store.old) }
+    requires shaped { ShapesOf program.now (S.storage store.old).settings.shapes }
     requires new { roots.old.roots ≡ new_roots program.now }
-    requires empty { S.kept store.old ≡ [] }
+    requires empty { (S.storage store.old).kept ≡ [] }
     requires sites { (site : ℕ) → site < length (site_kinds program.now)
-        → IsTrue (S.knows store.old site) }
-    requires pairs { (one other : ℕ) → S.allows store.old one other ≡ true }
+        → IsTrue ((S.storage store.old).settings.knows site) }
+    requires follows { Follows (S.storage store.old).settings.allows (start
+        (machine_of program.now roots.old.limit) given.now []).objects }
     requires few { length given.now ≤ most_elements }
     requires short { AllByRecursion IsText given.now }
     ensures begun { OnOk result ((input : List ℕ) → BeginsWith S.rules
-        (machine_of program.now roots.old.limit) given.now input (S.facts store.old) (moment_of
-        (seen (S.index store.new) (S.kept store.new) roots.new.roots) (unread input)
-        (S.facts store.new))) }
+        (machine_of program.now roots.old.limit) given.now input (S.storage store.old).facts (moment_of
+        (view_in (S.storage store.new) roots.new.roots) (unread input)
+        (S.storage store.new).facts)) }
     ensures refused { IfErr result (λ reason. RefusesStart S.rules
-        (machine_of program.now roots.old.limit) given.now (S.facts store.old) reason
-        (S.facts store.new)) }
-    ensures memory { WantsMemory result → S.FIXED ≡ false }
-    ensures counted { CountsFaults (S.faults store.old) (S.faults store.new) (IsFault result) }
+        (machine_of program.now roots.old.limit) given.now (S.storage store.old).facts reason
+        (S.storage store.new).facts) }
+    ensures counted { CountsFaults (S.storage store.old).faults (S.storage store.new).faults (IsFault result) }
     ensures limit { roots.new.limit ≡ roots.old.limit }
-    ensures knows { S.knows store.new ≡ S.knows store.old }
-    ensures allows { S.allows store.new ≡ S.allows store.old }
-    ensures shapes { S.shapes store.new ≡ S.shapes store.old }
+    ensures settings { (S.storage store.new).settings ≡ (S.storage store.old).settings }
 {
     linked_programs_start();
     ready(program, roots);
@@ -251,22 +251,20 @@ fn ask(request: &mut Request, given: &[Units])
 
 /// Places the array with its strings and the two streams, over no objects.
 fn place_first<S: Store>(program: &Program, store: &mut S, given: &[Units]) -> First
-    requires fits { MayStart program.now (S.shapes store.old) }
-    requires granted { Covers (S.granted store.old) (all_wants given.now) }
-    requires empty { S.kept store.old ≡ [] }
+    requires fits { MayStart program.now (S.storage store.old).settings.shapes }
+    requires granted { Covers (S.storage store.old).granted (all_wants given.now) }
+    requires empty { (S.storage store.old).kept ≡ [] }
     requires few { length given.now ≤ most_elements }
     requires short { AllByRecursion IsText given.now }
-    requires pairs { (one other : ℕ) → S.allows store.old one other ≡ true }
-    ensures kept { S.kept store.new ≡ first_objects program.now given.now }
-    ensures array { serial_of (S.index store.new) result.array ≡ 1 }
-    ensures out { serial_of (S.index store.new) result.out ≡ 2 * length given.now + 2 }
-    ensures input { serial_of (S.index store.new) result.input ≡ 2 * length given.now + 3 }
-    ensures places { ReadsAsBefore [] (S.index store.old) (S.index store.new) }
-    ensures facts { S.facts store.new ≡ knows_first S.rules (S.facts store.old) given.now }
-    ensures faults { S.faults store.new ≡ S.faults store.old }
-    ensures knows { S.knows store.new ≡ S.knows store.old }
-    ensures allows { S.allows store.new ≡ S.allows store.old }
-    ensures shapes { S.shapes store.new ≡ S.shapes store.old }
+    requires follows { Follows (S.storage store.old).settings.allows (first_objects program.now given.now) }
+    ensures kept { (S.storage store.new).kept ≡ first_objects program.now given.now }
+    ensures array { serial_of (S.storage store.new).index result.array ≡ 1 }
+    ensures out { serial_of (S.storage store.new).index result.out ≡ 2 * length given.now + 2 }
+    ensures input { serial_of (S.storage store.new).index result.input ≡ 2 * length given.now + 3 }
+    ensures places { ReadsAsBefore [] (S.storage store.old).index (S.storage store.new).index }
+    ensures facts { (S.storage store.new).facts ≡ knows_first S.rules (S.storage store.old).facts given.now }
+    ensures faults { (S.storage store.new).faults ≡ (S.storage store.old).faults }
+    ensures settings { (S.storage store.new).settings ≡ (S.storage store.old).settings }
 {
     let array = place_array(program, store, given.len() as u32);
     place_texts(program, store, array, given);
@@ -277,19 +275,17 @@ fn place_first<S: Store>(program: &Program, store: &mut S, given: &[Units]) -> F
 
 /// Places an array for so many arguments, over no objects.
 fn place_array<S: Store>(program: &Program, store: &mut S, size: u32) -> u64
-    requires fits { MayStart program.now (S.shapes store.old) }
-    requires granted { words_of size ≤ words_at (S.granted store.old) arguments }
-    requires empty { S.kept store.old ≡ [] }
-    ensures kept { S.kept store.new ≡ Some (blank_array program.now size) ∷ [] }
-    ensures serial { serial_of (S.index store.new) result ≡ 1 }
-    ensures places { ReadsAsBefore [] (S.index store.old) (S.index store.new) }
-    ensures facts { S.facts store.new ≡ S.rules.placed (S.facts store.old) arguments size }
-    ensures granted { S.granted store.new ≡ spent (S.granted store.old) arguments
+    requires fits { MayStart program.now (S.storage store.old).settings.shapes }
+    requires granted { words_of size ≤ words_at (S.storage store.old).granted arguments }
+    requires empty { (S.storage store.old).kept ≡ [] }
+    ensures kept { (S.storage store.new).kept ≡ Some (blank_array program.now size) ∷ [] }
+    ensures serial { serial_of (S.storage store.new).index result ≡ 1 }
+    ensures places { ReadsAsBefore [] (S.storage store.old).index (S.storage store.new).index }
+    ensures facts { (S.storage store.new).facts ≡ S.rules.placed (S.storage store.old).facts arguments size }
+    ensures granted { (S.storage store.new).granted ≡ spent (S.storage store.old).granted arguments
         (words_of size) }
-    ensures faults { S.faults store.new ≡ S.faults store.old }
-    ensures knows { S.knows store.new ≡ S.knows store.old }
-    ensures allows { S.allows store.new ≡ S.allows store.old }
-    ensures shapes { S.shapes store.new ≡ S.shapes store.old }
+    ensures faults { (S.storage store.new).faults ≡ (S.storage store.old).faults }
+    ensures settings { (S.storage store.new).settings ≡ (S.storage store.old).settings }
 {
     store.place(ARGUMENTS, program.site_kind(ARGUMENTS), size)
 }
@@ -297,18 +293,16 @@ fn place_array<S: Store>(program: &Program, store: &mut S, size: u32) -> u64
 /// Places an object without words at a site.
 fn place_bare<S: Store>(program: &Program, store: &mut S, site: u32) -> u64
     requires site { site < length (site_kinds program.now) }
-    requires granted { words_of 0 ≤ words_at (S.granted store.old) site }
-    requires fits { IsPlacedAs (S.shapes store.old) site (kind_of_site program.now site) 0 [] }
-    requires serials { length (S.kept store.old) + 1 < 2 ^ 63 }
-    ensures kept { S.kept store.new ≡ S.kept store.old ++ Some (bare program.now site) ∷ [] }
-    ensures serial { serial_of (S.index store.new) result ≡ length (S.kept store.old) + 1 }
-    ensures places { ReadsAsBefore (S.kept store.old) (S.index store.old) (S.index store.new) }
-    ensures facts { S.facts store.new ≡ S.rules.placed (S.facts store.old) site 0 }
-    ensures granted { S.granted store.new ≡ spent (S.granted store.old) site (words_of 0) }
-    ensures faults { S.faults store.new ≡ S.faults store.old }
-    ensures knows { S.knows store.new ≡ S.knows store.old }
-    ensures allows { S.allows store.new ≡ S.allows store.old }
-    ensures shapes { S.shapes store.new ≡ S.shapes store.old }
+    requires granted { words_of 0 ≤ words_at (S.storage store.old).granted site }
+    requires fits { IsPlacedAs (S.storage store.old).settings.shapes site (kind_of_site program.now site) 0 [] }
+    requires serials { length (S.storage store.old).kept + 1 < 2 ^ 63 }
+    ensures kept { (S.storage store.new).kept ≡ (S.storage store.old).kept ++ Some (bare program.now site) ∷ [] }
+    ensures serial { serial_of (S.storage store.new).index result ≡ length (S.storage store.old).kept + 1 }
+    ensures places { ReadsAsBefore (S.storage store.old).kept (S.storage store.old).index (S.storage store.new).index }
+    ensures facts { (S.storage store.new).facts ≡ S.rules.placed (S.storage store.old).facts site 0 }
+    ensures granted { (S.storage store.new).granted ≡ spent (S.storage store.old).granted site (words_of 0) }
+    ensures faults { (S.storage store.new).faults ≡ (S.storage store.old).faults }
+    ensures settings { (S.storage store.new).settings ≡ (S.storage store.old).settings }
 {
     store.place(site, program.site_kind(site), 0)
 }

@@ -50,11 +50,11 @@ fn line_at(place: u32) -> Option<bool>
 
 /// The place of the array of a string's chars, 0 where the string is null or has none.
 pub(crate) fn chars_of<S: Store>(store: &S, at: u64) -> u64
-    requires text { is_text (S.kept store.now) (serial_of (S.index store.now) at) ≡ true }
-    requires units { HoldsUnits (S.kept store.now) (array_of (S.kept store.now) (serial_of
-        (S.index store.now) at)) }
-    ensures { AreChars (S.kept store.now) (serial_of (S.index store.now) at) (serial_of
-        (S.index store.now) result) }
+    requires text { is_text (S.storage store.now).kept (serial_of (S.storage store.now).index at) ≡ true }
+    requires units { HoldsUnits (S.storage store.now).kept (array_of (S.storage store.now).kept (serial_of
+        (S.storage store.now).index at)) }
+    ensures { AreChars (S.storage store.now).kept (serial_of (S.storage store.now).index at) (serial_of
+        (S.storage store.now).index result) }
 {
     if at == 0 {
         return 0;
@@ -71,12 +71,12 @@ pub(crate) fn write_string<S: Store, O: Sink>(
     line: bool,
     out: &mut O,
 ) -> Result<(), Failed>
-    requires { AreChars (S.kept store.now) (serial_of (S.index store.now) at) (serial_of
-        (S.index store.now) array) }
+    requires { AreChars (S.storage store.now).kept (serial_of (S.storage store.now).index at) (serial_of
+        (S.storage store.now).index array) }
     ensures all { OnOk result (Appends (O.taken out.old) (O.taken out.new) (utf8
-        (as_line line (string_text (S.kept store.now) (serial_of (S.index store.now) at))))) }
+        (as_line line (string_text (S.storage store.now).kept (serial_of (S.storage store.now).index at))))) }
     ensures part { OnErr result (AppendsProperPrefix (O.taken out.old) (O.taken out.new) (utf8
-        (as_line line (string_text (S.kept store.now) (serial_of (S.index store.now) at))))) }
+        (as_line line (string_text (S.storage store.now).kept (serial_of (S.storage store.now).index at))))) }
     ensures cause { CountsFaults (O.faults out.old) (O.faults out.new) (IsErr result) }
 {
     if at == 0 {
@@ -93,12 +93,12 @@ fn write_units<S: Store, O: Sink>(
     line: bool,
     out: &mut O,
 ) -> Result<(), Failed>
-    requires held { IsTrue (is_held (S.kept store.now) (serial_of (S.index store.now) array)) }
-    requires units { HoldsUnits (S.kept store.now) (serial_of (S.index store.now) array) }
+    requires held { IsTrue (is_held (S.storage store.now).kept (serial_of (S.storage store.now).index array)) }
+    requires units { HoldsUnits (S.storage store.now).kept (serial_of (S.storage store.now).index array) }
     ensures all { OnOk result (Appends (O.taken out.old) (O.taken out.new) (utf8
-        (as_line line (units_at (S.kept store.now) (serial_of (S.index store.now) array))))) }
+        (as_line line (units_at (S.storage store.now).kept (serial_of (S.storage store.now).index array))))) }
     ensures part { OnErr result (AppendsProperPrefix (O.taken out.old) (O.taken out.new) (utf8
-        (as_line line (units_at (S.kept store.now) (serial_of (S.index store.now) array))))) }
+        (as_line line (units_at (S.storage store.now).kept (serial_of (S.storage store.now).index array))))) }
     ensures cause { CountsFaults (O.faults out.old) (O.faults out.new) (IsErr result) }
 {
     let total = total_of(char_count(store, array), line);
@@ -114,9 +114,9 @@ fn write_units<S: Store, O: Sink>(
 
 /// How many chars an array has, none where it is null.
 fn char_count<S: Store>(store: &S, array: u64) -> u32
-    requires { IsTrue (is_held (S.kept store.now) (serial_of (S.index store.now) array)) }
-    ensures { result ≡ length (contents_at (S.kept store.now) (serial_of
-        (S.index store.now) array)) }
+    requires { IsTrue (is_held (S.storage store.now).kept (serial_of (S.storage store.now).index array)) }
+    ensures { result ≡ length (contents_at (S.storage store.now).kept (serial_of
+        (S.storage store.now).index array)) }
 {
     if array == 0 { 0 } else { store.length(array) }
 }
@@ -142,17 +142,17 @@ fn next_piece<S: Store>(
     total: usize,
     piece: &mut [u16; PIECE],
 ) -> usize
-    requires held { IsTrue (is_held (S.kept store.now) (serial_of (S.index store.now) array)) }
-    requires units { HoldsUnits (S.kept store.now) (serial_of (S.index store.now) array) }
-    requires total { total ≡ length (as_line line (units_at (S.kept store.now) (serial_of
-        (S.index store.now) array))) }
+    requires held { IsTrue (is_held (S.storage store.now).kept (serial_of (S.storage store.now).index array)) }
+    requires units { HoldsUnits (S.storage store.now).kept (serial_of (S.storage store.now).index array) }
+    requires total { total ≡ length (as_line line (units_at (S.storage store.now).kept (serial_of
+        (S.storage store.now).index array))) }
     requires within { from < total }
     ensures some { 0 < result }
     ensures few { result ≤ PIECE }
     ensures within { from + result ≤ total }
-    ensures read { utf8 (drop from (as_line line (units_at (S.kept store.now) (serial_of
-        (S.index store.now) array)))) ≡ utf8 (take result piece.new) ++ utf8 (drop (from + result)
-        (as_line line (units_at (S.kept store.now) (serial_of (S.index store.now) array)))) }
+    ensures read { utf8 (drop from (as_line line (units_at (S.storage store.now).kept (serial_of
+        (S.storage store.now).index array)))) ≡ utf8 (take result piece.new) ++ utf8 (drop (from + result)
+        (as_line line (units_at (S.storage store.now).kept (serial_of (S.storage store.now).index array)))) }
 {
     let left = total - from;
     let copied = if left < PIECE { left } else { PIECE };
@@ -169,13 +169,13 @@ fn copy_units<S: Store>(
     copied: usize,
     piece: &mut [u16; PIECE],
 )
-    requires held { IsTrue (is_held (S.kept store.now) (serial_of (S.index store.now) array)) }
-    requires units { HoldsUnits (S.kept store.now) (serial_of (S.index store.now) array) }
+    requires held { IsTrue (is_held (S.storage store.now).kept (serial_of (S.storage store.now).index array)) }
+    requires units { HoldsUnits (S.storage store.now).kept (serial_of (S.storage store.now).index array) }
     requires few { copied ≤ PIECE }
-    requires within { from + copied ≤ length (as_line line (units_at (S.kept store.now) (serial_of
-        (S.index store.now) array))) }
+    requires within { from + copied ≤ length (as_line line (units_at (S.storage store.now).kept (serial_of
+        (S.storage store.now).index array))) }
     ensures { take copied piece.new ≡ take copied (drop from (as_line line (units_at
-        (S.kept store.now) (serial_of (S.index store.now) array)))) }
+        (S.storage store.now).kept (serial_of (S.storage store.now).index array)))) }
 {
     let _ = line;
     let count = char_count(store, array);
@@ -186,12 +186,12 @@ fn copy_units<S: Store>(
 
 /// The unit at a place of a text: a char of an array, or the newline behind them.
 fn text_unit<S: Store>(store: &S, array: u64, count: u32, place: usize) -> u16
-    requires units { HoldsUnits (S.kept store.now) (serial_of (S.index store.now) array) }
-    requires count { count ≡ length (contents_at (S.kept store.now) (serial_of
-        (S.index store.now) array)) }
-    ensures { (line : Bool) → place < length (as_line line (units_at (S.kept store.now) (serial_of
-        (S.index store.now) array))) → slice_get (as_line line (units_at (S.kept store.now)
-        (serial_of (S.index store.now) array))) place ≡ Some result }
+    requires units { HoldsUnits (S.storage store.now).kept (serial_of (S.storage store.now).index array) }
+    requires count { count ≡ length (contents_at (S.storage store.now).kept (serial_of
+        (S.storage store.now).index array)) }
+    ensures { (line : Bool) → place < length (as_line line (units_at (S.storage store.now).kept (serial_of
+        (S.storage store.now).index array))) → slice_get (as_line line (units_at (S.storage store.now).kept
+        (serial_of (S.storage store.now).index array))) place ≡ Some result }
 {
     if place < count as usize {
         unit_at(store, array, place as u32)
@@ -202,10 +202,10 @@ fn text_unit<S: Store>(store: &S, array: u64, count: u32, place: usize) -> u16
 
 /// A char of an array.
 fn unit_at<S: Store>(store: &S, array: u64, place: u32) -> u16
-    requires units { HoldsUnits (S.kept store.now) (serial_of (S.index store.now) array) }
-    requires low { place < length (contents_at (S.kept store.now) (serial_of
-        (S.index store.now) array)) }
-    ensures { content_at (S.kept store.now) (serial_of (S.index store.now) array) place
+    requires units { HoldsUnits (S.storage store.now).kept (serial_of (S.storage store.now).index array) }
+    requires low { place < length (contents_at (S.storage store.now).kept (serial_of
+        (S.storage store.now).index array)) }
+    ensures { content_at (S.storage store.now).kept (serial_of (S.storage store.now).index array) place
         ≡ Some (Number (pos result)) }
 {
     match value_at(store, array, place, Basic::Char) {

@@ -1,9 +1,10 @@
 // What is placed where a class begins to be initialised of which static fields have strings as constants.
+ghost use Rattle.cb_heap.specs.Storage.{view_in};
 ghost use Rattle.std.specs.Prelude.{◌≡◌, ◌<◌, ◌≤◌, ◌^◌, [], ℕ, length, true};
 ghost use Rattle.std.specs.List.{fold};
 ghost use Rattle.cb_frames.specs.Limited.{with_roots};
 ghost use Rattle.cb_heap.specs.Closed.{IsClosed};
-ghost use Rattle.cb_heap.specs.Reading.{seen};
+ghost use Rattle.cb_heap.specs.Follows.{Follows};
 ghost use Rattle.cb_link.specs.Named.{static_initial};
 ghost use Rattle.cb_link.specs.Slots.{statics};
 ghost use Rattle.cb_link.specs.declared.named.Named.TheVariants as meanings;
@@ -43,8 +44,8 @@ pub(crate) fn ask_own<S: Store>(
     requires tables { length program.now.constants ≤ length roots.now.roots.tables.constants }
     requires room { has_room roots.now.limit roots.now.roots.frames 0 ≡ true }
     ensures asks { request.new ≡ asked (begun_upon (machine_of program.now roots.now.limit)
-        (state_of (seen (S.index store.now) (S.kept store.now) roots.now.roots) outside)
-        (seen (S.index store.now) (S.kept store.now) roots.now.roots).roots.frames class) }
+        (state_of (view_in (S.storage store.now) roots.now.roots) outside)
+        (view_in (S.storage store.now) roots.now.roots).roots.frames class) }
     ensures sites { AsksTexts request.new }
 {
     let _ = store;
@@ -85,30 +86,26 @@ fn ask_text(program: &Program, request: &mut Request, text: u32)
 pub(crate) fn place_own<S: Store>(program: &Program, store: &mut S, roots: &mut Roots, class: u32)
     ghost outside: { Outside }
     requires may { MayPlaceOwn program.now class }
-    requires shaped { ShapesOf program.now (S.shapes store.old) }
-    requires pairs { (one other : ℕ) → S.allows store.old one other ≡ true }
-    requires closed { IsClosed (seen (S.index store.old) (S.kept store.old) roots.old.roots) }
+    requires shaped { ShapesOf program.now (S.storage store.old).settings.shapes }
+    requires follows { Follows (S.storage store.old).settings.allows (made (fold (set_initial (machine_of program.now roots.old.limit))
+        (leaving (state_of (view_in (S.storage store.old) roots.old.roots) outside)) (own_statics program.now class))).objects }
+    requires closed { IsClosed (view_in (S.storage store.old) roots.old.roots) }
     requires statics { length (statics program.now.classes) ≤ length roots.old.roots.statics }
     requires tables { length program.now.constants ≤ length roots.old.roots.tables.constants }
-    requires covers { Covers (S.granted store.old) (wants_behind
-        (machine_of program.now roots.old.limit) (leaving (state_of (seen (S.index store.old)
-        (S.kept store.old) roots.old.roots) outside)) (own_statics program.now class)) }
-    requires serials { HasSerials (length (S.kept store.old)) (S.granted store.old) (wants_behind
-        (machine_of program.now roots.old.limit) (leaving (state_of (seen (S.index store.old)
-        (S.kept store.old) roots.old.roots) outside)) (own_statics program.now class)) }
-    ensures made { state_of (seen (S.index store.new) (S.kept store.new) roots.new.roots) outside
+    requires covers { Covers (S.storage store.old).granted (wants_behind
+        (machine_of program.now roots.old.limit) (leaving (state_of (view_in (S.storage store.old) roots.old.roots) outside)) (own_statics program.now class)) }
+    requires serials { HasSerials (length (S.storage store.old).kept) (S.storage store.old).granted (wants_behind
+        (machine_of program.now roots.old.limit) (leaving (state_of (view_in (S.storage store.old) roots.old.roots) outside)) (own_statics program.now class)) }
+    ensures made { state_of (view_in (S.storage store.new) roots.new.roots) outside
         ≡ made (fold (set_initial (machine_of program.now roots.old.limit)) (leaving (state_of
-        (seen (S.index store.old) (S.kept store.old) roots.old.roots) outside))
+        (view_in (S.storage store.old) roots.old.roots) outside))
         (own_statics program.now class)) }
-    ensures facts { S.facts store.new ≡ facts_behind S.rules (S.facts store.old) (fold
-        (set_initial (machine_of program.now roots.old.limit)) (leaving (state_of (seen
-        (S.index store.old) (S.kept store.old) roots.old.roots) outside))
+    ensures facts { (S.storage store.new).facts ≡ facts_behind S.rules (S.storage store.old).facts (fold
+        (set_initial (machine_of program.now roots.old.limit)) (leaving (state_of (view_in (S.storage store.old) roots.old.roots) outside))
         (own_statics program.now class)).placed }
     ensures limit { roots.new.limit ≡ roots.old.limit }
-    ensures faults { S.faults store.new ≡ S.faults store.old }
-    ensures knows { S.knows store.new ≡ S.knows store.old }
-    ensures allows { S.allows store.new ≡ S.allows store.old }
-    ensures shapes { S.shapes store.new ≡ S.shapes store.old }
+    ensures faults { (S.storage store.new).faults ≡ (S.storage store.old).faults }
+    ensures settings { (S.storage store.new).settings ≡ (S.storage store.old).settings }
 {
     let count = program.static_count();
     for slot in 0..count {
@@ -127,23 +124,19 @@ fn set_one<S: Store>(program: &Program, store: &mut S, roots: &mut Roots, slot: 
     requires low { (text : ℕ) → static_initial program.now slot ≡ meanings.Text text
         → text < length program.now.constants }
     requires may { (text : ℕ) → static_initial program.now slot ≡ meanings.Text text
-        → IsNew roots.old.roots text → MayEnter program.now text (S.shapes store.old)
-        (S.granted store.old) (S.allows store.old) (seen (S.index store.old) (S.kept store.old)
+        → IsNew roots.old.roots text → MayEnter program.now text (S.storage store.old).settings.shapes
+        (S.storage store.old).granted (S.storage store.old).settings.allows (view_in (S.storage store.old)
         roots.old.roots) }
-    ensures set { seen (S.index store.new) (S.kept store.new) roots.new.roots
-        ≡ seen_to program.now slot (seen (S.index store.old) (S.kept store.old) roots.old.roots)
+    ensures set { view_in (S.storage store.new) roots.new.roots
+        ≡ seen_to program.now slot (view_in (S.storage store.old) roots.old.roots)
         (static_initial program.now slot) }
-    ensures facts { S.facts store.new ≡ knows_to S.rules program.now (seen (S.index store.old)
-        (S.kept store.old) roots.old.roots).roots.tables.constants (S.facts store.old)
+    ensures facts { (S.storage store.new).facts ≡ knows_to S.rules program.now (view_in (S.storage store.old) roots.old.roots).roots.tables.constants (S.storage store.old).facts
         (static_initial program.now slot) }
-    ensures granted { S.granted store.new ≡ spent_to program.now (seen (S.index store.old)
-        (S.kept store.old) roots.old.roots).roots.tables.constants (S.granted store.old)
+    ensures granted { (S.storage store.new).granted ≡ spent_to program.now (view_in (S.storage store.old) roots.old.roots).roots.tables.constants (S.storage store.old).granted
         (static_initial program.now slot) }
     ensures limit { roots.new.limit ≡ roots.old.limit }
-    ensures faults { S.faults store.new ≡ S.faults store.old }
-    ensures knows { S.knows store.new ≡ S.knows store.old }
-    ensures allows { S.allows store.new ≡ S.allows store.old }
-    ensures shapes { S.shapes store.new ≡ S.shapes store.old }
+    ensures faults { (S.storage store.new).faults ≡ (S.storage store.old).faults }
+    ensures settings { (S.storage store.new).settings ≡ (S.storage store.old).settings }
 {
     match text_at(program, slot) {
         Some(text) => set_text(program, store, roots, slot, text),
@@ -156,23 +149,20 @@ fn set_text<S: Store>(program: &Program, store: &mut S, roots: &mut Roots, slot:
     requires text { text < length program.now.constants }
     requires table { text < length roots.old.roots.tables.constants }
     requires slot { slot < length roots.old.roots.statics }
-    requires may { IsNew roots.old.roots text → MayEnter program.now text (S.shapes store.old)
-        (S.granted store.old) (S.allows store.old) (seen (S.index store.old) (S.kept store.old)
+    requires may { IsNew roots.old.roots text → MayEnter program.now text (S.storage store.old).settings.shapes
+        (S.storage store.old).granted (S.storage store.old).settings.allows (view_in (S.storage store.old)
         roots.old.roots) }
-    ensures set { seen (S.index store.new) (S.kept store.new) roots.new.roots
-        ≡ with_found slot (with_constant program.now text (seen (S.index store.old)
-        (S.kept store.old) roots.old.roots)) }
-    ensures facts { S.facts store.new ≡ knows_if_new S.rules program.now (S.facts store.old) text
-        (listed (seen (S.index store.old) (S.kept store.old)
+    ensures set { view_in (S.storage store.new) roots.new.roots
+        ≡ with_found slot (with_constant program.now text (view_in (S.storage store.old) roots.old.roots)) }
+    ensures facts { (S.storage store.new).facts ≡ knows_if_new S.rules program.now (S.storage store.old).facts text
+        (listed (view_in (S.storage store.old)
         roots.old.roots).roots.tables.constants text) }
-    ensures granted { S.granted store.new ≡ spent_if_new program.now (S.granted store.old) text
-        (listed (seen (S.index store.old) (S.kept store.old)
+    ensures granted { (S.storage store.new).granted ≡ spent_if_new program.now (S.storage store.old).granted text
+        (listed (view_in (S.storage store.old)
         roots.old.roots).roots.tables.constants text) }
     ensures limit { roots.new.limit ≡ roots.old.limit }
-    ensures faults { S.faults store.new ≡ S.faults store.old }
-    ensures knows { S.knows store.new ≡ S.knows store.old }
-    ensures allows { S.allows store.new ≡ S.allows store.old }
-    ensures shapes { S.shapes store.new ≡ S.shapes store.old }
+    ensures faults { (S.storage store.new).faults ≡ (S.storage store.old).faults }
+    ensures settings { (S.storage store.new).settings ≡ (S.storage store.old).settings }
 {
     let at = constant_string(program, store, roots, text);
     roots.set_static(slot, Value::Ref(at));

@@ -39,8 +39,8 @@ const SPACE: u16 = b' ' as u16;
 /// Lays the units of a string behind others (JLS §3.10.5): none where it has no array yet. `OutOfMemory` where no memory was to be had;
 /// then some of them may have been laid. Takes time in the units.
 pub fn read_string<S: Store>(store: &S, at: u64, units: &mut Vec<u16>) -> Result<(), OutOfMemory>
-    requires { IsString (S.kept store.now) (serial_of (S.index store.now) at) }
-    ensures { OnOk result (LaysString (S.kept store.now) (serial_of (S.index store.now) at)
+    requires { IsString (S.storage store.now).kept (serial_of (S.storage store.now).index at) }
+    ensures { OnOk result (LaysString (S.storage store.now).kept (serial_of (S.storage store.now).index at)
         units.old.items units.new.items) }
 {
     let array = store.get_ref(at, 0);
@@ -52,9 +52,9 @@ pub fn read_string<S: Store>(store: &S, at: u64, units: &mut Vec<u16>) -> Result
 
 /// Lays the units of an array of chars behind others.
 fn read_units<S: Store>(store: &S, at: u64, units: &mut Vec<u16>) -> Result<(), OutOfMemory>
-    requires { HoldsUnits (S.kept store.now) (serial_of (S.index store.now) at) }
+    requires { HoldsUnits (S.storage store.now).kept (serial_of (S.storage store.now).index at) }
     ensures { OnOk result (units.new.items ≡ units.old.items ++ map unit_in (contents_at
-        (S.kept store.now) (serial_of (S.index store.now) at))) }
+        (S.storage store.now).kept (serial_of (S.storage store.now).index at))) }
 {
     let count = store.length(at);
     for i in 0..count {
@@ -65,8 +65,8 @@ fn read_units<S: Store>(store: &S, at: u64, units: &mut Vec<u16>) -> Result<(), 
 
 /// The unit in a word of an array of chars.
 fn unit_at<S: Store>(store: &S, at: u64, i: u32) -> u16
-    requires { IsUnit (content_at (S.kept store.now) (serial_of (S.index store.now) at) i) }
-    ensures { option_map unit_in (content_at (S.kept store.now) (serial_of (S.index store.now) at) i)
+    requires { IsUnit (content_at (S.storage store.now).kept (serial_of (S.storage store.now).index at) i) }
+    ensures { option_map unit_in (content_at (S.storage store.now).kept (serial_of (S.storage store.now).index at) i)
         ≡ Some result }
 {
     store.get(at, i) as u16
@@ -82,11 +82,11 @@ pub fn exception_text<S: Store>(
 ) -> Result<Vec<u16>, OutOfMemory>
     requires linked { IsLinked program.now }
     requires fits { IsTyped program.now }
-    requires typed { IsHeap program.now (S.kept store.now) }
-    requires there { IsOfKind program.now (kinds_of (S.kept store.now)) kind_of_throwable (serial_of
-        (S.index store.now) at) }
-    ensures { IfOk result (λ units. TellsException program.now (S.kept store.now) (serial_of
-        (S.index store.now) at) units.items) }
+    requires typed { IsHeap program.now (S.storage store.now).kept }
+    requires there { IsOfKind program.now (kinds_of (S.storage store.now).kept) kind_of_throwable (serial_of
+        (S.storage store.now).index at) }
+    ensures { IfOk result (λ units. TellsException program.now (S.storage store.now).kept (serial_of
+        (S.storage store.now).index at) units.items) }
 {
     texts_are_read();
     tell(alloc, program, store, at)
@@ -99,9 +99,9 @@ fn tell<S: Store>(
     store: &S,
     at: u64,
 ) -> Result<Vec<u16>, OutOfMemory>
-    requires { IsTellable program.now (S.kept store.now) (serial_of (S.index store.now) at) }
-    ensures { IfOk result (λ units. TellsException program.now (S.kept store.now) (serial_of
-        (S.index store.now) at) units.items) }
+    requires { IsTellable program.now (S.storage store.now).kept (serial_of (S.storage store.now).index at) }
+    ensures { IfOk result (λ units. TellsException program.now (S.storage store.now).kept (serial_of
+        (S.storage store.now).index at) units.items) }
 {
     let kind = store.kind(at);
     let mut units = with_dots(alloc, program.kind_name(kind))?;
@@ -112,9 +112,9 @@ fn tell<S: Store>(
 
 /// Lays what is told of a message behind others: nothing where it is null.
 fn lay_message<S: Store>(store: &S, at: u64, units: &mut Vec<u16>) -> Result<(), OutOfMemory>
-    requires { (place : ℕ) → serial_of (S.index store.now) at ≡ suc place
-        → IsString (S.kept store.now) (suc place) }
-    ensures { OnOk result (LaysMessage (S.kept store.now) (serial_of (S.index store.now) at)
+    requires { (place : ℕ) → serial_of (S.storage store.now).index at ≡ suc place
+        → IsString (S.storage store.now).kept (suc place) }
+    ensures { OnOk result (LaysMessage (S.storage store.now).kept (serial_of (S.storage store.now).index at)
         units.old.items units.new.items) }
 {
     if at == 0 {

@@ -1,7 +1,8 @@
 // Turns of a run in which a pending exception takes a step.
+ghost use Rattle.cb_heap.specs.Storage.{view_in};
 ghost use Rattle.std.specs.Prelude.{◌≡◌, ◌<◌, false, is_some, length, true, IsTrue};
 ghost use Rattle.cb_heap.specs.Kept.{is_kept};
-ghost use Rattle.cb_heap.specs.Reading.{seen, serial_of};
+ghost use Rattle.cb_heap.specs.Reading.{serial_of};
 ghost use Rattle.cb_machine.specs.Library.{error};
 ghost use Rattle.cb_machine.specs.Steps.{plan};
 ghost use Rattle.cb_unwind.specs.Initialised.{ClassBelow};
@@ -17,27 +18,22 @@ use cb_unwind::unwind_step;
 /// (JVMS §2.10, §5.5). Takes time in the slots of the frame and the handlers of its method.
 pub fn unwind_turn<S: Store>(program: &Program, store: &mut S, roots: &mut Roots)
     ghost outside: { Outside }
-    requires steps { is_some (plan (machine_of program.now roots.old.limit) (state_of (seen
-        (S.index store.old) (S.kept store.old) roots.old.roots) outside)) ≡ true }
-    requires left { wraps program.now (seen (S.index store.old) (S.kept store.old) roots.old.roots)
+    requires steps { is_some (plan (machine_of program.now roots.old.limit) (state_of (view_in (S.storage store.old) roots.old.roots) outside)) ≡ true }
+    requires left { wraps program.now (view_in (S.storage store.old) roots.old.roots)
         ≡ false }
-    requires there { IsTrue (is_kept (S.kept store.old) (serial_of
-        (S.index store.old) roots.old.roots.pending)) }
-    requires kind { HasPendingKind program.now (seen (S.index store.old)
-        (S.kept store.old) roots.old.roots) }
+    requires there { IsTrue (is_kept (S.storage store.old).kept (serial_of
+        (S.storage store.old).index roots.old.roots.pending)) }
+    requires kind { HasPendingKind program.now (view_in (S.storage store.old) roots.old.roots) }
     requires error { error < length program.now.kinds }
     requires method { MethodBelow (length program.now.methods) roots.old.roots }
     requires catches { MayCatch program.now roots.old.roots }
     requires class { ClassBelow (length roots.old.roots.classes) roots.old.roots }
-    ensures made { TurnMade S.rules (machine_of program.now roots.old.limit) (moment_of (seen
-        (S.index store.old) (S.kept store.old) roots.old.roots) outside (S.facts store.old))
-        (moment_of (seen (S.index store.new) (S.kept store.new) roots.new.roots) outside
-        (S.facts store.new)) }
+    ensures made { TurnMade S.rules (machine_of program.now roots.old.limit) (moment_of (view_in (S.storage store.old) roots.old.roots) outside (S.storage store.old).facts)
+        (moment_of (view_in (S.storage store.new) roots.new.roots) outside
+        (S.storage store.new).facts) }
     ensures limit { roots.new.limit ≡ roots.old.limit }
-    ensures faults { S.faults store.new ≡ S.faults store.old }
-    ensures knows { S.knows store.new ≡ S.knows store.old }
-    ensures allows { S.allows store.new ≡ S.allows store.old }
-    ensures shapes { S.shapes store.new ≡ S.shapes store.old }
+    ensures faults { (S.storage store.new).faults ≡ (S.storage store.old).faults }
+    ensures settings { (S.storage store.new).settings ≡ (S.storage store.old).settings }
 {
     unwind_step(program, store, roots);
 }

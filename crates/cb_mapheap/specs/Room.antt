@@ -1,5 +1,5 @@
 -- What a store does that never lets an object go.
-use Rattle.std.specs.Prelude.{◌≡◌, ◌-◌, ◌↔◌, ◌⊎◌, ℕ, Bool, List, IsTrue, nat_le}
+use Rattle.std.specs.Prelude.{◌≡◌, ◌-◌, ◌↔◌, ◌⊎◌, ℕ, Bool, false, List, IsTrue, nat_le, refl}
 use Rattle.std.specs.List.{list_any}
 use Rattle.std.specs.declared.result.Result.{Result}
 use Rattle.std.specs.declared.result.Result.TheVariants.{Ok, Err}
@@ -9,7 +9,7 @@ use Rattle.cb_heap.specs.declared.no_room.NoRoom.{NoRoom}
 use Rattle.cb_heap.specs.declared.no_room.NoRoom.TheVariants.{Full, OutOfMemory}
 use Rattle.cb_heap.specs.Kept.{residents, words_kept}
 use Rattle.cb_heap.specs.Reading.{View}
-use Rattle.cb_heap.specs.Rules.{Meaning, Rules}
+use Rattle.cb_heap.specs.Rules.{AreBounded, Meaning, Rules}
 
 -- whether an entry has reached so many words, and whether one has reached the limit of what is counted
 abbrev pub has_reached : ℕ → Want → Bool
@@ -34,4 +34,8 @@ pub record CollectsAll (facts : Unit {0}) (view : View) (result : Result (Unit {
   pub residents : after.residents ≡ residents view.objects
 
 abbrev pub rules_of : Rules (Unit {0})
-rules_of = record { makes_room = MakesRoom; collects_all = CollectsAll; placed = λ facts site size. facts }
+rules_of = record { fixed = false; makes_room = MakesRoom; collects_all = CollectsAll; placed = λ facts site size. facts }
+
+-- it isn't fixed
+pub rules_are_bounded : AreBounded rules_of
+rules_are_bounded = record { words = λ facts view wants after fixed. absurd (cc fixed); memory = λ facts view wants after ruled. refl }

@@ -76,32 +76,29 @@ impl MapHeap {
 
 /// A place is a serial, each pair of sites is allowed, and nothing ever goes.
 impl Store for MapHeap {
-    ghost use Rattle.std.specs.Prelude.{map, pred, true, false, Some};
-    ghost use Rattle.cb_mapheap.specs.Room.{rules_of};
+    ghost use Rattle.std.specs.Prelude.{map, pred, refl, true, false, Some};
+    ghost use Rattle.cb_mapheap.specs.Room.{rules_are_bounded, rules_of};
 
     ghost Facts = { Unit {0} };
 
     ghost rules = { rules_of };
 
-    ghost facts = { λ heap. tt };
-
-    ghost kept = { λ heap. map Some heap.objects };
-
-    ghost index = { λ heap. pred };
-
-    ghost shapes = { λ heap. heap.shapes };
-
-    ghost knows = { λ heap site. true };
-
-    ghost allows = { λ heap one other. true };
-
-    ghost granted = { λ heap. heap.granted };
-
-    ghost faults = { λ heap. 0 };
+    ghost storage = { λ heap. record {
+      kept = map Some heap.objects;
+      index = pred;
+      facts = tt;
+      granted = heap.granted;
+      faults = 0;
+      settings = record { shapes = heap.shapes; knows = λ site. true; allows = λ one other. true };
+    } };
 
     ghost FIXED = { false };
 
     const FIXED: bool = false;
+
+    ghost tells_fixed = { refl };
+
+    ghost bounded = { rules_are_bounded };
 
     /// Takes memory for what is asked for. `Full` where an entry has reached 2^40 words, and want of memory too where there would be 2^63
     /// objects. Takes time in the number of sites, and in that of all words where they move.

@@ -99,7 +99,7 @@ with_length_at [] place new = refl
 with_length_at (entry ∷ objects) zero new = refl
 with_length_at (entry ∷ objects) (suc place) new = ap suc (with_length_at objects place new)
 
-with_length : (objects : List (Option Object)) (serial : ℕ) (new : List Content) → length (with_contents_in objects serial new) ≡ length objects
+pub with_length : (objects : List (Option Object)) (serial : ℕ) (new : List Content) → length (with_contents_in objects serial new) ≡ length objects
 with_length objects zero new = refl
 with_length objects (suc place) new = with_length_at objects place new
 

@@ -1,29 +1,19 @@
 -- Words that are copied one by one, the last first.
 use Rattle.std.proofs.Common.{◌≡◌, ◌∙◌, ap, arith, refl, subst, sym, ℕ, pos, zero, suc, ◌+◌, ◌<◌, ◌≤◌, Bool, true, List, [], ◌∷◌, Option, Some, None, IsTrue, drop, get_or, length, slice_get}
 use Rattle.std.proofs.lemmas.List.{drop_more, drop_all, get_or-drop, get_or-take, length-drop, length-take}
-use Rattle.cb_heap.proofs.Laws.{may_point_there}
-use Rattle.cb_heap.specs.Kept.{content_at, contents_at, is_held, is_kept, with_content}
+use Rattle.cb_heap.specs.Kept.{content_at, contents_at, is_held, with_content}
 use Rattle.cb_heap.specs.Reading.{serial_of}
-use Rattle.cb_heap.specs.Store.{may_point}
 use Rattle.cb_machine.specs.Copying.{overwritten}
 use Rattle.cb_plain.specs.State.{Content, Number, Object, Reference}
 use Rattle.cb_plain.specs.Updates.{with_contents_in}
 use Rattle.cb_plain.specs.declared.shape.Shape.{Shape}
 use Rattle.cb_natives.specs.Copies.{MayCopy, RefersHeld, copied, holds, refers_at, word_of, words_from}
+use Rattle.cb_natives.specs.Following.{FollowsFrom, MayRefer}
 use Rattle.cb_natives.proofs.Changes.{held_changed, put_before, with_same, word_same}
+use Rattle.cb_natives.proofs.FollowLaws.{may_copy}
 use Rattle.cb_natives.proofs.Overwriting.{over_none}
-use Rattle.cb_natives.proofs.OwnLaws.{kept_there}
 
 -- ---- one word
-
--- where all may refer to all, an object that is there may refer to null and to one that is there
-pub may_refer : (objects : List (Option Object)) (allows : ℕ → ℕ → Bool) (one other : ℕ) → ((one other : ℕ) → allows one other ≡ true)
-    → IsTrue (is_kept objects one) → IsTrue (is_held objects other) → IsTrue (may_point allows objects one other)
-may_refer objects allows one zero all there held = refl
-may_refer objects allows one (suc place) all there held =
-    let from = kept_there objects one there in
-    let to = kept_there objects (suc place) held in
-    may_point_there allows objects one (suc place) from.0 to.0 from.1 to.1 (all from.0.site to.0.site)
 
 pub word_read : (contents : List Content) (place : ℕ) → get_or contents place (Number (pos 0)) ≡ word_of (slice_get contents place)
 word_read [] place = refl
@@ -91,6 +81,13 @@ module _ (objects : List (Option Object)) (shape : Shape) (source start to at co
         (λ serial. ap (λ now. is_held now serial) before ∙ held_changed objects to serial (overwritten (contents_at objects to) (at + left) (drop left new)))
         (may.held place (omega (arith, next, low))))
 
+    pub step_may : (allows : ℕ → ℕ → Bool) → FollowsFrom allows (copied objects source start to at count) to → MayRefer allows now to (content_at now source (start + place))
+    step_may allows follows =
+        subst (MayRefer allows now to) (sym source_same)
+        (subst (λ now. MayRefer allows now to (content_at objects source (start + place))) (sym before)
+        (may_copy allows objects shape source start to at count may follows (overwritten (contents_at objects to) (at + left) (drop left new)) place (omega (arith, next, low))
+        (content_at objects source (start + place)) refl))
+
     word_so : word_of (content_at now source (start + place)) ≡ get_or new place (Number (pos 0))
     word_so =
         ap word_of source_same
@@ -135,6 +132,13 @@ module _ (objects : List (Option Object)) (index after : ℕ → ℕ) (shape : S
   held_there =
       subst (λ index. RefersHeld now (content_at now (serial_of index source) (start + place))) (sym places)
       (step_held objects shape (serial_of index source) start (serial_of index to) at count may order now left place before next low)
+
+  pub may_there : (allows later : ℕ → ℕ → Bool) → later ≡ allows → FollowsFrom allows (copied objects (serial_of index source) start (serial_of index to) at count) (serial_of index to)
+      → MayRefer later now (serial_of after to) (content_at now (serial_of after source) (start + place))
+  may_there allows later same follows =
+      subst (λ (allows : ℕ → ℕ → Bool). MayRefer allows now (serial_of after to) (content_at now (serial_of after source) (start + place))) (sym same)
+      (subst (λ index. MayRefer allows now (serial_of index to) (content_at now (serial_of index source) (start + place))) (sym places)
+      (step_may objects shape (serial_of index source) start (serial_of index to) at count may order now left place before next low allows follows))
 
   pub copied_there : (then : List (Option Object)) → then ≡ with_content now (serial_of after to) (at + place) (word_of (content_at now (serial_of after source) (start + place)))
       → then ≡ copied_back objects (serial_of index source) start (serial_of index to) at count place

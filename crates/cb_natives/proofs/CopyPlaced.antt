@@ -13,7 +13,8 @@ use Rattle.cb_plain.specs.declared.shape.Shape.{Shape}
 use Rattle.cb_plain.specs.declared.shape.Shape.TheVariants.{Elements, Fields}
 use Rattle.cb_natives.specs.Copies.{HasWord, MayCopy, RefersHeld, copied, holds, refers_at}
 use Rattle.cb_natives.specs.MakingArrays.{HasSize, IsLaid}
-use Rattle.cb_natives.proofs.CopyLaws.{may_refer}
+use Rattle.cb_natives.specs.Following.{FollowsFrom}
+use Rattle.cb_natives.proofs.FollowLaws.{follows_from_so, null_before, put_may}
 use Rattle.cb_natives.proofs.Overwriting.{over, over_whole}
 use Rattle.cb_natives.proofs.OwnLaws.{contents_so, kept_there, last_kept, with_last}
 use Rattle.cb_natives.proofs.Placed.{last_contents}
@@ -163,11 +164,14 @@ module _ (objects : List (Option Object)) (site kind : ℕ) (words : List Conten
   abbrev end : ℕ
   end = length objects + 1
 
+  end_null : content_at longer end size ≡ Some (Reference 0)
+  end_null =
+      ap (λ contents. slice_get contents size) (last_contents objects (object_of site kind (words ++ Reference 0 ∷ [])))
+      ∙ ap (λ (size : ℕ). slice_get (words ++ Reference 0 ∷ []) size) is
+      ∙ last_word words (Reference 0)
+
   end_word : is_reference (content_at longer end size) ≡ true
-  end_word =
-      ap (λ contents. is_reference (slice_get contents size)) (last_contents objects (object_of site kind (words ++ Reference 0 ∷ [])))
-      ∙ ap (λ (size : ℕ). is_reference (slice_get (words ++ Reference 0 ∷ []) size)) is
-      ∙ ap is_reference (last_word words (Reference 0))
+  end_word = ap is_reference end_null
 
   other_held : IsTrue (is_held longer other)
   other_held = held_further objects (object_of site kind (words ++ Reference 0 ∷ [])) other held
@@ -178,6 +182,10 @@ module _ (objects : List (Option Object)) (site kind : ℕ) (words : List Conten
       ∙ ap (with_contents_in longer end) (set_at words (Reference 0) [] (Reference other) size (sym is))
       ∙ with_last objects (object_of site kind (words ++ Reference 0 ∷ [])) (words ++ Reference other ∷ [])
 
+  pub longer_follows : (allows : ℕ → ℕ → Bool) → FollowsFrom allows (objects ++ Some (object_of site kind (words ++ Reference other ∷ [])) ∷ []) end → FollowsFrom allows longer end
+  longer_follows allows follows =
+      null_before allows longer end size (Reference other) end_null (subst (λ objects. FollowsFrom allows objects end) (sym end_put) follows)
+
   module _ (now : List (Option Object)) (placed : now ≡ longer) (at : ℕ) (own : at ≡ end) (to : ℕ) (same : to ≡ other) where
     pub longer_there : IsTrue (is_reference (content_at now at size))
     longer_there =
@@ -186,16 +194,15 @@ module _ (objects : List (Option Object)) (site kind : ℕ) (words : List Conten
     pub longer_held : IsTrue (is_held now to)
     longer_held = ap (λ now. is_held now to) placed ∙ ap (is_held longer) same ∙ other_held
 
-    pub longer_may : (allows : ℕ → ℕ → Bool) → ((one other : ℕ) → allows one other ≡ true) → IsTrue (may_point allows now at to)
-    longer_may allows all =
-        ap (λ now. may_point allows now at to) placed
-        ∙ ap (λ (at : ℕ). may_point allows longer at to) own
-        ∙ ap (may_point allows longer end) same
-        ∙ may_refer longer allows end other all (last_kept objects (object_of site kind (words ++ Reference 0 ∷ []))) other_held
-
     pub longer_put : with_content now at size (Reference to) ≡ objects ++ Some (object_of site kind (words ++ Reference other ∷ [])) ∷ []
     longer_put =
         ap (λ now. with_content now at size (Reference to)) placed
         ∙ ap (λ (at : ℕ). with_content longer at size (Reference to)) own
         ∙ ap (λ (to : ℕ). with_content longer end size (Reference to)) same
         ∙ end_put
+
+    pub longer_may : (allows later : ℕ → ℕ → Bool) → later ≡ allows → FollowsFrom allows (objects ++ Some (object_of site kind (words ++ Reference other ∷ [])) ∷ []) end
+        → IsTrue (may_point later now at to)
+    longer_may allows later alike follows =
+        put_may later now at size to longer_there
+        (follows_from_so allows later alike (objects ++ Some (object_of site kind (words ++ Reference other ∷ [])) ∷ []) (with_content now at size (Reference to)) longer_put end at own follows)

@@ -1,9 +1,10 @@
 -- What natives ask for and perform that make a copy.
-use Rattle.std.proofs.Common.{◌≡◌, ◌∙◌, ap, arith, refl, sym, ℕ, ◌+◌, ◌*◌, ◌<◌, ◌≤◌, true, List, [], ◌∷◌, length, Option, Some, None}
+use Rattle.std.proofs.Common.{◌≡◌, ◌∙◌, ap, arith, refl, sym, ℕ, ◌+◌, ◌*◌, ◌<◌, ◌≤◌, Bool, true, List, [], ◌∷◌, length, Option, Some, None}
 use Rattle.std.proofs.lemmas.Bool.{false≢true}
 use Rattle.std.proofs.lemmas.List.{length-append}
 use Rattle.std.specs.List.{AllByRecursion}
 use Rattle.std.specs.declared.result.Result.TheVariants.{Err, Ok}
+use Rattle.cb_heap.specs.Follows.{Follows}
 use Rattle.cb_heap.specs.Kept.{contents_at}
 use Rattle.cb_heap.specs.Reading.{serial_of}
 use Rattle.cb_heap.specs.Rules.{Rules}
@@ -24,7 +25,7 @@ use Rattle.cb_plain.specs.declared.value.Value.{Value}
 use Rattle.cb_plain.specs.declared.want.Want.{Want}
 use Rattle.cb_natives.specs.Answers.{Beside}
 use Rattle.cb_natives.specs.Exceptions.{site_of}
-use Rattle.cb_natives.specs.Making.{Asks, Performs, Throws, facts_behind, machine_in, state_in}
+use Rattle.cb_natives.specs.Making.{Asks, MayLeave, Performs, Throws, facts_behind, machine_in, state_in}
 use Rattle.cb_natives.specs.MakingArrays.{DecidesCopy, MayMakeCopy, given_by, made_by, makes_array, wanted_by, with_reference}
 use Rattle.cb_natives.specs.MakingOwn.{call_of, objects_behind, planned}
 use Rattle.cb_natives.specs.declared.answers.Exception.{Exception}
@@ -101,6 +102,11 @@ module _ (program : Linked) (objects : List (Option Object)) (index : ℕ → �
         let same : Some (Gives makes.own makes.answer) ≡ Some (Gives (plan_of 0 roots [] []) (given_by objects copying)) = sym makes.is ∙ does roots 0 [] [] in
         let plans : makes.own ≡ plan_of 0 roots [] [] = cc same in
         sym makes.asks ∙ ap asked plans ∙ wants_so roots 0 [] []
+
+    pub leaves_so : (roots : Roots) (allows : ℕ → ℕ → Bool) → MayLeave program allows (record { roots = roots; objects = objects }) native arguments
+        → Follows allows (objects_behind (made_by program objects index copying))
+    leaves_so roots allows leaves =
+        leaves.each (plan_of leaves.frames roots leaves.input leaves.printed) (given_by objects copying) (does roots leaves.frames leaves.input leaves.printed)
 
     pub performs_so : {Facts : Type 0} (rules : Rules Facts) (facts : Facts) (kept : List (Option Object)) (now : Facts) (answer : List Value)
         → kept ≡ objects_behind (made_by program objects index copying) → now ≡ facts_behind rules facts (made_by program objects index copying).placed

@@ -3,7 +3,7 @@ use Rattle.std.proofs.Common.{◌≡◌, ◌∙◌, ap, arith, refl, sym, subst,
 use Rattle.std.proofs.lemmas.Bool.{false≢true, leb-true}
 use Rattle.std.proofs.lemmas.Bool.Decides.{nat_tests}
 use Rattle.std.proofs.lemmas.Option.{none-some, same_Some}
-use Rattle.std.specs.declared.result.Result.TheVariants.{Err, Ok}
+use Rattle.std.specs.declared.result.Result.TheVariants.{Err}
 use Rattle.cb_heap.specs.Kept.{contents_at, is_kept}
 use Rattle.cb_heap.specs.Reading.{read_value, serial_of}
 use Rattle.cb_library.specs.declared.native.Native.TheVariants as natives
@@ -23,7 +23,6 @@ use Rattle.cb_natives.specs.Given.{AreGiven, HoldsBytes, roles}
 use Rattle.cb_natives.specs.Input.{IsRange, PlansRange, byte_number, count_number, with_bytes}
 use Rattle.cb_natives.specs.MakingOwn.{range_in}
 use Rattle.cb_natives.specs.declared.answers.Exception.TheVariants as exceptions
-use Rattle.cb_natives.specs.declared.input_natives.ArrayRange.{ArrayRange}
 use Rattle.cb_natives.proofs.Changes.{with_same}
 use Rattle.cb_natives.proofs.Overwriting.{over_none}
 use Rattle.cb_natives.proofs.OwnNatives.{serial_not}

@@ -1,10 +1,10 @@
 -- Bytes that are written into an array, the last first, and one piece behind the other.
 use Rattle.std.proofs.Common.{◌≡◌, ◌∙◌, ap, arith, refl, subst, sym, ℕ, zero, suc, ◌+◌, ◌<◌, ◌≤◌, ◌-◌, ◌^◌, true, false, List, [], ◌∷◌, ◌++◌, Option, IfOk, IsTrue, drop, get_or, length, map, slice_get, take}
-use Rattle.std.proofs.KnownBytes.{Consumes-nil, Consumes-trans}
+use Rattle.std.proofs.KnownBytes.{Consumes-kept, Consumes-nil, Consumes-trans}
 use Rattle.std.proofs.lemmas.List.{drop_all, drop-map, drop_more, length-append, length-map, map-append}
 use Rattle.std.proofs.lemmas.Bool.{false≢true}
 use Rattle.std.specs.Io.{ReadsAtMost}
-use Rattle.std.specs.Io.KnownBytes.{ReadConsumes}
+use Rattle.std.specs.Io.KnownBytes.{Keeps, ReadConsumes}
 use Rattle.std.specs.List.{AllByRecursion}
 use Rattle.std.specs.declared.result.Result.{Result}
 use Rattle.std.specs.declared.result.Result.TheVariants.{Err, Ok}
@@ -16,7 +16,7 @@ use Rattle.cb_machine.specs.Outside.{stored_byte}
 use Rattle.cb_plain.specs.State.{Content, Object}
 use Rattle.cb_plain.specs.Updates.{with_contents_in}
 use Rattle.cb_natives.specs.Given.{HoldsBytes}
-use Rattle.cb_natives.specs.Input.{MovesInto, ReadsFront, TakesInto, TakesPiece, Took, with_bytes}
+use Rattle.cb_natives.specs.Input.{Loses, MovesInto, ReadsFront, TakesInto, TakesPiece, Took, with_bytes}
 use Rattle.cb_natives.proofs.Changes.{contents_with, kept_changed, put_before, with_same, with_twice, word_same}
 use Rattle.cb_natives.proofs.Overwriting.{over, over_first, over_length, over_none, over_over, over_past}
 
@@ -228,3 +228,9 @@ took_front before now most buffer moved one reads = record {
   consumes = reads.consumes;
   end = λ less. reads.end (omega (arith, reads.size, less));
 }
+
+-- a call that fails behind others takes nothing more
+pub loses_so : (before mid now : Option (List ℕ)) (objects after : List (Option Object)) (array from taken count : ℕ) → MovesInto before mid objects after array from taken
+    → taken < count → Keeps mid now → Loses count before now
+loses_so before mid now objects after array from taken count moves less keeps =
+    record { front = moves.bytes; few = omega (arith, moves.size, less); consumes = Consumes-kept before mid now moves.bytes moves.consumes keeps }

@@ -7,6 +7,7 @@ mod CopyPlaced
 mod CopyRuns
 mod EnumLaws
 mod Filling
+mod FollowLaws
 mod HexLaws
 mod InputLaws
 mod Inputs

@@ -24,12 +24,13 @@ use Rattle.cb_plain.specs.declared.value.Value.TheVariants as values
 use Rattle.cb_plain.specs.declared.want.Want.{Want}
 use Rattle.cb_natives.specs.Answers.{Beside}
 use Rattle.cb_natives.specs.Exceptions.{site_of}
-use Rattle.cb_natives.specs.Making.{Asks, Makes, Performs, Planned, given_back, machine_in, state_in}
+use Rattle.cb_natives.specs.Making.{Asks, Makes, MayLeave, Performs, Planned, given_back, machine_in, state_in}
 use Rattle.cb_natives.specs.MakingTexts.{TellsText, makes_text, text_wants, with_made}
 use Rattle.cb_natives.specs.Pieces.{text_units}
 use Rattle.cb_natives.specs.declared.answers.Exception.{Exception}
 use Rattle.cb_natives.specs.declared.answers.Exception.TheVariants as exceptions
 use Rattle.cb_natives.specs.declared.pieces.Text.{Text}
+use Rattle.cb_natives.proofs.FollowLaws.{made_pair}
 use Rattle.cb_natives.proofs.UnitLaws.{le_false, le_true}
 use Rattle.cb_natives.proofs.WritesOn.{units_length}
 
@@ -144,6 +145,15 @@ module _ (program : Linked) (objects : List (Option Object)) (index : ℕ → �
         let units = text_units program objects index text in
         let case = short_case given units first.own first.answer (nat_le (length units) most_elements) refl (sym (gives_so 0 [] [] text tells) ∙ first.is) in
         (case.0, sym first.asks ∙ ap asked case.1 ∙ asked_for given units)
+
+  pub pair_so : (allows : ℕ → ℕ → Bool) → MayLeave program allows view native arguments → (text : Text) → TellsText objects index native arguments (Ok text)
+      → nat_le (length (text_units program objects index text)) most_elements ≡ true → allows made_strings made_characters ≡ true
+  pair_so allows leaves text tells short =
+      let units = text_units program objects index text in
+      let given = call leaves.frames leaves.input leaves.printed in
+      made_pair allows objects (kind_of_site program made_characters) (kind_of_site program made_strings) units
+      (leaves.each (placed_for given units).plan (values.Ref (placed_for given units).serial ∷ [])
+      (gives_so leaves.frames leaves.input leaves.printed text tells ∙ gives_short given units short))
 
   pub performs_so : {Facts : Type 0} (rules : Rules Facts) (facts later : Facts) (text : Text) → TellsText objects index native arguments (Ok text)
       → nat_le (length (text_units program objects index text)) most_elements ≡ true

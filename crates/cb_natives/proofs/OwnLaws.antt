@@ -48,7 +48,7 @@ word_there objects serial word content is = by_object (object_in objects serial)
   by_object None same = absurd (none-some content (sym (none_word objects serial word same) ∙ is))
   by_object (Some object) same = (object, same, sym (ap (λ (contents : List Content). slice_get contents word) (contents_so objects serial object same)) ∙ is)
 
-reference_there : (found : Option Content) → is_reference found ≡ true → (serial : ℕ) × (found ≡ Some (Reference serial))
+pub reference_there : (found : Option Content) → is_reference found ≡ true → (serial : ℕ) × (found ≡ Some (Reference serial))
 reference_there None is = absurd (false≢true is)
 reference_there (Some (Number number)) is = absurd (false≢true is)
 reference_there (Some (Reference serial)) is = (serial, refl)

@@ -2,7 +2,8 @@
 use Rattle.std.proofs.Common.{◌≡◌, ◌∙◌, ap, arith, refl, subst, sym, add-zero, zero-add, ℕ, pos, zero, suc, ◌+◌, ◌<◌, ◌≤◌, ◌^◌, Bool, true, false, IsTrue, List, [], ◌∷◌, ◌++◌, drop, get_or, length, replicate, Option, Some, slice_get, slice_set, take}
 use Rattle.std.proofs.lemmas.List.{append-nil, append_assoc, drop-append-le, drop_all, drop_more, length-append, length-drop, length-replicate, length-take-le, set_at, take-append-drop, take_more}
 use Rattle.std.proofs.lemmas.Option.{get_or_from_slice_get}
-use Rattle.cb_heap.proofs.Laws.{may_point_there, placed_there, there_before}
+use Rattle.cb_heap.proofs.Laws.{placed_there}
+use Rattle.cb_heap.specs.Follows.{Follows}
 use Rattle.cb_heap.specs.Kept.{content_at, contents_at, is_held, is_kept, is_number, is_reference, with_content}
 use Rattle.cb_heap.specs.Shaped.{has_size, new_object}
 use Rattle.cb_heap.specs.Store.{ReadsAsBefore, may_point}
@@ -15,11 +16,13 @@ use Rattle.cb_plain.specs.State.{Content, Number, Object, Reference}
 use Rattle.cb_plain.specs.Updates.{object_in, with_contents_in}
 use Rattle.cb_plain.specs.declared.shape.Shape.{Shape}
 use Rattle.cb_plain.specs.declared.shape.Shape.TheVariants.{Elements}
+use Rattle.cb_natives.specs.Following.{FollowsFrom}
 use Rattle.cb_natives.specs.Given.{HoldsUnits}
 use Rattle.cb_natives.specs.MakingOwn.{closed_up, counting, deleted, referring, roomy}
 use Rattle.cb_natives.specs.Pieces.{IsText, text_units}
 use Rattle.cb_natives.specs.Writing.{HoldsNumbers, TextApart}
 use Rattle.cb_natives.specs.declared.pieces.Text.{Text}
+use Rattle.cb_natives.proofs.FollowLaws.{follows_from_so, follows_one, number_before, put_may}
 use Rattle.cb_natives.proofs.OwnLaws.{changed_there, content_behind, contents_so, contents_with, held_so, kept_changed, kept_there, last_kept, reference_kept, roomy_so, text_again, text_apart, there_kept, with_last, with_same, with_twice, word_before, zeros_numbers}
 use Rattle.cb_natives.proofs.Units.{unit_number}
 
@@ -115,19 +118,18 @@ module _ (objects : List (Option Object)) (array : Object) (serial : ℕ) (refer
         ap (λ (kept : List (Option Object)). is_held kept to) placed ∙ ap (is_held behind) last
         ∙ held_so behind (length objects + 1) (last_kept objects array)
 
-    pub may_refer : (allows : ℕ → ℕ → Bool) → ((one other : ℕ) → allows one other ≡ true) → IsTrue (may_point allows kept at to)
-    may_refer allows all =
-        ap (λ (kept : List (Option Object)). may_point allows kept at to) placed
-        ∙ ap (λ (serial : ℕ). may_point allows behind serial to) same
-        ∙ ap (may_point allows behind serial) last
-        ∙ may_point_there allows behind serial (length objects + 1) own.0 array (there_before objects array serial own.0 own.1) (placed_there objects array) (all own.0.site array.site)
-
     pub referred : with_content kept at value_slot (Reference to) ≡ referring objects serial (length objects + 1) ++ Some array ∷ []
     referred =
         ap (λ (kept : List (Option Object)). with_content kept at value_slot (Reference to)) placed
         ∙ ap (λ (serial : ℕ). with_content behind serial value_slot (Reference to)) same
         ∙ ap (λ (to : ℕ). with_content behind serial value_slot (Reference to)) last
         ∙ content_behind objects array serial value_slot (Reference (length objects + 1)) own_kept
+
+    pub may_refer : (allows later : ℕ → ℕ → Bool) → later ≡ allows → FollowsFrom allows (referring objects serial (length objects + 1) ++ Some array ∷ []) serial
+        → IsTrue (may_point later kept at to)
+    may_refer allows later alike follows =
+        put_may later kept at value_slot to refers_there
+        (follows_from_so allows later alike (referring objects serial (length objects + 1) ++ Some array ∷ []) (with_content kept at value_slot (Reference to)) referred serial at same follows)
 
 -- and counts
 module _ (objects : List (Option Object)) (array : Object) (serial to : ℕ) (counts : is_number (content_at objects serial count_slot) ≡ true) (there : IsTrue (is_kept objects serial))
@@ -159,6 +161,14 @@ module _ (objects : List (Option Object)) (array : Object) (serial to : ℕ) (co
       ap (λ (kept : List (Option Object)). counting kept at count) placed
       ∙ ap (λ (serial : ℕ). counting (now ++ Some array ∷ []) serial count) same
       ∙ content_behind now array serial count_slot (Number (pos count)) now_kept
+
+pub follows_counting : (objects : List (Option Object)) (array : Object) (serial to : ℕ) → is_number (content_at objects serial count_slot) ≡ true → IsTrue (is_kept objects serial)
+    → (allows : ℕ → ℕ → Bool) (count : ℕ) → Follows allows (counting (referring objects serial to) serial count ++ Some array ∷ []) → FollowsFrom allows (referring objects serial to ++ Some array ∷ []) serial
+follows_counting objects array serial to counts there allows count follows =
+    let now : List (Option Object) = referring objects serial to ++ Some array ∷ [] in
+    let after : List (Option Object) = counting (referring objects serial to) serial count ++ Some array ∷ [] in
+    number_before allows now serial count_slot (Number (pos count)) (counts_there objects array serial to counts there now refl serial refl)
+    (subst (λ objects. FollowsFrom allows objects serial) (sym (counted_there objects array serial to counts there now refl serial refl count)) (follows_one allows after serial follows))
 
 -- ---- an array that is there
 

@@ -3,6 +3,7 @@ use Rattle.std.proofs.Common.{◌≡◌, ◌∙◌, ap, arith, refl, sym, rules,
 use Rattle.std.proofs.lemmas.Bool.{false≢true}
 use Rattle.std.specs.List.{AllByRecursion}
 use Rattle.std.specs.declared.result.Result.TheVariants.{Err, Ok}
+use Rattle.cb_heap.specs.Follows.{Follows}
 use Rattle.cb_heap.specs.Kept.{is_held}
 use Rattle.cb_heap.specs.Reading.{serial_of}
 use Rattle.cb_heap.specs.Rules.{Rules}
@@ -23,7 +24,7 @@ use Rattle.cb_plain.specs.declared.value.Value.{Value}
 use Rattle.cb_plain.specs.declared.want.Want.{Want}
 use Rattle.cb_natives.specs.Answers.{Beside}
 use Rattle.cb_natives.specs.Exceptions.{site_of}
-use Rattle.cb_natives.specs.Making.{Asks, Performs, Throws, facts_behind, given_back, machine_in, state_in}
+use Rattle.cb_natives.specs.Making.{Asks, MayLeave, Performs, Throws, facts_behind, given_back, machine_in, state_in}
 use Rattle.cb_natives.specs.MakingOwn.{Decides, MayChange, call_of, itself, itself_at, made_by, makes_own, objects_behind, planned, wanted_by}
 use Rattle.cb_natives.specs.Pieces.{text_units}
 use Rattle.cb_natives.specs.declared.answers.Exception.{Exception}
@@ -113,6 +114,11 @@ module _ (program : Linked) (objects : List (Option Object)) (index : ℕ → �
         let same : Some (Gives makes.own makes.answer) ≡ Some (Gives (plan_of 0 roots [] []) (itself own.gives serial)) = sym makes.is ∙ does roots 0 [] [] in
         let plans : makes.own ≡ plan_of 0 roots [] [] = cc same in
         sym makes.asks ∙ ap asked plans ∙ wants_so roots 0 [] []
+
+    pub leaves_so : (roots : Roots) (allows : ℕ → ℕ → Bool) → MayLeave program allows (record { roots = roots; objects = objects }) native arguments
+        → Follows allows (objects_behind (made_by program objects index serial own.change))
+    leaves_so roots allows leaves =
+        leaves.each (plan_of leaves.frames roots leaves.input leaves.printed) (itself own.gives serial) (does roots leaves.frames leaves.input leaves.printed)
 
     pub performs_so : {Facts : Type 0} (rules : Rules Facts) (facts : Facts) (kept : List (Option Object)) (now : Facts) (answer : List Value)
         → kept ≡ objects_behind (made_by program objects index serial own.change) → now ≡ facts_behind rules facts (made_by program objects index serial own.change).placed

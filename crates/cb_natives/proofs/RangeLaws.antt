@@ -11,8 +11,10 @@ use Rattle.cb_plain.specs.State.{Content, Number, Object}
 use Rattle.cb_plain.specs.Updates.{with_contents_in}
 use Rattle.cb_plain.specs.declared.shape.Shape.{Shape}
 use Rattle.cb_natives.specs.Copies.{MayCopy, RefersHeld, copied, holds, refers_at, word_of, words_from}
+use Rattle.cb_natives.specs.Following.{FollowsFrom, MayRefer}
 use Rattle.cb_natives.proofs.Changes.{contents_other, contents_with, held_changed, same_or, with_same, with_twice}
 use Rattle.cb_natives.proofs.CopyLaws.{refers_still, word_read}
+use Rattle.cb_natives.proofs.FollowLaws.{may_copy}
 use Rattle.cb_natives.proofs.Overwriting.{over, over_first, over_length, over_none, over_over, over_past, over_set}
 
 -- ---- behind what was written
@@ -81,6 +83,12 @@ module _ (objects : List (Option Object)) (shape : Shape) (source start to at co
         (λ serial. ap (λ now. is_held now serial) before ∙ held_changed objects to serial (over (contents_at objects to) at front))
         (may.held place low))
 
+    pub up_may : (allows : ℕ → ℕ → Bool) → FollowsFrom allows (copied objects source start to at count) to → MayRefer allows now to (content_at now source (start + place))
+    up_may allows follows =
+        subst (MayRefer allows now to) (sym source_same)
+        (subst (λ now. MayRefer allows now to (content_at objects source (start + place))) (sym before)
+        (may_copy allows objects shape source start to at count may follows (over (contents_at objects to) at front) place low (content_at objects source (start + place)) refl))
+
     word_so : word_of (content_at now source (start + place)) ≡ get_or (drop start (contents_at objects source)) place (Number (pos 0))
     word_so =
         ap word_of source_same
@@ -125,6 +133,13 @@ module _ (objects : List (Option Object)) (index later : ℕ → ℕ) (shape : S
   up_held_there =
       subst (λ index. RefersHeld now (content_at now (serial_of index source) (start + place))) (sym places)
       (up_held objects shape (serial_of index source) start (serial_of index to) at count may order now place before low)
+
+  pub up_may_there : (allows after : ℕ → ℕ → Bool) → after ≡ allows → FollowsFrom allows (copied objects (serial_of index source) start (serial_of index to) at count) (serial_of index to)
+      → MayRefer after now (serial_of later to) (content_at now (serial_of later source) (start + place))
+  up_may_there allows after same follows =
+      subst (λ (allows : ℕ → ℕ → Bool). MayRefer allows now (serial_of later to) (content_at now (serial_of later source) (start + place))) (sym same)
+      (subst (λ index. MayRefer allows now (serial_of index to) (content_at now (serial_of index source) (start + place))) (sym places)
+      (up_may objects shape (serial_of index source) start (serial_of index to) at count may order now place before low allows follows))
 
   pub up_copied_there : (then : List (Option Object)) → then ≡ with_content now (serial_of later to) (at + place) (word_of (content_at now (serial_of later source) (start + place)))
       → then ≡ copied objects (serial_of index source) start (serial_of index to) at (place + 1)

@@ -35,9 +35,11 @@ pub record Took (before now : Option (List ℕ)) (count : ℕ) (bytes : List ℕ
   pub consumes : Consumes before now bytes
   pub end : length bytes < count → IsAtEnd now
 
--- some were taken
-abbrev pub Loses : (before now : Option (List ℕ)) → Type 0
-Loses before now = (front : List ℕ) × Consumes before now front
+-- fewer than so many were taken
+pub record Loses (count : ℕ) (before now : Option (List ℕ)) : Type 0 where
+  pub front : List ℕ
+  pub few : length front < count
+  pub consumes : Consumes before now front
 
 -- ---- the parts of it
 

@@ -4,6 +4,7 @@ pub mod Copies
 pub mod Enums
 pub mod Equal
 pub mod Exceptions
+pub mod Following
 pub mod Given
 pub mod Input
 pub mod Makers

@@ -1,8 +1,9 @@
 -- What natives do that place objects or change them: which room is asked for, and what is left (Java SE 8 API, java.lang).
-use Rattle.std.specs.Prelude.{◌≡◌, ◌<◌, ◌≤◌, ◌^◌, ℕ, ◌+◌, true, false, List, [], ◌∷◌, length, Option, Some, None, slice_get}
+use Rattle.std.specs.Prelude.{◌≡◌, ◌<◌, ◌≤◌, ◌^◌, ℕ, ◌+◌, Bool, true, false, List, [], ◌∷◌, length, Option, Some, None, slice_get}
 use Rattle.std.specs.List.{flat_map, fold}
 use Rattle.std.specs.declared.result.Result.{Result}
 use Rattle.std.specs.declared.result.Result.TheVariants.{Err, Ok}
+use Rattle.cb_heap.specs.Follows.{Follows}
 use Rattle.cb_heap.specs.Reading.{View, serial_of}
 use Rattle.cb_heap.specs.Rules.{Rules}
 use Rattle.cb_library.specs.declared.native.Native.{Native}
@@ -76,6 +77,16 @@ abbrev pub Performs : {Facts : Type 0} → Rules Facts → Linked → Native →
 Performs rules program native arguments before facts after now answer =
     (frames : ℕ) → (input printed : List ℕ)
     → Made rules (machine_in program frames) native arguments (state_in before input printed) facts (state_in after input printed) now answer
+
+-- where the native gives an answer, the references of what it leaves follow what sites allow: with some limit of frames, and some bytes that
+-- were read and printed
+pub record MayLeave (program : Linked) (allows : ℕ → ℕ → Bool) (view : View) (native : Native) (arguments : List Value) : Type 0 where
+  pub frames : ℕ
+  pub input : List ℕ
+  pub printed : List ℕ
+  pub each : (own : Plan) (answer : List Value)
+      → performed (machine_in program frames) (state_in view input printed) native arguments ≡ Some (Gives own answer)
+      → Follows allows (made own).objects
 
 -- room was made as it was asked for
 pub record HasRoom (objects : List (Option Object)) (wants room : List Want) : Type 0 where

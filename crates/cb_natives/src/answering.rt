@@ -17,10 +17,10 @@ use cb_plain::Value;
 pub fn answer<S: Store>(store: &S, native: Native, arguments: &[Value]) -> Result<Answer, Thrown>
     requires gives { gives_answer native ≡ true }
     requires sorts { have_sorts (sorts_of native) arguments.now ≡ true }
-    requires given { AreGiven (S.kept store.now) (roles native) (map (read_value
-        (S.index store.now)) arguments.now) }
-    requires core { HasCore (S.kept store.now) }
-    ensures { Tells (S.kept store.now) native (map (read_value (S.index store.now)) arguments.now) result }
+    requires given { AreGiven (S.storage store.now).kept (roles native) (map (read_value
+        (S.storage store.now).index) arguments.now) }
+    requires core { HasCore (S.storage store.now).kept }
+    ensures { Tells (S.storage store.now).kept native (map (read_value (S.storage store.now).index) arguments.now) result }
 {
     match native {
         Native::ObjectHashCode | Native::SystemIdentityHashCode | Native::EnumHashCode => {

@@ -1,6 +1,6 @@
 // What natives do that give a copy of the words of an object, or keep one with one word more (Java SE 8 API, String.toCharArray,
 // Object.clone, Throwable.addSuppressed and getSuppressed).
-ghost use Rattle.std.specs.Prelude.{◌≡◌, ◌≤◌, ◌∷◌, [], ℕ, length, map, true, IsTrue};
+ghost use Rattle.std.specs.Prelude.{◌≡◌, ◌≤◌, ◌∷◌, [], length, map, true, IsTrue};
 ghost use Rattle.cb_heap.specs.Kept.{contents_at, is_held};
 ghost use Rattle.cb_heap.specs.Reading.{read_value, serial_of};
 ghost use Rattle.cb_library.specs.declared.native.Native.TheVariants as natives;
@@ -38,11 +38,11 @@ pub(crate) fn copying_of<S: Store>(
     requires known { 32 ≤ length (site_kinds program.now) }
     requires makes { makes_array native ≡ true }
     requires sorts { have_sorts (sorts_of native) arguments.now ≡ true }
-    requires given { AreGiven (S.kept store.now) (roles native) (map (read_value
-        (S.index store.now)) arguments.now) }
-    requires laid { AreLaid program.now (S.kept store.now) native (map (read_value
-        (S.index store.now)) arguments.now) }
-    ensures { DecidesCopy program.now (S.kept store.now) (S.index store.now) (λ call. array_native call native (map (read_value (S.index store.now)) arguments.now)) result }
+    requires given { AreGiven (S.storage store.now).kept (roles native) (map (read_value
+        (S.storage store.now).index) arguments.now) }
+    requires laid { AreLaid program.now (S.storage store.now).kept native (map (read_value
+        (S.storage store.now).index) arguments.now) }
+    ensures { DecidesCopy program.now (S.storage store.now).kept (S.storage store.now).index (λ call. array_native call native (map (read_value (S.storage store.now).index) arguments.now)) result }
 {
     match native {
         Native::ObjectClone => clone_of(program, store, reference(arguments)),
@@ -58,9 +58,9 @@ pub(crate) fn copying_of<S: Store>(
 
 /// `Object.clone()`.
 fn clone_of<S: Store>(program: &Program, store: &S, at: u64) -> Result<Copying, Exception>
-    requires object { IsReference (S.kept store.now) AnObject (serial_of (S.index store.now) at) }
-    requires may { (serial_of (S.index store.now) at ≡ 0 → ⊥) → MayClone program.now (S.kept store.now) (serial_of (S.index store.now) at) }
-    ensures { DecidesCopy program.now (S.kept store.now) (S.index store.now) (λ call. array_native call natives.ObjectClone (values.Ref (serial_of (S.index store.now) at) ∷ [])) result }
+    requires object { IsReference (S.storage store.now).kept AnObject (serial_of (S.storage store.now).index at) }
+    requires may { (serial_of (S.storage store.now).index at ≡ 0 → ⊥) → MayClone program.now (S.storage store.now).kept (serial_of (S.storage store.now).index at) }
+    ensures { DecidesCopy program.now (S.storage store.now).kept (S.storage store.now).index (λ call. array_native call natives.ObjectClone (values.Ref (serial_of (S.storage store.now).index at) ∷ [])) result }
 {
     if at == 0 {
         return Err(Exception::NullPointer);
@@ -80,8 +80,8 @@ fn clone_of<S: Store>(program: &Program, store: &S, at: u64) -> Result<Copying, 
 /// `String.toCharArray()`.
 fn chars_copy<S: Store>(program: &Program, store: &S, at: u64) -> Result<Copying, Exception>
     requires known { 32 ≤ length (site_kinds program.now) }
-    requires string { IsReference (S.kept store.now) AText (serial_of (S.index store.now) at) }
-    ensures { DecidesCopy program.now (S.kept store.now) (S.index store.now) (λ call. array_native call natives.StringToCharArray (values.Ref (serial_of (S.index store.now) at) ∷ [])) result }
+    requires string { IsReference (S.storage store.now).kept AText (serial_of (S.storage store.now).index at) }
+    ensures { DecidesCopy program.now (S.storage store.now).kept (S.storage store.now).index (λ call. array_native call natives.StringToCharArray (values.Ref (serial_of (S.storage store.now).index at) ∷ [])) result }
 {
     if at == 0 {
         return Err(Exception::NullPointer);
@@ -98,9 +98,9 @@ fn chars_copy<S: Store>(program: &Program, store: &S, at: u64) -> Result<Copying
 /// `Throwable.getSuppressed()`.
 fn suppressed_copy<S: Store>(program: &Program, store: &S, at: u64) -> Result<Copying, Exception>
     requires known { 32 ≤ length (site_kinds program.now) }
-    requires exception { IsReference (S.kept store.now) AThrowable (serial_of (S.index store.now) at) }
-    requires holds { (serial_of (S.index store.now) at ≡ 0 → ⊥) → HoldsSuppressed (S.kept store.now) (serial_of (S.index store.now) at) }
-    ensures { DecidesCopy program.now (S.kept store.now) (S.index store.now) (λ call. array_native call natives.ThrowableGetSuppressed (values.Ref (serial_of (S.index store.now) at) ∷ [])) result }
+    requires exception { IsReference (S.storage store.now).kept AThrowable (serial_of (S.storage store.now).index at) }
+    requires holds { (serial_of (S.storage store.now).index at ≡ 0 → ⊥) → HoldsSuppressed (S.storage store.now).kept (serial_of (S.storage store.now).index at) }
+    ensures { DecidesCopy program.now (S.storage store.now).kept (S.storage store.now).index (λ call. array_native call natives.ThrowableGetSuppressed (values.Ref (serial_of (S.storage store.now).index at) ∷ [])) result }
 {
     if at == 0 {
         return Err(Exception::NullPointer);
@@ -121,10 +121,10 @@ fn with_suppressed<S: Store>(
     at: u64,
     other: u64,
 ) -> Result<Copying, Exception>
-    requires exception { IsReference (S.kept store.now) AThrowable (serial_of (S.index store.now) at) }
-    requires other { IsReference (S.kept store.now) AThrowable (serial_of (S.index store.now) other) }
-    requires holds { (serial_of (S.index store.now) at ≡ 0 → ⊥) → HoldsSuppressed (S.kept store.now) (serial_of (S.index store.now) at) }
-    ensures { DecidesCopy program.now (S.kept store.now) (S.index store.now) (λ call. array_native call natives.ThrowableAddSuppressed (values.Ref (serial_of (S.index store.now) at) ∷ values.Ref (serial_of (S.index store.now) other) ∷ [])) result }
+    requires exception { IsReference (S.storage store.now).kept AThrowable (serial_of (S.storage store.now).index at) }
+    requires other { IsReference (S.storage store.now).kept AThrowable (serial_of (S.storage store.now).index other) }
+    requires holds { (serial_of (S.storage store.now).index at ≡ 0 → ⊥) → HoldsSuppressed (S.storage store.now).kept (serial_of (S.storage store.now).index at) }
+    ensures { DecidesCopy program.now (S.storage store.now).kept (S.storage store.now).index (λ call. array_native call natives.ThrowableAddSuppressed (values.Ref (serial_of (S.storage store.now).index at) ∷ values.Ref (serial_of (S.storage store.now).index other) ∷ [])) result }
 {
     let _ = program;
     if other == 0 {
@@ -151,8 +151,8 @@ fn with_suppressed<S: Store>(
 
 /// How many words an object has, none where it is null.
 fn count_words<S: Store>(store: &S, at: u64) -> u32
-    requires { IsTrue (is_held (S.kept store.now) (serial_of (S.index store.now) at)) }
-    ensures { result ≡ length (contents_at (S.kept store.now) (serial_of (S.index store.now) at)) }
+    requires { IsTrue (is_held (S.storage store.now).kept (serial_of (S.storage store.now).index at)) }
+    ensures { result ≡ length (contents_at (S.storage store.now).kept (serial_of (S.storage store.now).index at)) }
 {
     if at == 0 { 0 } else { store.length(at) }
 }

@@ -1,5 +1,5 @@
 // The ranges of arrays between which `System.arraycopy` copies (Java SE 8 API, java.lang.System).
-ghost use Rattle.std.specs.Prelude.{◌≡◌, ◌∷◌, [], ℕ, IfSome, length};
+ghost use Rattle.std.specs.Prelude.{◌≡◌, ◌∷◌, [], IfSome, length};
 ghost use Rattle.cb_heap.specs.Reading.{serial_of};
 ghost use Rattle.cb_library.specs.declared.native.Native.TheVariants as natives;
 ghost use Rattle.cb_link.specs.Having.{IsBelow};
@@ -37,9 +37,9 @@ pub(crate) fn ranges_of<S: Store>(
     at: i32,
     count: i32,
 ) -> Result<Ranges, Exception>
-    requires source { (serial_of (S.index store.now) source ≡ 0 → ⊥) → IsOfKind program.now (S.kept store.now) (serial_of (S.index store.now) source) }
-    requires target { (serial_of (S.index store.now) to ≡ 0 → ⊥) → IsOfKind program.now (S.kept store.now) (serial_of (S.index store.now) to) }
-    ensures { DecidesRanges program.now (S.kept store.now) (S.index store.now) (λ call. array_native call natives.SystemArraycopy (values.Ref (serial_of (S.index store.now) source) ∷ values.Int from ∷ values.Ref (serial_of (S.index store.now) to) ∷ values.Int at ∷ values.Int count ∷ [])) result }
+    requires source { (serial_of (S.storage store.now).index source ≡ 0 → ⊥) → IsOfKind program.now (S.storage store.now).kept (serial_of (S.storage store.now).index source) }
+    requires target { (serial_of (S.storage store.now).index to ≡ 0 → ⊥) → IsOfKind program.now (S.storage store.now).kept (serial_of (S.storage store.now).index to) }
+    ensures { DecidesRanges program.now (S.storage store.now).kept (S.storage store.now).index (λ call. array_native call natives.SystemArraycopy (values.Ref (serial_of (S.storage store.now).index source) ∷ values.Int from ∷ values.Ref (serial_of (S.storage store.now).index to) ∷ values.Int at ∷ values.Int count ∷ [])) result }
 {
     if source == 0 {
         return Err(Exception::NullPointer);
@@ -68,9 +68,9 @@ pub(crate) fn ranges_of<S: Store>(
 
 /// The elements of the second of two objects, where both are arrays of one base type, or both of references.
 fn common_elements<S: Store>(program: &Program, store: &S, source: u64, to: u64) -> Option<Basic>
-    requires source { IsOfKind program.now (S.kept store.now) (serial_of (S.index store.now) source) }
-    requires target { IsOfKind program.now (S.kept store.now) (serial_of (S.index store.now) to) }
-    ensures is { result ≡ common_elements (elements_at program.now (S.kept store.now) (serial_of (S.index store.now) source)) (elements_at program.now (S.kept store.now) (serial_of (S.index store.now) to)) }
+    requires source { IsOfKind program.now (S.storage store.now).kept (serial_of (S.storage store.now).index source) }
+    requires target { IsOfKind program.now (S.storage store.now).kept (serial_of (S.storage store.now).index to) }
+    ensures is { result ≡ common_elements (elements_at program.now (S.storage store.now).kept (serial_of (S.storage store.now).index source)) (elements_at program.now (S.storage store.now).kept (serial_of (S.storage store.now).index to)) }
     ensures within { IfSome result (IsBelow (length program.now.kinds)) }
 {
     let Some(one) = program.element(store.kind(source)) else {

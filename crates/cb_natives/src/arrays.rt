@@ -8,7 +8,7 @@ ghost use Rattle.cb_link.specs.Having.{site_kinds};
 ghost use Rattle.cb_plain.specs.State.{Roots};
 ghost use Rattle.cb_plain.specs.declared.want.Want.{Want};
 ghost use Rattle.cb_natives.specs.Given.{AreGiven, have_sorts, roles, sorts_of};
-ghost use Rattle.cb_natives.specs.Making.{Asks, HasRoom, MayMake, Performs, Planned, given_back};
+ghost use Rattle.cb_natives.specs.Making.{Asks, HasRoom, MayLeave, MayMake, Performs, Planned, given_back};
 ghost use Rattle.cb_natives.specs.MakingArrays.{AreLaid, MayHold, makes_array, wanted_by};
 
 use crate::Exception;
@@ -47,12 +47,12 @@ pub(crate) fn plan_array<S: Store>(
     requires known { 32 ≤ length (site_kinds program.now) }
     requires makes { makes_array native ≡ true }
     requires sorts { have_sorts (sorts_of native) arguments.now ≡ true }
-    requires given { AreGiven (S.kept store.now) (roles native) (map (read_value
-        (S.index store.now)) arguments.now) }
-    requires laid { AreLaid program.now (S.kept store.now) native (map (read_value
-        (S.index store.now)) arguments.now) }
-    ensures planned { (roots : Roots) → Planned program.now (record { roots = roots; objects = S.kept store.now }) native (map (read_value
-        (S.index store.now)) arguments.now) request.new result }
+    requires given { AreGiven (S.storage store.now).kept (roles native) (map (read_value
+        (S.storage store.now).index) arguments.now) }
+    requires laid { AreLaid program.now (S.storage store.now).kept native (map (read_value
+        (S.storage store.now).index) arguments.now) }
+    ensures planned { (roots : Roots) → Planned program.now (record { roots = roots; objects = (S.storage store.now).kept }) native (map (read_value
+        (S.storage store.now).index) arguments.now) request.new result }
     ensures sites { OnOk result (AllByRecursion (λ (want : Want). want.site < length (site_kinds program.now)) request.new) }
 {
     request.clear();
@@ -90,24 +90,22 @@ pub(crate) fn run_array<S: Store>(
     ghost asked: { Roots × List Want }
     requires makes { makes_array native ≡ true }
     requires sorts { have_sorts (sorts_of native) arguments.now ≡ true }
-    requires given { AreGiven (S.kept store.old) (roles native) (map (read_value
-        (S.index store.old)) arguments.now) }
-    requires laid { AreLaid program.now (S.kept store.old) native (map (read_value
-        (S.index store.old)) arguments.now) }
-    requires asks { Asks program.now (record { roots = asked.0; objects = S.kept store.old }) native (map (read_value
-        (S.index store.old)) arguments.now) asked.1 }
-    requires room { (asked.1 ≡ [] → ⊥) → HasRoom (S.kept store.old) asked.1 (S.granted store.old) }
-    requires shaped { MayMake program.now (S.shapes store.old) }
-    requires holds { MayHold program.now (S.shapes store.old) }
-    requires allowed { (one other : ℕ) → S.allows store.old one other ≡ true }
-    ensures made { (roots : Roots) → Performs S.rules program.now native (map (read_value (S.index store.old)) arguments.now)
-        (record { roots = roots; objects = S.kept store.old }) (S.facts store.old) (record { roots = roots; objects = S.kept store.new }) (S.facts store.new)
-        (given_back (S.index store.new) result) }
-    ensures places { ReadsAsBefore (S.kept store.old) (S.index store.old) (S.index store.new) }
-    ensures faults { S.faults store.new ≡ S.faults store.old }
-    ensures knows { S.knows store.new ≡ S.knows store.old }
-    ensures allows { S.allows store.new ≡ S.allows store.old }
-    ensures shapes { S.shapes store.new ≡ S.shapes store.old }
+    requires given { AreGiven (S.storage store.old).kept (roles native) (map (read_value
+        (S.storage store.old).index) arguments.now) }
+    requires laid { AreLaid program.now (S.storage store.old).kept native (map (read_value
+        (S.storage store.old).index) arguments.now) }
+    requires asks { Asks program.now (record { roots = asked.0; objects = (S.storage store.old).kept }) native (map (read_value
+        (S.storage store.old).index) arguments.now) asked.1 }
+    requires room { (asked.1 ≡ [] → ⊥) → HasRoom (S.storage store.old).kept asked.1 (S.storage store.old).granted }
+    requires shaped { MayMake program.now (S.storage store.old).settings.shapes }
+    requires holds { MayHold program.now (S.storage store.old).settings.shapes }
+    requires follows { MayLeave program.now (S.storage store.old).settings.allows (record { roots = asked.0; objects = (S.storage store.old).kept }) native (map (read_value (S.storage store.old).index) arguments.now) }
+    ensures made { (roots : Roots) → Performs S.rules program.now native (map (read_value (S.storage store.old).index) arguments.now)
+        (record { roots = roots; objects = (S.storage store.old).kept }) (S.storage store.old).facts (record { roots = roots; objects = (S.storage store.new).kept }) (S.storage store.new).facts
+        (given_back (S.storage store.new).index result) }
+    ensures places { ReadsAsBefore (S.storage store.old).kept (S.storage store.old).index (S.storage store.new).index }
+    ensures faults { (S.storage store.new).faults ≡ (S.storage store.old).faults }
+    ensures settings { (S.storage store.new).settings ≡ (S.storage store.old).settings }
 {
     let Ok(copying) = copying_of(program, store, native, arguments) else {
         unreachable!()

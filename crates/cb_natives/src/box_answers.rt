@@ -43,25 +43,25 @@ pub(crate) fn compare_longs(one: i64, other: i64) -> Answer
 
 /// What a box of an int, a char or a boolean holds.
 pub(crate) fn int_held<S: Store, B: Holds>(store: &S, at: u64) -> Result<Answer, Thrown>
-    requires { IsReference (S.kept store.now) (ABox B.basic) (serial_of (S.index store.now) at) }
-    ensures { (machine : Machine) (beside : Beside) → on_number (call_on machine (S.kept store.now) beside) (serial_of (S.index store.now) at) (gives_int (call_on machine (S.kept store.now) beside))
-        ≡ answered (call_on machine (S.kept store.now) beside) result }
+    requires { IsReference (S.storage store.now).kept (ABox B.basic) (serial_of (S.storage store.now).index at) }
+    ensures { (machine : Machine) (beside : Beside) → on_number (call_on machine (S.storage store.now).kept beside) (serial_of (S.storage store.now).index at) (gives_int (call_on machine (S.storage store.now).kept beside))
+        ≡ answered (call_on machine (S.storage store.now).kept beside) result }
 {
     Ok(Answer::Int(held_int::<S, B>(store, at)?))
 }
 
 /// `longValue` of an Integer.
 pub(crate) fn int_as_long<S: Store>(store: &S, at: u64) -> Result<Answer, Thrown>
-    requires { IsReference (S.kept store.now) (ABox basics.Int) (serial_of (S.index store.now) at) }
-    ensures { Tells (S.kept store.now) natives.IntegerLongValue (values.Ref (serial_of (S.index store.now) at) ∷ []) result }
+    requires { IsReference (S.storage store.now).kept (ABox basics.Int) (serial_of (S.storage store.now).index at) }
+    ensures { Tells (S.storage store.now).kept natives.IntegerLongValue (values.Ref (serial_of (S.storage store.now).index at) ∷ []) result }
 {
     Ok(Answer::Long(i64::from(held_int::<S, OfInt>(store, at)?)))
 }
 
 /// `hashCode` of a Boolean.
 pub(crate) fn boolean_hash<S: Store>(store: &S, at: u64) -> Result<Answer, Thrown>
-    requires { IsReference (S.kept store.now) (ABox basics.Boolean) (serial_of (S.index store.now) at) }
-    ensures { Tells (S.kept store.now) natives.BooleanHashCode (values.Ref (serial_of (S.index store.now) at) ∷ []) result }
+    requires { IsReference (S.storage store.now).kept (ABox basics.Boolean) (serial_of (S.storage store.now).index at) }
+    ensures { Tells (S.storage store.now).kept natives.BooleanHashCode (values.Ref (serial_of (S.storage store.now).index at) ∷ []) result }
 {
     let number = held_int::<S, OfBoolean>(store, at)?;
     Ok(Answer::Int(if number == 0 { 1237 } else { 1231 }))
@@ -69,33 +69,33 @@ pub(crate) fn boolean_hash<S: Store>(store: &S, at: u64) -> Result<Answer, Throw
 
 /// `longValue` of a Long.
 pub(crate) fn long_held<S: Store>(store: &S, at: u64) -> Result<Answer, Thrown>
-    requires { IsReference (S.kept store.now) ALongBox (serial_of (S.index store.now) at) }
-    ensures { Tells (S.kept store.now) natives.LongLongValue (values.Ref (serial_of (S.index store.now) at) ∷ []) result }
+    requires { IsReference (S.storage store.now).kept ALongBox (serial_of (S.storage store.now).index at) }
+    ensures { Tells (S.storage store.now).kept natives.LongLongValue (values.Ref (serial_of (S.storage store.now).index at) ∷ []) result }
 {
     Ok(Answer::Long(held_long(store, at)?))
 }
 
 /// `intValue` of a Long.
 pub(crate) fn long_as_int<S: Store>(store: &S, at: u64) -> Result<Answer, Thrown>
-    requires { IsReference (S.kept store.now) ALongBox (serial_of (S.index store.now) at) }
-    ensures { Tells (S.kept store.now) natives.LongIntValue (values.Ref (serial_of (S.index store.now) at) ∷ []) result }
+    requires { IsReference (S.storage store.now).kept ALongBox (serial_of (S.storage store.now).index at) }
+    ensures { Tells (S.storage store.now).kept natives.LongIntValue (values.Ref (serial_of (S.storage store.now).index at) ∷ []) result }
 {
     Ok(Answer::Int(low_int(held_long(store, at)?)))
 }
 
 /// `hashCode` of a Long.
 pub(crate) fn hash_of_long<S: Store>(store: &S, at: u64) -> Result<Answer, Thrown>
-    requires { IsReference (S.kept store.now) ALongBox (serial_of (S.index store.now) at) }
-    ensures { Tells (S.kept store.now) natives.LongHashCode (values.Ref (serial_of (S.index store.now) at) ∷ []) result }
+    requires { IsReference (S.storage store.now).kept ALongBox (serial_of (S.storage store.now).index at) }
+    ensures { Tells (S.storage store.now).kept natives.LongHashCode (values.Ref (serial_of (S.storage store.now).index at) ∷ []) result }
 {
     Ok(Answer::Int(long_hash(held_long(store, at)?)))
 }
 
 /// `compareTo` of Integers.
 pub(crate) fn compare_integers<S: Store>(store: &S, at: u64, other: u64) -> Result<Answer, Thrown>
-    requires own { IsReference (S.kept store.now) (ABox basics.Int) (serial_of (S.index store.now) at) }
-    requires other { IsReference (S.kept store.now) (ABox basics.Int) (serial_of (S.index store.now) other) }
-    ensures { Tells (S.kept store.now) natives.IntegerCompareTo (values.Ref (serial_of (S.index store.now) at) ∷ values.Ref (serial_of (S.index store.now) other) ∷ []) result }
+    requires own { IsReference (S.storage store.now).kept (ABox basics.Int) (serial_of (S.storage store.now).index at) }
+    requires other { IsReference (S.storage store.now).kept (ABox basics.Int) (serial_of (S.storage store.now).index other) }
+    ensures { Tells (S.storage store.now).kept natives.IntegerCompareTo (values.Ref (serial_of (S.storage store.now).index at) ∷ values.Ref (serial_of (S.storage store.now).index other) ∷ []) result }
 {
     let second = held_int::<S, OfInt>(store, other)?;
     let first = held_int::<S, OfInt>(store, at)?;
@@ -104,9 +104,9 @@ pub(crate) fn compare_integers<S: Store>(store: &S, at: u64, other: u64) -> Resu
 
 /// `compareTo` of Longs.
 pub(crate) fn compare_long_boxes<S: Store>(store: &S, at: u64, other: u64) -> Result<Answer, Thrown>
-    requires own { IsReference (S.kept store.now) ALongBox (serial_of (S.index store.now) at) }
-    requires other { IsReference (S.kept store.now) ALongBox (serial_of (S.index store.now) other) }
-    ensures { Tells (S.kept store.now) natives.LongCompareTo (values.Ref (serial_of (S.index store.now) at) ∷ values.Ref (serial_of (S.index store.now) other) ∷ []) result }
+    requires own { IsReference (S.storage store.now).kept ALongBox (serial_of (S.storage store.now).index at) }
+    requires other { IsReference (S.storage store.now).kept ALongBox (serial_of (S.storage store.now).index other) }
+    ensures { Tells (S.storage store.now).kept natives.LongCompareTo (values.Ref (serial_of (S.storage store.now).index at) ∷ values.Ref (serial_of (S.storage store.now).index other) ∷ []) result }
 {
     let second = held_long(store, other)?;
     let first = held_long(store, at)?;
@@ -115,9 +115,9 @@ pub(crate) fn compare_long_boxes<S: Store>(store: &S, at: u64, other: u64) -> Re
 
 /// `compareTo` of Characters: the difference of their units.
 pub(crate) fn compare_characters<S: Store>(store: &S, at: u64, other: u64) -> Result<Answer, Thrown>
-    requires own { IsReference (S.kept store.now) (ABox basics.Char) (serial_of (S.index store.now) at) }
-    requires other { IsReference (S.kept store.now) (ABox basics.Char) (serial_of (S.index store.now) other) }
-    ensures { Tells (S.kept store.now) natives.CharacterCompareTo (values.Ref (serial_of (S.index store.now) at) ∷ values.Ref (serial_of (S.index store.now) other) ∷ []) result }
+    requires own { IsReference (S.storage store.now).kept (ABox basics.Char) (serial_of (S.storage store.now).index at) }
+    requires other { IsReference (S.storage store.now).kept (ABox basics.Char) (serial_of (S.storage store.now).index other) }
+    ensures { Tells (S.storage store.now).kept natives.CharacterCompareTo (values.Ref (serial_of (S.storage store.now).index at) ∷ values.Ref (serial_of (S.storage store.now).index other) ∷ []) result }
 {
     let second = held_int::<S, OfChar>(store, other)?;
     let first = held_int::<S, OfChar>(store, at)?;
@@ -126,9 +126,9 @@ pub(crate) fn compare_characters<S: Store>(store: &S, at: u64, other: u64) -> Re
 
 /// `compareTo` of Booleans: `false` is less.
 pub(crate) fn compare_booleans<S: Store>(store: &S, at: u64, other: u64) -> Result<Answer, Thrown>
-    requires own { IsReference (S.kept store.now) (ABox basics.Boolean) (serial_of (S.index store.now) at) }
-    requires other { IsReference (S.kept store.now) (ABox basics.Boolean) (serial_of (S.index store.now) other) }
-    ensures { Tells (S.kept store.now) natives.BooleanCompareTo (values.Ref (serial_of (S.index store.now) at) ∷ values.Ref (serial_of (S.index store.now) other) ∷ []) result }
+    requires own { IsReference (S.storage store.now).kept (ABox basics.Boolean) (serial_of (S.storage store.now).index at) }
+    requires other { IsReference (S.storage store.now).kept (ABox basics.Boolean) (serial_of (S.storage store.now).index other) }
+    ensures { Tells (S.storage store.now).kept natives.BooleanCompareTo (values.Ref (serial_of (S.storage store.now).index at) ∷ values.Ref (serial_of (S.storage store.now).index other) ∷ []) result }
 {
     let second = held_int::<S, OfBoolean>(store, other)?;
     let first = held_int::<S, OfBoolean>(store, at)?;
@@ -137,10 +137,10 @@ pub(crate) fn compare_booleans<S: Store>(store: &S, at: u64, other: u64) -> Resu
 
 /// `equals` of an Integer.
 pub(crate) fn equal_integers<S: Store>(store: &S, at: u64, other: u64) -> Result<Answer, Thrown>
-    requires own { IsReference (S.kept store.now) (ABox basics.Int) (serial_of (S.index store.now) at) }
-    requires other { IsTrue (is_held (S.kept store.now) (serial_of (S.index store.now) other)) }
-    requires core { HasCore (S.kept store.now) }
-    ensures { Tells (S.kept store.now) natives.IntegerEquals (values.Ref (serial_of (S.index store.now) at) ∷ values.Ref (serial_of (S.index store.now) other) ∷ []) result }
+    requires own { IsReference (S.storage store.now).kept (ABox basics.Int) (serial_of (S.storage store.now).index at) }
+    requires other { IsTrue (is_held (S.storage store.now).kept (serial_of (S.storage store.now).index other)) }
+    requires core { HasCore (S.storage store.now).kept }
+    ensures { Tells (S.storage store.now).kept natives.IntegerEquals (values.Ref (serial_of (S.storage store.now).index at) ∷ values.Ref (serial_of (S.storage store.now).index other) ∷ []) result }
 {
     let number = held_int::<S, OfInt>(store, at)?;
     Ok(truth(is_box_of(store, INTEGER, i64::from(number), other)))
@@ -148,10 +148,10 @@ pub(crate) fn equal_integers<S: Store>(store: &S, at: u64, other: u64) -> Result
 
 /// `equals` of a Long.
 pub(crate) fn equal_long_boxes<S: Store>(store: &S, at: u64, other: u64) -> Result<Answer, Thrown>
-    requires own { IsReference (S.kept store.now) ALongBox (serial_of (S.index store.now) at) }
-    requires other { IsTrue (is_held (S.kept store.now) (serial_of (S.index store.now) other)) }
-    requires core { HasCore (S.kept store.now) }
-    ensures { Tells (S.kept store.now) natives.LongEquals (values.Ref (serial_of (S.index store.now) at) ∷ values.Ref (serial_of (S.index store.now) other) ∷ []) result }
+    requires own { IsReference (S.storage store.now).kept ALongBox (serial_of (S.storage store.now).index at) }
+    requires other { IsTrue (is_held (S.storage store.now).kept (serial_of (S.storage store.now).index other)) }
+    requires core { HasCore (S.storage store.now).kept }
+    ensures { Tells (S.storage store.now).kept natives.LongEquals (values.Ref (serial_of (S.storage store.now).index at) ∷ values.Ref (serial_of (S.storage store.now).index other) ∷ []) result }
 {
     let number = held_long(store, at)?;
     Ok(truth(is_box_of(store, LONG, number, other)))
@@ -159,10 +159,10 @@ pub(crate) fn equal_long_boxes<S: Store>(store: &S, at: u64, other: u64) -> Resu
 
 /// `equals` of a Character.
 pub(crate) fn equal_characters<S: Store>(store: &S, at: u64, other: u64) -> Result<Answer, Thrown>
-    requires own { IsReference (S.kept store.now) (ABox basics.Char) (serial_of (S.index store.now) at) }
-    requires other { IsTrue (is_held (S.kept store.now) (serial_of (S.index store.now) other)) }
-    requires core { HasCore (S.kept store.now) }
-    ensures { Tells (S.kept store.now) natives.CharacterEquals (values.Ref (serial_of (S.index store.now) at) ∷ values.Ref (serial_of (S.index store.now) other) ∷ []) result }
+    requires own { IsReference (S.storage store.now).kept (ABox basics.Char) (serial_of (S.storage store.now).index at) }
+    requires other { IsTrue (is_held (S.storage store.now).kept (serial_of (S.storage store.now).index other)) }
+    requires core { HasCore (S.storage store.now).kept }
+    ensures { Tells (S.storage store.now).kept natives.CharacterEquals (values.Ref (serial_of (S.storage store.now).index at) ∷ values.Ref (serial_of (S.storage store.now).index other) ∷ []) result }
 {
     let number = held_int::<S, OfChar>(store, at)?;
     Ok(truth(is_box_of(store, CHARACTER, i64::from(number), other)))
@@ -170,10 +170,10 @@ pub(crate) fn equal_characters<S: Store>(store: &S, at: u64, other: u64) -> Resu
 
 /// `equals` of a Boolean.
 pub(crate) fn equal_booleans<S: Store>(store: &S, at: u64, other: u64) -> Result<Answer, Thrown>
-    requires own { IsReference (S.kept store.now) (ABox basics.Boolean) (serial_of (S.index store.now) at) }
-    requires other { IsTrue (is_held (S.kept store.now) (serial_of (S.index store.now) other)) }
-    requires core { HasCore (S.kept store.now) }
-    ensures { Tells (S.kept store.now) natives.BooleanEquals (values.Ref (serial_of (S.index store.now) at) ∷ values.Ref (serial_of (S.index store.now) other) ∷ []) result }
+    requires own { IsReference (S.storage store.now).kept (ABox basics.Boolean) (serial_of (S.storage store.now).index at) }
+    requires other { IsTrue (is_held (S.storage store.now).kept (serial_of (S.storage store.now).index other)) }
+    requires core { HasCore (S.storage store.now).kept }
+    ensures { Tells (S.storage store.now).kept natives.BooleanEquals (values.Ref (serial_of (S.storage store.now).index at) ∷ values.Ref (serial_of (S.storage store.now).index other) ∷ []) result }
 {
     let number = held_int::<S, OfBoolean>(store, at)?;
     Ok(truth(is_box_of(store, BOOLEAN, i64::from(number), other)))

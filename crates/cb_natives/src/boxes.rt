@@ -26,10 +26,10 @@ pub(crate) fn box_answer<S: Store>(
 ) -> Result<Answer, Thrown>
     requires gives { gives_box native ≡ true }
     requires sorts { have_sorts (sorts_of native) arguments.now ≡ true }
-    requires given { AreGiven (S.kept store.now) (roles native) (map (read_value
-        (S.index store.now)) arguments.now) }
-    requires core { HasCore (S.kept store.now) }
-    ensures { Tells (S.kept store.now) native (map (read_value (S.index store.now)) arguments.now) result }
+    requires given { AreGiven (S.storage store.now).kept (roles native) (map (read_value
+        (S.storage store.now).index) arguments.now) }
+    requires core { HasCore (S.storage store.now).kept }
+    ensures { Tells (S.storage store.now).kept native (map (read_value (S.storage store.now).index) arguments.now) result }
 {
     match native {
         Native::IntegerParseInt => parse_int(store, reference(arguments)),

@@ -1,8 +1,9 @@
 // Words of objects that are copied from one object to another.
-ghost use Rattle.std.specs.Prelude.{◌≡◌, ◌≤◌, ℕ, true};
-ghost use Rattle.cb_heap.specs.Kept.{content_at, is_kept, with_content};
+ghost use Rattle.std.specs.Prelude.{◌≡◌, ◌≤◌, true};
+ghost use Rattle.cb_heap.specs.Kept.{content_at, with_content};
 ghost use Rattle.cb_heap.specs.Reading.{serial_of};
 ghost use Rattle.cb_natives.specs.Copies.{HasWord, MayCopy, RefersHeld, copied, holds, refers_at, word_of};
+ghost use Rattle.cb_natives.specs.Following.{FollowsFrom, MayRefer};
 
 use cb_heap::Store;
 use cb_plain::Shape;
@@ -18,17 +19,15 @@ pub(crate) fn copy_words<S: Store>(
     at: u32,
     count: u32,
 )
-    requires may { MayCopy (S.kept store.old) shape.now (serial_of (S.index store.old) source) start (serial_of (S.index store.old) to) at count }
-    requires order { serial_of (S.index store.old) source ≡ serial_of (S.index store.old) to → start ≤ at }
-    requires allowed { (one other : ℕ) → S.allows store.old one other ≡ true }
-    ensures kept { S.kept store.new ≡ copied (S.kept store.old) (serial_of (S.index store.old) source) start (serial_of (S.index store.old) to) at count }
-    ensures places { S.index store.new ≡ S.index store.old }
-    ensures facts { S.facts store.new ≡ S.facts store.old }
-    ensures granted { S.granted store.new ≡ S.granted store.old }
-    ensures faults { S.faults store.new ≡ S.faults store.old }
-    ensures knows { S.knows store.new ≡ S.knows store.old }
-    ensures allows { S.allows store.new ≡ S.allows store.old }
-    ensures shapes { S.shapes store.new ≡ S.shapes store.old }
+    requires may { MayCopy (S.storage store.old).kept shape.now (serial_of (S.storage store.old).index source) start (serial_of (S.storage store.old).index to) at count }
+    requires order { serial_of (S.storage store.old).index source ≡ serial_of (S.storage store.old).index to → start ≤ at }
+    requires follows { FollowsFrom (S.storage store.old).settings.allows (copied (S.storage store.old).kept (serial_of (S.storage store.old).index source) start (serial_of (S.storage store.old).index to) at count) (serial_of (S.storage store.old).index to) }
+    ensures kept { (S.storage store.new).kept ≡ copied (S.storage store.old).kept (serial_of (S.storage store.old).index source) start (serial_of (S.storage store.old).index to) at count }
+    ensures places { (S.storage store.new).index ≡ (S.storage store.old).index }
+    ensures facts { (S.storage store.new).facts ≡ (S.storage store.old).facts }
+    ensures granted { (S.storage store.new).granted ≡ (S.storage store.old).granted }
+    ensures faults { (S.storage store.new).faults ≡ (S.storage store.old).faults }
+    ensures settings { (S.storage store.new).settings ≡ (S.storage store.old).settings }
 {
     let mut left = count;
     while left > 0 {
@@ -54,17 +53,15 @@ pub(crate) fn copy_up<S: Store>(
     at: u32,
     count: u32,
 )
-    requires may { MayCopy (S.kept store.old) shape.now (serial_of (S.index store.old) source) start (serial_of (S.index store.old) to) at count }
-    requires order { serial_of (S.index store.old) source ≡ serial_of (S.index store.old) to → at ≤ start }
-    requires allowed { (one other : ℕ) → S.allows store.old one other ≡ true }
-    ensures kept { S.kept store.new ≡ copied (S.kept store.old) (serial_of (S.index store.old) source) start (serial_of (S.index store.old) to) at count }
-    ensures places { S.index store.new ≡ S.index store.old }
-    ensures facts { S.facts store.new ≡ S.facts store.old }
-    ensures granted { S.granted store.new ≡ S.granted store.old }
-    ensures faults { S.faults store.new ≡ S.faults store.old }
-    ensures knows { S.knows store.new ≡ S.knows store.old }
-    ensures allows { S.allows store.new ≡ S.allows store.old }
-    ensures shapes { S.shapes store.new ≡ S.shapes store.old }
+    requires may { MayCopy (S.storage store.old).kept shape.now (serial_of (S.storage store.old).index source) start (serial_of (S.storage store.old).index to) at count }
+    requires order { serial_of (S.storage store.old).index source ≡ serial_of (S.storage store.old).index to → at ≤ start }
+    requires follows { FollowsFrom (S.storage store.old).settings.allows (copied (S.storage store.old).kept (serial_of (S.storage store.old).index source) start (serial_of (S.storage store.old).index to) at count) (serial_of (S.storage store.old).index to) }
+    ensures kept { (S.storage store.new).kept ≡ copied (S.storage store.old).kept (serial_of (S.storage store.old).index source) start (serial_of (S.storage store.old).index to) at count }
+    ensures places { (S.storage store.new).index ≡ (S.storage store.old).index }
+    ensures facts { (S.storage store.new).facts ≡ (S.storage store.old).facts }
+    ensures granted { (S.storage store.new).granted ≡ (S.storage store.old).granted }
+    ensures faults { (S.storage store.new).faults ≡ (S.storage store.old).faults }
+    ensures settings { (S.storage store.new).settings ≡ (S.storage store.old).settings }
 {
     for i in 0..count {
         copy_word(store, refers_at(shape, i), source, start + i, to, at + i);
@@ -73,18 +70,16 @@ pub(crate) fn copy_up<S: Store>(
 
 /// Copies a word, which holds a reference, or a number, as the one does to which it goes.
 fn copy_word<S: Store>(store: &mut S, refers: bool, source: u64, word: u32, to: u64, place: u32)
-    requires read { holds refers (content_at (S.kept store.old) (serial_of (S.index store.old) source) word) ≡ true }
-    requires held { RefersHeld (S.kept store.old) (content_at (S.kept store.old) (serial_of (S.index store.old) source) word) }
-    requires put { holds refers (content_at (S.kept store.old) (serial_of (S.index store.old) to) place) ≡ true }
-    requires allowed { (one other : ℕ) → S.allows store.old one other ≡ true }
-    ensures kept { S.kept store.new ≡ with_content (S.kept store.old) (serial_of (S.index store.old) to) place (word_of (content_at (S.kept store.old) (serial_of (S.index store.old) source) word)) }
-    ensures places { S.index store.new ≡ S.index store.old }
-    ensures facts { S.facts store.new ≡ S.facts store.old }
-    ensures granted { S.granted store.new ≡ S.granted store.old }
-    ensures faults { S.faults store.new ≡ S.faults store.old }
-    ensures knows { S.knows store.new ≡ S.knows store.old }
-    ensures allows { S.allows store.new ≡ S.allows store.old }
-    ensures shapes { S.shapes store.new ≡ S.shapes store.old }
+    requires read { holds refers (content_at (S.storage store.old).kept (serial_of (S.storage store.old).index source) word) ≡ true }
+    requires held { RefersHeld (S.storage store.old).kept (content_at (S.storage store.old).kept (serial_of (S.storage store.old).index source) word) }
+    requires put { holds refers (content_at (S.storage store.old).kept (serial_of (S.storage store.old).index to) place) ≡ true }
+    requires allowed { MayRefer (S.storage store.old).settings.allows (S.storage store.old).kept (serial_of (S.storage store.old).index to) (content_at (S.storage store.old).kept (serial_of (S.storage store.old).index source) word) }
+    ensures kept { (S.storage store.new).kept ≡ with_content (S.storage store.old).kept (serial_of (S.storage store.old).index to) place (word_of (content_at (S.storage store.old).kept (serial_of (S.storage store.old).index source) word)) }
+    ensures places { (S.storage store.new).index ≡ (S.storage store.old).index }
+    ensures facts { (S.storage store.new).facts ≡ (S.storage store.old).facts }
+    ensures granted { (S.storage store.new).granted ≡ (S.storage store.old).granted }
+    ensures faults { (S.storage store.new).faults ≡ (S.storage store.old).faults }
+    ensures settings { (S.storage store.new).settings ≡ (S.storage store.old).settings }
 {
     if refers {
         let held = store.get_ref(source, word);

@@ -2,6 +2,7 @@
 ghost use Rattle.std.specs.Prelude.{◌≡◌, ℕ, IfSome, Some, length, map, true};
 ghost use Rattle.std.specs.declared.result.Result.TheVariants.{Ok};
 ghost use Rattle.cb_heap.specs.Closed.{IsClosed};
+ghost use Rattle.cb_heap.specs.Follows.{Follows};
 ghost use Rattle.cb_heap.specs.Reading.{read_value};
 ghost use Rattle.cb_library.specs.declared.native.Native.TheVariants as natives;
 ghost use Rattle.cb_link.specs.Having.{IsBelow};
@@ -32,9 +33,9 @@ pub struct CopyPlan {
 /// ArrayStoreException. Takes time in the words where they refer, and is constant in it elsewhere.
 pub fn plan_copy<S: Store>(program: &Program, store: &S, arguments: &[Value]) -> CopyPlan
     requires sorts { have_sorts (sorts_of natives.SystemArraycopy) arguments.now ≡ true }
-    requires laid { AreLaid program.now (S.kept store.now) natives.SystemArraycopy (map (read_value (S.index store.now)) arguments.now) }
-    requires kinds { HasKinds program.now (S.kept store.now) }
-    ensures { PlansCopy program.now (S.kept store.now) (S.index store.now) (map (read_value (S.index store.now)) arguments.now) result }
+    requires laid { AreLaid program.now (S.storage store.now).kept natives.SystemArraycopy (map (read_value (S.storage store.now).index) arguments.now) }
+    requires kinds { HasKinds program.now (S.storage store.now).kept }
+    ensures { PlansCopy program.now (S.storage store.now).kept (S.storage store.now).index (map (read_value (S.storage store.now).index) arguments.now) result }
 {
     let (source, from, to, at, count) = range_arguments(arguments);
     match ranges_of(program, store, source, from, to, at, count) {
@@ -48,12 +49,12 @@ pub fn plan_copy<S: Store>(program: &Program, store: &S, arguments: &[Value]) ->
 
 /// What is copied of ranges, and what is thrown where that isn't all.
 fn plan_ranges<S: Store>(program: &Program, store: &S, ranges: Ranges) -> CopyPlan
-    requires may { MayCopyRanges (S.kept store.now) (S.index store.now) ranges }
+    requires may { MayCopyRanges (S.storage store.now).kept (S.storage store.now).index ranges }
     requires known { IsBelow (length program.now.kinds) ranges.element }
-    requires kinds { HasKinds program.now (S.kept store.now) }
-    ensures does { (frames : ℕ) (beside : Beside) → on_ranges (call_of program.now (S.kept store.now) frames beside) (S.index store.now) (Ok ranges)
-        ≡ Some (ends_with (call_of program.now (S.kept store.now) frames beside) (copied_by (S.kept store.now) (S.index store.now) result.ranges) result.fails) }
-    ensures may { IfSome result.ranges (MayCopyRanges (S.kept store.now) (S.index store.now)) }
+    requires kinds { HasKinds program.now (S.storage store.now).kept }
+    ensures does { (frames : ℕ) (beside : Beside) → on_ranges (call_of program.now (S.storage store.now).kept frames beside) (S.storage store.now).index (Ok ranges)
+        ≡ Some (ends_with (call_of program.now (S.storage store.now).kept frames beside) (copied_by (S.storage store.now).kept (S.storage store.now).index result.ranges) result.fails) }
+    ensures may { IfSome result.ranges (MayCopyRanges (S.storage store.now).kept (S.storage store.now).index) }
 {
     let fit = fitting_count(
         program,
@@ -86,18 +87,16 @@ fn plan_ranges<S: Store>(program: &Program, store: &S, ranges: Ranges) -> CopyPl
 
 /// Copies what was planned for these objects, as through a second array. Takes time in the words.
 pub fn copy_planned<S: Store>(store: &mut S, plan: CopyPlan)
-    requires may { IfSome plan.ranges (MayCopyRanges (S.kept store.old) (S.index store.old)) }
-    requires allowed { (one other : ℕ) → S.allows store.old one other ≡ true }
-    ensures kept { S.kept store.new ≡ copied_by (S.kept store.old) (S.index store.old) plan.ranges }
-    ensures count { length (S.kept store.new) ≡ length (S.kept store.old) }
-    ensures closed { (roots : Roots) → IsClosed (record { roots = roots; objects = S.kept store.old }) → IsClosed (record { roots = roots; objects = S.kept store.new }) }
-    ensures places { S.index store.new ≡ S.index store.old }
-    ensures facts { S.facts store.new ≡ S.facts store.old }
-    ensures granted { S.granted store.new ≡ S.granted store.old }
-    ensures faults { S.faults store.new ≡ S.faults store.old }
-    ensures knows { S.knows store.new ≡ S.knows store.old }
-    ensures allows { S.allows store.new ≡ S.allows store.old }
-    ensures shapes { S.shapes store.new ≡ S.shapes store.old }
+    requires may { IfSome plan.ranges (MayCopyRanges (S.storage store.old).kept (S.storage store.old).index) }
+    requires follows { Follows (S.storage store.old).settings.allows (copied_by (S.storage store.old).kept (S.storage store.old).index plan.ranges) }
+    ensures kept { (S.storage store.new).kept ≡ copied_by (S.storage store.old).kept (S.storage store.old).index plan.ranges }
+    ensures count { length (S.storage store.new).kept ≡ length (S.storage store.old).kept }
+    ensures closed { (roots : Roots) → IsClosed (record { roots = roots; objects = (S.storage store.old).kept }) → IsClosed (record { roots = roots; objects = (S.storage store.new).kept }) }
+    ensures places { (S.storage store.new).index ≡ (S.storage store.old).index }
+    ensures facts { (S.storage store.new).facts ≡ (S.storage store.old).facts }
+    ensures granted { (S.storage store.new).granted ≡ (S.storage store.old).granted }
+    ensures faults { (S.storage store.new).faults ≡ (S.storage store.old).faults }
+    ensures settings { (S.storage store.new).settings ≡ (S.storage store.old).settings }
 {
     if let Some(ranges) = plan.ranges {
         let shape = Shape::Elements(ranges.element.is_reference());

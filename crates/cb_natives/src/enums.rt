@@ -1,7 +1,8 @@
 // `Enum.valueOf` (Java SE 8 API, java.lang.Enum).
+ghost use Rattle.cb_heap.specs.Storage.{view_in};
 ghost use Rattle.std.specs.Prelude.{◌≡◌, ◌<◌, ◌≤◌, IfSome, Some, length, map, option_and_then, true};
 ghost use Rattle.cb_heap.specs.Kept.{content_at};
-ghost use Rattle.cb_heap.specs.Reading.{read_value, seen, serial_of};
+ghost use Rattle.cb_heap.specs.Reading.{read_value, serial_of};
 ghost use Rattle.cb_kinds.specs.Texts.{same_text};
 ghost use Rattle.cb_kinds.specs.declared.basic.Basic.TheVariants as basics;
 ghost use Rattle.cb_library.specs.declared.native.Native.TheVariants as natives;
@@ -49,12 +50,11 @@ pub fn find_constant<S: Store>(
     arguments: &[Value],
 ) -> EnumAnswer
     requires sorts { have_sorts (sorts_of natives.EnumValueOf) arguments.now ≡ true }
-    requires given { AreGiven (S.kept store.now) (roles natives.EnumValueOf) (map (read_value
-        (S.index store.now)) arguments.now) }
+    requires given { AreGiven (S.storage store.now).kept (roles natives.EnumValueOf) (map (read_value
+        (S.storage store.now).index) arguments.now) }
     requires classes { length roots.now.roots.classes ≡ length program.now.classes }
     requires statics { length (statics program.now.classes) ≤ length roots.now.roots.statics }
-    ensures found { FindsConstant program.now (S.index store.now) (seen (S.index store.now)
-        (S.kept store.now) roots.now.roots) (map (read_value (S.index store.now)) arguments.now) result }
+    ensures found { FindsConstant program.now (S.storage store.now).index (view_in (S.storage store.now) roots.now.roots) (map (read_value (S.storage store.now).index) arguments.now) result }
     ensures class { IfBegins result (λ class. class < length program.now.classes) }
 {
     let (at, name) = references(arguments);
@@ -69,8 +69,8 @@ pub fn find_constant<S: Store>(
 
 /// The class of a class object, if its kind has one.
 fn class_named<S: Store>(program: &Program, store: &S, at: u64) -> Option<u32>
-    requires { HoldsInt (S.kept store.now) (serial_of (S.index store.now) at) 0 basics.Int }
-    ensures class { class_of_word program.now (content_at (S.kept store.now) (serial_of (S.index store.now) at) 0) ≡ result }
+    requires { HoldsInt (S.storage store.now).kept (serial_of (S.storage store.now).index at) 0 basics.Int }
+    ensures class { class_of_word program.now (content_at (S.storage store.now).kept (serial_of (S.storage store.now).index at) 0) ≡ result }
     ensures within { IfSome result (λ class. class < length program.now.classes) }
 {
     class_numbered(program, int_in::<S, OfInt>(store, at, KIND))
@@ -89,9 +89,9 @@ fn class_numbered(program: &Program, number: i32) -> Option<u32>
 
 /// What is thrown where no enum has a constant of a name: the name may be null.
 fn no_constant<S: Store>(store: &S, name: u64) -> Exception
-    requires { IsReference (S.kept store.now) AText (serial_of (S.index store.now) name) }
-    ensures { (machine : Machine) (beside : Beside) → on_text (call_on machine (S.kept store.now) beside) (serial_of (S.index store.now) name) (λ units. stops (call_on machine (S.kept store.now) beside) illegal_argument)
-        ≡ stops (call_on machine (S.kept store.now) beside) (site_of result) }
+    requires { IsReference (S.storage store.now).kept AText (serial_of (S.storage store.now).index name) }
+    ensures { (machine : Machine) (beside : Beside) → on_text (call_on machine (S.storage store.now).kept beside) (serial_of (S.storage store.now).index name) (λ units. stops (call_on machine (S.storage store.now).kept beside) illegal_argument)
+        ≡ stops (call_on machine (S.storage store.now).kept beside) (site_of result) }
 {
     match chars_of(store, name) {
         Some(_) => Exception::IllegalArgument,
@@ -108,11 +108,10 @@ fn constant_of<S: Store>(
     name: u64,
 ) -> EnumAnswer
     requires low { class < length program.now.classes }
-    requires given { IsReference (S.kept store.now) AText (serial_of (S.index store.now) name) }
+    requires given { IsReference (S.storage store.now).kept AText (serial_of (S.storage store.now).index name) }
     requires classes { length roots.now.roots.classes ≡ length program.now.classes }
     requires statics { length (statics program.now.classes) ≤ length roots.now.roots.statics }
-    ensures found { Comes program.now (S.index store.now) (seen (S.index store.now)
-        (S.kept store.now) roots.now.roots) (λ call. of_class call (serial_of (S.index store.now) name) (Some class)) result }
+    ensures found { Comes program.now (S.storage store.now).index (view_in (S.storage store.now) roots.now.roots) (λ call. of_class call (serial_of (S.storage store.now).index name) (Some class)) result }
     ensures class { IfBegins result (λ class. class < length program.now.classes) }
 {
     match roots.state(class) {
@@ -131,10 +130,9 @@ fn ready_constant<S: Store>(
     name: u64,
 ) -> EnumAnswer
     requires low { class < length program.now.classes }
-    requires given { IsReference (S.kept store.now) AText (serial_of (S.index store.now) name) }
+    requires given { IsReference (S.storage store.now).kept AText (serial_of (S.storage store.now).index name) }
     requires statics { length (statics program.now.classes) ≤ length roots.now.roots.statics }
-    ensures found { Comes program.now (S.index store.now) (seen (S.index store.now)
-        (S.kept store.now) roots.now.roots) (λ call. on_text call (serial_of (S.index store.now) name) (λ units. gives_static call (constant_named program.now class units))) result }
+    ensures found { Comes program.now (S.storage store.now).index (view_in (S.storage store.now) roots.now.roots) (λ call. on_text call (serial_of (S.storage store.now).index name) (λ units. gives_static call (constant_named program.now class units))) result }
     ensures class { IfBegins result (λ class. class < length program.now.classes) }
 {
     let Some(array) = chars_of(store, name) else {
@@ -150,8 +148,8 @@ fn ready_constant<S: Store>(
 /// fields.
 fn constant_at<S: Store>(program: &Program, class: u32, store: &S, array: u64) -> Option<u32>
     requires low { class < length program.now.classes }
-    requires units { HoldsUnits (S.kept store.now) (serial_of (S.index store.now) array) }
-    ensures found { result ≡ constant_named program.now class (units_in (S.kept store.now) (serial_of (S.index store.now) array)) }
+    requires units { HoldsUnits (S.storage store.now).kept (serial_of (S.storage store.now).index array) }
+    ensures found { result ≡ constant_named program.now class (units_in (S.storage store.now).kept (serial_of (S.storage store.now).index array)) }
     ensures within { IfSome result (λ slot. slot < length (statics program.now.classes)) }
 {
     for place in 0..program.static_count() as usize {
@@ -167,8 +165,8 @@ fn constant_at<S: Store>(program: &Program, class: u32, store: &S, array: u64) -
 
 /// Whether a name is the text of an array of chars. Linear in it.
 fn same_name<S: Store>(name: &[u16], store: &S, array: u64) -> bool
-    requires { HoldsUnits (S.kept store.now) (serial_of (S.index store.now) array) }
-    ensures { result ≡ same_text name.now (units_in (S.kept store.now) (serial_of (S.index store.now) array)) }
+    requires { HoldsUnits (S.storage store.now).kept (serial_of (S.storage store.now).index array) }
+    ensures { result ≡ same_text name.now (units_in (S.storage store.now).kept (serial_of (S.storage store.now).index array)) }
 {
     let units = count(store, array);
     if name.len() != units as usize {

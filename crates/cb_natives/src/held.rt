@@ -50,16 +50,16 @@ impl Holds for OfBoolean {
 
 /// The number that a word of an object holds.
 pub(crate) fn number_in<S: Store>(store: &S, at: u64, slot: u32) -> i64
-    requires { IsTrue (is_number (content_at (S.kept store.now) (serial_of (S.index store.now) at) slot)) }
-    ensures { content_at (S.kept store.now) (serial_of (S.index store.now) at) slot ≡ Some (Number result) }
+    requires { IsTrue (is_number (content_at (S.storage store.now).kept (serial_of (S.storage store.now).index at) slot)) }
+    ensures { content_at (S.storage store.now).kept (serial_of (S.storage store.now).index at) slot ≡ Some (Number result) }
 {
     long_in(store.get(at, slot))
 }
 
 /// The int that a word of an object holds.
 pub(crate) fn int_in<S: Store, B: Holds>(store: &S, at: u64, slot: u32) -> i32
-    requires { HoldsInt (S.kept store.now) (serial_of (S.index store.now) at) slot B.basic }
-    ensures is { content_at (S.kept store.now) (serial_of (S.index store.now) at) slot ≡ Some (Number result) }
+    requires { HoldsInt (S.storage store.now).kept (serial_of (S.storage store.now).index at) slot B.basic }
+    ensures is { content_at (S.storage store.now).kept (serial_of (S.storage store.now).index at) slot ≡ Some (Number result) }
     ensures kept { kept_int B.basic result ≡ result }
 {
     number_in(store, at, slot) as i32
@@ -67,10 +67,10 @@ pub(crate) fn int_in<S: Store, B: Holds>(store: &S, at: u64, slot: u32) -> i32
 
 /// The ordinal of a constant of an enum, or a NullPointerException where there is none.
 pub(crate) fn ordinal_in<S: Store>(store: &S, at: u64) -> Result<i32, Thrown>
-    requires { IsReference (S.kept store.now) AConstant (serial_of (S.index store.now) at) }
+    requires { IsReference (S.storage store.now).kept AConstant (serial_of (S.storage store.now).index at) }
     ensures { (machine : Machine) (beside : Beside) (go : ℤ → Option Performed)
-        → on_ordinal (call_on machine (S.kept store.now) beside) (serial_of (S.index store.now) at) go
-        ≡ on_given (call_on machine (S.kept store.now) beside) go result }
+        → on_ordinal (call_on machine (S.storage store.now).kept beside) (serial_of (S.storage store.now).index at) go
+        ≡ on_given (call_on machine (S.storage store.now).kept beside) go result }
 {
     if at == 0 {
         return Err(Thrown::Of(Exception::NullPointer));
@@ -80,10 +80,10 @@ pub(crate) fn ordinal_in<S: Store>(store: &S, at: u64) -> Result<i32, Thrown>
 
 /// The long that an object holds, or a NullPointerException where there is no object.
 pub(crate) fn held_long<S: Store>(store: &S, at: u64) -> Result<i64, Thrown>
-    requires { IsReference (S.kept store.now) ALongBox (serial_of (S.index store.now) at) }
+    requires { IsReference (S.storage store.now).kept ALongBox (serial_of (S.storage store.now).index at) }
     ensures { (machine : Machine) (beside : Beside) (go : ℤ → Option Performed)
-        → on_number (call_on machine (S.kept store.now) beside) (serial_of (S.index store.now) at) go
-        ≡ on_given (call_on machine (S.kept store.now) beside) go result }
+        → on_number (call_on machine (S.storage store.now).kept beside) (serial_of (S.storage store.now).index at) go
+        ≡ on_given (call_on machine (S.storage store.now).kept beside) go result }
 {
     if at == 0 {
         return Err(Thrown::Of(Exception::NullPointer));
@@ -93,28 +93,28 @@ pub(crate) fn held_long<S: Store>(store: &S, at: u64) -> Result<i64, Thrown>
 
 /// Whether an object is of a kind of boxes and holds this number.
 pub(crate) fn is_box_of<S: Store>(store: &S, kind: u32, number: i64, other: u64) -> bool
-    requires held { IsTrue (is_held (S.kept store.now) (serial_of (S.index store.now) other)) }
-    requires boxed { (object : Object) → object_in (S.kept store.now) (serial_of (S.index store.now) other) ≡ Some object → object.kind ≡ kind
-        → IsTrue (is_number (content_at (S.kept store.now) (serial_of (S.index store.now) other) 0)) }
-    ensures { equal_numbers number (of_kind (S.kept store.now) kind (serial_of (S.index store.now) other)) ≡ result }
+    requires held { IsTrue (is_held (S.storage store.now).kept (serial_of (S.storage store.now).index other)) }
+    requires boxed { (object : Object) → object_in (S.storage store.now).kept (serial_of (S.storage store.now).index other) ≡ Some object → object.kind ≡ kind
+        → IsTrue (is_number (content_at (S.storage store.now).kept (serial_of (S.storage store.now).index other) 0)) }
+    ensures { equal_numbers number (of_kind (S.storage store.now).kept kind (serial_of (S.storage store.now).index other)) ≡ result }
 {
     other != 0 && store.kind(other) == kind && number_in(store, other, VALUE) == number
 }
 
 /// The serial of an object, 0 of null.
 pub(crate) fn serial_in<S: Store>(store: &S, at: u64) -> u64
-    requires { IsTrue (is_held (S.kept store.now) (serial_of (S.index store.now) at)) }
-    ensures { result ≡ serial_of (S.index store.now) at }
+    requires { IsTrue (is_held (S.storage store.now).kept (serial_of (S.storage store.now).index at)) }
+    ensures { result ≡ serial_of (S.storage store.now).index at }
 {
     if at == 0 { 0 } else { store.serial(at) }
 }
 
 /// The int that a box holds, or a NullPointerException where there is none.
 pub(crate) fn held_int<S: Store, B: Holds>(store: &S, at: u64) -> Result<i32, Thrown>
-    requires { IsReference (S.kept store.now) (ABox B.basic) (serial_of (S.index store.now) at) }
+    requires { IsReference (S.storage store.now).kept (ABox B.basic) (serial_of (S.storage store.now).index at) }
     ensures number { (machine : Machine) (beside : Beside) (go : ℤ → Option Performed)
-        → on_number (call_on machine (S.kept store.now) beside) (serial_of (S.index store.now) at) go
-        ≡ on_given (call_on machine (S.kept store.now) beside) go result }
+        → on_number (call_on machine (S.storage store.now).kept beside) (serial_of (S.storage store.now).index at) go
+        ≡ on_given (call_on machine (S.storage store.now).kept beside) go result }
     ensures kept { IfOk result (λ number. kept_int B.basic number ≡ number) }
 {
     if at == 0 {

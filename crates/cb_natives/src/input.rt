@@ -1,5 +1,5 @@
 // Bytes of an input that are read into arrays.
-ghost use Rattle.std.specs.Prelude.{◌≡◌, ◌+◌, ◌<◌, ◌≤◌, length, map, pos, IfOk, IsErr, OnErr};
+ghost use Rattle.std.specs.Prelude.{◌≡◌, ◌+◌, ◌<◌, ◌≤◌, length, pos, IfOk, IsErr, OnErr};
 ghost use Rattle.std.specs.Int.{int_wrap, w64};
 ghost use Rattle.std.specs.Io.KnownBytes.{Keeps};
 ghost use Rattle.cb_heap.specs.Kept.{contents_at};
@@ -27,18 +27,16 @@ pub(crate) fn read_range<S: Store, I: Source>(
     from: u32,
     count: u32,
 ) -> Result<u32, Failed>
-    requires holds { HoldsBytes (S.kept store.old) (serial_of (S.index store.old) at) }
-    requires within { from + count ≤ length (contents_at (S.kept store.old) (serial_of (S.index store.old) at)) }
-    ensures taken { IfOk result (λ taken. TakesInto (I.left input.old) (I.left input.new) count (S.kept store.old) (S.kept store.new) (serial_of (S.index store.old) at) from taken) }
-    ensures lost { OnErr result (Loses (I.left input.old) (I.left input.new)) }
+    requires holds { HoldsBytes (S.storage store.old).kept (serial_of (S.storage store.old).index at) }
+    requires within { from + count ≤ length (contents_at (S.storage store.old).kept (serial_of (S.storage store.old).index at)) }
+    ensures taken { IfOk result (λ taken. TakesInto (I.left input.old) (I.left input.new) count (S.storage store.old).kept (S.storage store.new).kept (serial_of (S.storage store.old).index at) from taken) }
+    ensures lost { OnErr result (Loses count (I.left input.old) (I.left input.new)) }
     ensures cause { CountsFaults (I.faults input.old) (I.faults input.new) (IsErr result) }
-    ensures places { S.index store.new ≡ S.index store.old }
-    ensures facts { S.facts store.new ≡ S.facts store.old }
-    ensures granted { S.granted store.new ≡ S.granted store.old }
-    ensures faults { S.faults store.new ≡ S.faults store.old }
-    ensures knows { S.knows store.new ≡ S.knows store.old }
-    ensures allows { S.allows store.new ≡ S.allows store.old }
-    ensures shapes { S.shapes store.new ≡ S.shapes store.old }
+    ensures places { (S.storage store.new).index ≡ (S.storage store.old).index }
+    ensures facts { (S.storage store.new).facts ≡ (S.storage store.old).facts }
+    ensures granted { (S.storage store.new).granted ≡ (S.storage store.old).granted }
+    ensures faults { (S.storage store.new).faults ≡ (S.storage store.old).faults }
+    ensures settings { (S.storage store.new).settings ≡ (S.storage store.old).settings }
 {
     let mut taken: u32 = 0;
     while taken < count {
@@ -59,19 +57,17 @@ fn read_piece<S: Store, I: Source>(
     from: u32,
     most: u32,
 ) -> Result<u32, Failed>
-    requires holds { HoldsBytes (S.kept store.old) (serial_of (S.index store.old) at) }
-    requires within { from + most ≤ length (contents_at (S.kept store.old) (serial_of (S.index store.old) at)) }
+    requires holds { HoldsBytes (S.storage store.old).kept (serial_of (S.storage store.old).index at) }
+    requires within { from + most ≤ length (contents_at (S.storage store.old).kept (serial_of (S.storage store.old).index at)) }
     requires some { 0 < most }
-    ensures moved { IfOk result (λ moved. TakesPiece (I.left input.old) (I.left input.new) most (S.kept store.old) (S.kept store.new) (serial_of (S.index store.old) at) from moved) }
+    ensures moved { IfOk result (λ moved. TakesPiece (I.left input.old) (I.left input.new) most (S.storage store.old).kept (S.storage store.new).kept (serial_of (S.storage store.old).index at) from moved) }
     ensures lost { OnErr result (Keeps (I.left input.old) (I.left input.new)) }
     ensures cause { CountsFaults (I.faults input.old) (I.faults input.new) (IsErr result) }
-    ensures places { S.index store.new ≡ S.index store.old }
-    ensures facts { S.facts store.new ≡ S.facts store.old }
-    ensures granted { S.granted store.new ≡ S.granted store.old }
-    ensures faults { S.faults store.new ≡ S.faults store.old }
-    ensures knows { S.knows store.new ≡ S.knows store.old }
-    ensures allows { S.allows store.new ≡ S.allows store.old }
-    ensures shapes { S.shapes store.new ≡ S.shapes store.old }
+    ensures places { (S.storage store.new).index ≡ (S.storage store.old).index }
+    ensures facts { (S.storage store.new).facts ≡ (S.storage store.old).facts }
+    ensures granted { (S.storage store.new).granted ≡ (S.storage store.old).granted }
+    ensures faults { (S.storage store.new).faults ≡ (S.storage store.old).faults }
+    ensures settings { (S.storage store.new).settings ≡ (S.storage store.old).settings }
 {
     let mut piece = [0; PIECE];
     let room = &mut piece[..(most as usize).min(PIECE)];
@@ -99,16 +95,14 @@ pub(crate) fn read_front<I: Source>(
 
 /// Writes bytes into an array of bytes from an index on. Takes time in the bytes.
 fn write_bytes<S: Store>(store: &mut S, at: u64, from: u32, bytes: &[u8])
-    requires holds { HoldsBytes (S.kept store.old) (serial_of (S.index store.old) at) }
-    requires within { from + length bytes.now ≤ length (contents_at (S.kept store.old) (serial_of (S.index store.old) at)) }
-    ensures kept { S.kept store.new ≡ with_bytes (S.kept store.old) (serial_of (S.index store.old) at) from bytes.now }
-    ensures places { S.index store.new ≡ S.index store.old }
-    ensures facts { S.facts store.new ≡ S.facts store.old }
-    ensures granted { S.granted store.new ≡ S.granted store.old }
-    ensures faults { S.faults store.new ≡ S.faults store.old }
-    ensures knows { S.knows store.new ≡ S.knows store.old }
-    ensures allows { S.allows store.new ≡ S.allows store.old }
-    ensures shapes { S.shapes store.new ≡ S.shapes store.old }
+    requires holds { HoldsBytes (S.storage store.old).kept (serial_of (S.storage store.old).index at) }
+    requires within { from + length bytes.now ≤ length (contents_at (S.storage store.old).kept (serial_of (S.storage store.old).index at)) }
+    ensures kept { (S.storage store.new).kept ≡ with_bytes (S.storage store.old).kept (serial_of (S.storage store.old).index at) from bytes.now }
+    ensures places { (S.storage store.new).index ≡ (S.storage store.old).index }
+    ensures facts { (S.storage store.new).facts ≡ (S.storage store.old).facts }
+    ensures granted { (S.storage store.new).granted ≡ (S.storage store.old).granted }
+    ensures faults { (S.storage store.new).faults ≡ (S.storage store.old).faults }
+    ensures settings { (S.storage store.new).settings ≡ (S.storage store.old).settings }
 {
     let mut left = bytes.len() as u32;
     while left > 0 {

@@ -44,8 +44,8 @@ pub fn read_byte<I: Source>(input: &mut I) -> Result<Answer, Failed>
 /// range.
 pub fn range_to_read<S: Store>(store: &S, arguments: &[Value]) -> Result<ArrayRange, Exception>
     requires sorts { have_sorts (sorts_of natives.ReadRange) arguments.now ≡ true }
-    requires given { AreGiven (S.kept store.now) (roles natives.ReadRange) (map (read_value (S.index store.now)) arguments.now) }
-    ensures { PlansRange (S.kept store.now) (S.index store.now) (map (read_value (S.index store.now)) arguments.now) result }
+    requires given { AreGiven (S.storage store.now).kept (roles natives.ReadRange) (map (read_value (S.storage store.now).index) arguments.now) }
+    ensures { PlansRange (S.storage store.now).kept (S.storage store.now).index (map (read_value (S.storage store.now).index) arguments.now) result }
 {
     let (_, at, from, count) = references_ints(arguments);
     if at == 0 {
@@ -62,25 +62,24 @@ pub fn range_to_read<S: Store>(store: &S, arguments: &[Value]) -> Result<ArrayRa
 }
 
 /// `read(byte[], int, int)` for a range that isn't empty: as many bytes as it has or there are go into the array. Answers how many, or -1 for
-/// none. A failed call leaves in the array what was read before it. Takes time in the bytes that are read.
+/// none. A failed call leaves in the array what was read before it, which are fewer bytes than it has room for. Takes time in the bytes that
+/// are read.
 pub fn read_into<S: Store, I: Source>(
     store: &mut S,
     input: &mut I,
     range: ArrayRange,
 ) -> Result<Answer, Failed>
-    requires holds { HoldsBytes (S.kept store.old) (serial_of (S.index store.old) range.at) }
-    requires within { range.from + range.count ≤ length (contents_at (S.kept store.old) (serial_of (S.index store.old) range.at)) }
+    requires holds { HoldsBytes (S.storage store.old).kept (serial_of (S.storage store.old).index range.at) }
+    requires within { range.from + range.count ≤ length (contents_at (S.storage store.old).kept (serial_of (S.storage store.old).index range.at)) }
     requires some { 0 < range.count }
-    ensures read { IfOk result (λ answer. ReadsRange (I.left input.old) (I.left input.new) range.count (S.kept store.old) (S.kept store.new) (serial_of (S.index store.old) range.at) range.from answer) }
-    ensures lost { OnErr result (Loses (I.left input.old) (I.left input.new)) }
+    ensures read { IfOk result (λ answer. ReadsRange (I.left input.old) (I.left input.new) range.count (S.storage store.old).kept (S.storage store.new).kept (serial_of (S.storage store.old).index range.at) range.from answer) }
+    ensures lost { OnErr result (Loses range.count (I.left input.old) (I.left input.new)) }
     ensures cause { CountsFaults (I.faults input.old) (I.faults input.new) (IsErr result) }
-    ensures places { S.index store.new ≡ S.index store.old }
-    ensures facts { S.facts store.new ≡ S.facts store.old }
-    ensures granted { S.granted store.new ≡ S.granted store.old }
-    ensures faults { S.faults store.new ≡ S.faults store.old }
-    ensures knows { S.knows store.new ≡ S.knows store.old }
-    ensures allows { S.allows store.new ≡ S.allows store.old }
-    ensures shapes { S.shapes store.new ≡ S.shapes store.old }
+    ensures places { (S.storage store.new).index ≡ (S.storage store.old).index }
+    ensures facts { (S.storage store.new).facts ≡ (S.storage store.old).facts }
+    ensures granted { (S.storage store.new).granted ≡ (S.storage store.old).granted }
+    ensures faults { (S.storage store.new).faults ≡ (S.storage store.old).faults }
+    ensures settings { (S.storage store.new).settings ≡ (S.storage store.old).settings }
 {
     let taken = read_range(store, input, range.at, range.from, range.count)?;
     Ok(count_answer(taken))

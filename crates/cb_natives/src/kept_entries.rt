@@ -45,9 +45,9 @@ pub(crate) fn entry_of<S: Store>(
 ) -> Result<Entry, Exception>
     requires makes { makes_kept native ≡ true }
     requires sorts { have_sorts (sorts_of native) arguments.now ≡ true }
-    requires given { AreGiven (S.kept store.now) (roles native) (map (read_value
-        (S.index store.now)) arguments.now) }
-    ensures { FindsOr (S.kept store.now) native (map (read_value (S.index store.now)) arguments.now) result }
+    requires given { AreGiven (S.storage store.now).kept (roles native) (map (read_value
+        (S.storage store.now).index) arguments.now) }
+    ensures { FindsOr (S.storage store.now).kept native (map (read_value (S.storage store.now).index) arguments.now) result }
 {
     match native {
         Native::ObjectGetClass => class_entry(store, reference(arguments)),
@@ -61,8 +61,8 @@ pub(crate) fn entry_of<S: Store>(
 
 /// The class of an object, by its kind.
 fn class_entry<S: Store>(store: &S, at: u64) -> Result<Entry, Exception>
-    requires { IsReference (S.kept store.now) AnObject (serial_of (S.index store.now) at) }
-    ensures { FindsOr (S.kept store.now) natives.ObjectGetClass (values.Ref (serial_of (S.index store.now) at) ∷ []) result }
+    requires { IsReference (S.storage store.now).kept AnObject (serial_of (S.storage store.now).index at) }
+    ensures { FindsOr (S.storage store.now).kept natives.ObjectGetClass (values.Ref (serial_of (S.storage store.now).index at) ∷ []) result }
 {
     if at == 0 {
         return Err(Exception::NullPointer);

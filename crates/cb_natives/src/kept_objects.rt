@@ -1,11 +1,12 @@
 // Natives that give an object from a table, or a new one, which they enter where the table has a place for it (Java SE 8 API, java.lang; JLS
 // §5.1.7).
+ghost use Rattle.cb_heap.specs.Storage.{view_in};
 ghost use Rattle.std.specs.Prelude.{◌≡◌, ◌+◌, ◌++◌, ◌<◌, ◌≤◌, ◌^◌, ◌∷◌, [], false, length, List, map, slice_get, true, IsTrue, OnOk, Some};
 ghost use Rattle.std.specs.List.{AllByRecursion, list_all};
 ghost use Rattle.cb_frames.specs.Limited.{with_roots};
 ghost use Rattle.cb_heap.specs.Closed.{IsClosed};
 ghost use Rattle.cb_heap.specs.Kept.{is_held};
-ghost use Rattle.cb_heap.specs.Reading.{read_roots, read_value, seen, serial_of};
+ghost use Rattle.cb_heap.specs.Reading.{read_roots, read_value, serial_of};
 ghost use Rattle.cb_heap.specs.Store.{ReadsAsBefore};
 ghost use Rattle.cb_machine.specs.Plans.{object_of};
 ghost use Rattle.cb_plain.specs.Reach.{root_references};
@@ -59,11 +60,11 @@ pub(crate) fn plan_kept<S: Store>(
 ) -> Result<(), Exception>
     requires makes { makes_kept native ≡ true }
     requires sorts { have_sorts (sorts_of native) arguments.now ≡ true }
-    requires given { AreGiven (S.kept store.now) (roles native) (map (read_value
-        (S.index store.now)) arguments.now) }
+    requires given { AreGiven (S.storage store.now).kept (roles native) (map (read_value
+        (S.storage store.now).index) arguments.now) }
     requires tables { HasTables program.now roots.now.roots.tables }
-    requires kinds { HasKinds program.now (S.kept store.now) }
-    ensures planned { Planned program.now (seen (S.index store.now) (S.kept store.now) roots.now.roots) native (map (read_value (S.index store.now)) arguments.now) request.new result }
+    requires kinds { HasKinds program.now (S.storage store.now).kept }
+    ensures planned { Planned program.now (view_in (S.storage store.now) roots.now.roots) native (map (read_value (S.storage store.now).index) arguments.now) request.new result }
     ensures sites { OnOk result (AllByRecursion (λ (want : Want). want.site < 32) request.new) }
 {
     let _ = program;
@@ -90,24 +91,22 @@ pub(crate) fn run_kept<S: Store>(
     ghost wants: { List Want }
     requires makes { makes_kept native ≡ true }
     requires sorts { have_sorts (sorts_of native) arguments.now ≡ true }
-    requires given { AreGiven (S.kept store.old) (roles native) (map (read_value
-        (S.index store.old)) arguments.now) }
+    requires given { AreGiven (S.storage store.old).kept (roles native) (map (read_value
+        (S.storage store.old).index) arguments.now) }
     requires tables { HasTables program.now roots.old.roots.tables }
-    requires kinds { HasKinds program.now (S.kept store.old) }
-    requires closed { IsClosed (seen (S.index store.old) (S.kept store.old) roots.old.roots) }
-    requires asks { Asks program.now (seen (S.index store.old) (S.kept store.old) roots.old.roots) native (map (read_value (S.index store.old)) arguments.now) wants }
-    requires room { (wants ≡ [] → ⊥) → HasRoom (S.kept store.old) wants (S.granted store.old) }
-    requires shaped { MayMake program.now (S.shapes store.old) }
-    ensures made { Performs S.rules program.now native (map (read_value (S.index store.old)) arguments.now)
-        (seen (S.index store.old) (S.kept store.old) roots.old.roots) (S.facts store.old) (seen (S.index store.new) (S.kept store.new) roots.new.roots) (S.facts store.new)
-        (given_back (S.index store.new) (Some result)) }
+    requires kinds { HasKinds program.now (S.storage store.old).kept }
+    requires closed { IsClosed (view_in (S.storage store.old) roots.old.roots) }
+    requires asks { Asks program.now (view_in (S.storage store.old) roots.old.roots) native (map (read_value (S.storage store.old).index) arguments.now) wants }
+    requires room { (wants ≡ [] → ⊥) → HasRoom (S.storage store.old).kept wants (S.storage store.old).granted }
+    requires shaped { MayMake program.now (S.storage store.old).settings.shapes }
+    ensures made { Performs S.rules program.now native (map (read_value (S.storage store.old).index) arguments.now)
+        (view_in (S.storage store.old) roots.old.roots) (S.storage store.old).facts (view_in (S.storage store.new) roots.new.roots) (S.storage store.new).facts
+        (given_back (S.storage store.new).index (Some result)) }
     ensures frames { roots.new.roots.frames ≡ roots.old.roots.frames }
     ensures limit { roots.new.limit ≡ roots.old.limit }
-    ensures places { ReadsAsBefore (S.kept store.old) (S.index store.old) (S.index store.new) }
-    ensures faults { S.faults store.new ≡ S.faults store.old }
-    ensures knows { S.knows store.new ≡ S.knows store.old }
-    ensures allows { S.allows store.new ≡ S.allows store.old }
-    ensures shapes { S.shapes store.new ≡ S.shapes store.old }
+    ensures places { ReadsAsBefore (S.storage store.old).kept (S.storage store.old).index (S.storage store.new).index }
+    ensures faults { (S.storage store.new).faults ≡ (S.storage store.old).faults }
+    ensures settings { (S.storage store.new).settings ≡ (S.storage store.old).settings }
 {
     let Ok(entry) = entry_of(store, native, arguments) else {
         unreachable!()
@@ -121,22 +120,20 @@ pub(crate) fn run_kept<S: Store>(
 
 /// Places the object of an entry, enters it where the table has a place for it, and answers its place.
 fn place_entry<S: Store>(program: &Program, store: &mut S, roots: &mut Roots, entry: Entry) -> u64
-    requires granted { words_of 1 ≤ words_at (S.granted store.old) entry.site }
-    requires may { MayPlace program.now (S.shapes store.old) entry.site }
-    requires serials { length (S.kept store.old) + 1 < 2 ^ 63 }
-    requires held { IsTrue (list_all (is_held (S.kept store.old)) (root_references (read_roots
-        (S.index store.old) roots.old.roots))) }
+    requires granted { words_of 1 ≤ words_at (S.storage store.old).granted entry.site }
+    requires may { MayPlace program.now (S.storage store.old).settings.shapes entry.site }
+    requires serials { length (S.storage store.old).kept + 1 < 2 ^ 63 }
+    requires held { IsTrue (list_all (is_held (S.storage store.old).kept) (root_references (read_roots
+        (S.storage store.old).index roots.old.roots))) }
     requires table { IsPlaced roots.old.roots.tables entry }
-    ensures serial { serial_of (S.index store.new) result ≡ length (S.kept store.old) + 1 }
-    ensures view { seen (S.index store.new) (S.kept store.new) roots.new.roots ≡ with_new program.now entry (seen (S.index store.old) (S.kept store.old) roots.old.roots) }
+    ensures serial { serial_of (S.storage store.new).index result ≡ length (S.storage store.old).kept + 1 }
+    ensures view { view_in (S.storage store.new) roots.new.roots ≡ with_new program.now entry (view_in (S.storage store.old) roots.old.roots) }
     ensures frames { roots.new.roots.frames ≡ roots.old.roots.frames }
     ensures limit { roots.new.limit ≡ roots.old.limit }
-    ensures places { ReadsAsBefore (S.kept store.old) (S.index store.old) (S.index store.new) }
-    ensures facts { S.facts store.new ≡ S.rules.placed (S.facts store.old) entry.site 1 }
-    ensures faults { S.faults store.new ≡ S.faults store.old }
-    ensures knows { S.knows store.new ≡ S.knows store.old }
-    ensures allows { S.allows store.new ≡ S.allows store.old }
-    ensures shapes { S.shapes store.new ≡ S.shapes store.old }
+    ensures places { ReadsAsBefore (S.storage store.old).kept (S.storage store.old).index (S.storage store.new).index }
+    ensures facts { (S.storage store.new).facts ≡ S.rules.placed (S.storage store.old).facts entry.site 1 }
+    ensures faults { (S.storage store.new).faults ≡ (S.storage store.old).faults }
+    ensures settings { (S.storage store.new).settings ≡ (S.storage store.old).settings }
 {
     let at = place_number(
         store,
@@ -150,17 +147,15 @@ fn place_entry<S: Store>(program: &Program, store: &mut S, roots: &mut Roots, en
 
 /// Places an object of one word, which holds a number, and answers its place.
 fn place_number<S: Store>(store: &mut S, site: u32, kind: u32, number: i64) -> u64
-    requires granted { words_of 1 ≤ words_at (S.granted store.old) site }
-    requires shape { slice_get (S.shapes store.old) kind ≡ Some (Fields (false ∷ [])) }
-    requires serials { length (S.kept store.old) + 1 < 2 ^ 63 }
-    ensures kept { S.kept store.new ≡ S.kept store.old ++ Some (object_of site kind (Number number ∷ [])) ∷ [] }
-    ensures serial { serial_of (S.index store.new) result ≡ length (S.kept store.old) + 1 }
-    ensures places { ReadsAsBefore (S.kept store.old) (S.index store.old) (S.index store.new) }
-    ensures facts { S.facts store.new ≡ S.rules.placed (S.facts store.old) site 1 }
-    ensures faults { S.faults store.new ≡ S.faults store.old }
-    ensures knows { S.knows store.new ≡ S.knows store.old }
-    ensures allows { S.allows store.new ≡ S.allows store.old }
-    ensures shapes { S.shapes store.new ≡ S.shapes store.old }
+    requires granted { words_of 1 ≤ words_at (S.storage store.old).granted site }
+    requires shape { slice_get (S.storage store.old).settings.shapes kind ≡ Some (Fields (false ∷ [])) }
+    requires serials { length (S.storage store.old).kept + 1 < 2 ^ 63 }
+    ensures kept { (S.storage store.new).kept ≡ (S.storage store.old).kept ++ Some (object_of site kind (Number number ∷ [])) ∷ [] }
+    ensures serial { serial_of (S.storage store.new).index result ≡ length (S.storage store.old).kept + 1 }
+    ensures places { ReadsAsBefore (S.storage store.old).kept (S.storage store.old).index (S.storage store.new).index }
+    ensures facts { (S.storage store.new).facts ≡ S.rules.placed (S.storage store.old).facts site 1 }
+    ensures faults { (S.storage store.new).faults ≡ (S.storage store.old).faults }
+    ensures settings { (S.storage store.new).settings ≡ (S.storage store.old).settings }
 {
     let at = store.place(site, kind, SIZE);
     store.put(at, VALUE, word_of(number));

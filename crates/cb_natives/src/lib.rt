@@ -7,7 +7,8 @@
 //! `read(byte[], int, int)`, and `read_into` reads into it.
 //!
 //! `specs/` says what is known of the arguments of each (`Given`), what one answers that places nothing but an exception (`Answers`), and what the
-//! others ask for and perform (`Making`, and by group the files that begin so). No call takes memory but the store's.
+//! others ask for and perform (`Making`, and by group the files that begin so). A call that may write a reference asks that those of what it
+//! leaves follow what sites allow (`Follows` of `cb_heap`, and `MayLeave`). No call takes memory but the store's.
 #![tactic(auto)]
 
 mod answering;

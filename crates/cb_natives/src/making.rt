@@ -1,16 +1,17 @@
 // Natives that place objects or change them (Java SE 8 API, java.lang).
+ghost use Rattle.cb_heap.specs.Storage.{view_in};
 ghost use Rattle.std.specs.Prelude.{◌≡◌, ◌<◌, ◌≤◌, [], ℕ, List, OnOk, length, map, true};
 ghost use Rattle.std.specs.List.{AllByRecursion};
 ghost use Rattle.cb_frames.specs.Tops.{top_stack};
 ghost use Rattle.cb_heap.specs.Closed.{IsClosed};
-ghost use Rattle.cb_heap.specs.Reading.{read_roots, read_value, seen};
+ghost use Rattle.cb_heap.specs.Reading.{read_roots, read_value};
 ghost use Rattle.cb_heap.specs.Store.{ReadsAsBefore};
 ghost use Rattle.cb_link.specs.Having.{site_kinds};
 ghost use Rattle.cb_plain.specs.State.{Roots as Held};
 ghost use Rattle.cb_plain.specs.declared.want.Want.{Want};
 ghost use Rattle.cb_natives.specs.Given.{AreGiven, have_sorts, roles, sorts_of};
 ghost use Rattle.cb_natives.specs.Makers.{makes, makes_beside};
-ghost use Rattle.cb_natives.specs.Making.{Asks, HasRoom, MayMake, Performs, Planned, given_back};
+ghost use Rattle.cb_natives.specs.Making.{Asks, HasRoom, MayLeave, MayMake, Performs, Planned, given_back};
 ghost use Rattle.cb_natives.specs.MakingArrays.{AreLaid, MayHold};
 ghost use Rattle.cb_natives.specs.MakingKept.{HasKinds, HasTables};
 
@@ -53,13 +54,12 @@ pub fn plan_native<S: Store>(
     requires known { 32 ≤ length (site_kinds program.now) }
     requires makes { makes native ≡ true }
     requires sorts { have_sorts (sorts_of native) arguments.now ≡ true }
-    requires given { AreGiven (S.kept store.now) (roles native) (map (read_value
-        (S.index store.now)) arguments.now) }
-    requires laid { AreLaid program.now (S.kept store.now) native (map (read_value (S.index store.now)) arguments.now) }
+    requires given { AreGiven (S.storage store.now).kept (roles native) (map (read_value
+        (S.storage store.now).index) arguments.now) }
+    requires laid { AreLaid program.now (S.storage store.now).kept native (map (read_value (S.storage store.now).index) arguments.now) }
     requires tables { HasTables program.now roots.now.roots.tables }
-    requires kinds { HasKinds program.now (S.kept store.now) }
-    ensures planned { Planned program.now (seen (S.index store.now)
-        (S.kept store.now) roots.now.roots) native (map (read_value (S.index store.now)) arguments.now) request.new result }
+    requires kinds { HasKinds program.now (S.storage store.now).kept }
+    ensures planned { Planned program.now (view_in (S.storage store.now) roots.now.roots) native (map (read_value (S.storage store.now).index) arguments.now) request.new result }
     ensures sites { OnOk result (AllByRecursion (λ (want : Want). want.site < length (site_kinds program.now)) request.new) }
 {
     if makes_text(native) {
@@ -85,32 +85,28 @@ pub fn run_native<S: Store>(
     arguments: &[Value],
 ) -> Option<u64>
     ghost asked: { Held × List Want }
-    requires held { asked.0 ≡ read_roots (S.index store.old) roots.old.roots }
+    requires held { asked.0 ≡ read_roots (S.storage store.old).index roots.old.roots }
     requires makes { makes native ≡ true }
     requires sorts { have_sorts (sorts_of native) arguments.now ≡ true }
-    requires given { AreGiven (S.kept store.old) (roles native) (map (read_value
-        (S.index store.old)) arguments.now) }
-    requires laid { AreLaid program.now (S.kept store.old) native (map (read_value (S.index store.old)) arguments.now) }
-    requires asks { Asks program.now (seen (S.index store.old) (S.kept store.old) roots.old.roots)
-        native (map (read_value (S.index store.old)) arguments.now) asked.1 }
-    requires room { (asked.1 ≡ [] → ⊥) → HasRoom (S.kept store.old) asked.1 (S.granted store.old) }
-    requires shaped { MayMake program.now (S.shapes store.old) }
-    requires holds { MayHold program.now (S.shapes store.old) }
-    requires allowed { (one other : ℕ) → S.allows store.old one other ≡ true }
-    requires closed { IsClosed (seen (S.index store.old) (S.kept store.old) roots.old.roots) }
+    requires given { AreGiven (S.storage store.old).kept (roles native) (map (read_value
+        (S.storage store.old).index) arguments.now) }
+    requires laid { AreLaid program.now (S.storage store.old).kept native (map (read_value (S.storage store.old).index) arguments.now) }
+    requires asks { Asks program.now (view_in (S.storage store.old) roots.old.roots)
+        native (map (read_value (S.storage store.old).index) arguments.now) asked.1 }
+    requires room { (asked.1 ≡ [] → ⊥) → HasRoom (S.storage store.old).kept asked.1 (S.storage store.old).granted }
+    requires shaped { MayMake program.now (S.storage store.old).settings.shapes }
+    requires holds { MayHold program.now (S.storage store.old).settings.shapes }
+    requires follows { MayLeave program.now (S.storage store.old).settings.allows (view_in (S.storage store.old) roots.old.roots) native (map (read_value (S.storage store.old).index) arguments.now) }
+    requires closed { IsClosed (view_in (S.storage store.old) roots.old.roots) }
     requires tables { HasTables program.now roots.old.roots.tables }
-    requires kinds { HasKinds program.now (S.kept store.old) }
-    ensures made { Performs S.rules program.now native (map (read_value (S.index store.old)) arguments.now) (seen
-        (S.index store.old) (S.kept store.old) roots.old.roots) (S.facts store.old) (seen (S.index store.new)
-        (S.kept store.new) roots.new.roots) (S.facts store.new) (given_back (S.index store.new) result) }
-    ensures frames { (read_roots (S.index store.new) roots.new.roots).frames ≡ (read_roots
-        (S.index store.old) roots.old.roots).frames }
+    requires kinds { HasKinds program.now (S.storage store.old).kept }
+    ensures made { Performs S.rules program.now native (map (read_value (S.storage store.old).index) arguments.now) (view_in (S.storage store.old) roots.old.roots) (S.storage store.old).facts (view_in (S.storage store.new) roots.new.roots) (S.storage store.new).facts (given_back (S.storage store.new).index result) }
+    ensures frames { (read_roots (S.storage store.new).index roots.new.roots).frames ≡ (read_roots
+        (S.storage store.old).index roots.old.roots).frames }
     ensures stack { top_stack roots.new.roots ≡ top_stack roots.old.roots }
     ensures limit { roots.new.limit ≡ roots.old.limit }
-    ensures faults { S.faults store.new ≡ S.faults store.old }
-    ensures knows { S.knows store.new ≡ S.knows store.old }
-    ensures allows { S.allows store.new ≡ S.allows store.old }
-    ensures shapes { S.shapes store.new ≡ S.shapes store.old }
+    ensures faults { (S.storage store.new).faults ≡ (S.storage store.old).faults }
+    ensures settings { (S.storage store.new).settings ≡ (S.storage store.old).settings }
 {
     closes_again();
     if makes_kept(native) {
@@ -130,23 +126,21 @@ fn run_beside<S: Store>(
     ghost asked: { Held × List Want }
     requires makes { makes_beside native ≡ true }
     requires sorts { have_sorts (sorts_of native) arguments.now ≡ true }
-    requires given { AreGiven (S.kept store.old) (roles native) (map (read_value
-        (S.index store.old)) arguments.now) }
-    requires laid { AreLaid program.now (S.kept store.old) native (map (read_value (S.index store.old)) arguments.now) }
-    requires asks { Asks program.now (record { roots = asked.0; objects = S.kept store.old }) native
-        (map (read_value (S.index store.old)) arguments.now) asked.1 }
-    requires room { (asked.1 ≡ [] → ⊥) → HasRoom (S.kept store.old) asked.1 (S.granted store.old) }
-    requires shaped { MayMake program.now (S.shapes store.old) }
-    requires holds { MayHold program.now (S.shapes store.old) }
-    requires allowed { (one other : ℕ) → S.allows store.old one other ≡ true }
+    requires given { AreGiven (S.storage store.old).kept (roles native) (map (read_value
+        (S.storage store.old).index) arguments.now) }
+    requires laid { AreLaid program.now (S.storage store.old).kept native (map (read_value (S.storage store.old).index) arguments.now) }
+    requires asks { Asks program.now (record { roots = asked.0; objects = (S.storage store.old).kept }) native
+        (map (read_value (S.storage store.old).index) arguments.now) asked.1 }
+    requires room { (asked.1 ≡ [] → ⊥) → HasRoom (S.storage store.old).kept asked.1 (S.storage store.old).granted }
+    requires shaped { MayMake program.now (S.storage store.old).settings.shapes }
+    requires holds { MayHold program.now (S.storage store.old).settings.shapes }
+    requires follows { MayLeave program.now (S.storage store.old).settings.allows (record { roots = asked.0; objects = (S.storage store.old).kept }) native (map (read_value (S.storage store.old).index) arguments.now) }
     ensures made { (roots : Held) → Performs S.rules program.now native (map (read_value
-        (S.index store.old)) arguments.now) (record { roots = roots; objects = S.kept store.old }) (S.facts store.old) (record { roots = roots; objects = S.kept store.new }) (S.facts store.new)
-        (given_back (S.index store.new) result) }
-    ensures places { ReadsAsBefore (S.kept store.old) (S.index store.old) (S.index store.new) }
-    ensures faults { S.faults store.new ≡ S.faults store.old }
-    ensures knows { S.knows store.new ≡ S.knows store.old }
-    ensures allows { S.allows store.new ≡ S.allows store.old }
-    ensures shapes { S.shapes store.new ≡ S.shapes store.old }
+        (S.storage store.old).index) arguments.now) (record { roots = roots; objects = (S.storage store.old).kept }) (S.storage store.old).facts (record { roots = roots; objects = (S.storage store.new).kept }) (S.storage store.new).facts
+        (given_back (S.storage store.new).index result) }
+    ensures places { ReadsAsBefore (S.storage store.old).kept (S.storage store.old).index (S.storage store.new).index }
+    ensures faults { (S.storage store.new).faults ≡ (S.storage store.old).faults }
+    ensures settings { (S.storage store.new).settings ≡ (S.storage store.old).settings }
 {
     if makes_text(native) {
         Some(run_text(program, store, native, arguments))

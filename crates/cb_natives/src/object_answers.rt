@@ -26,27 +26,27 @@ pub(crate) fn truth(is: bool) -> Answer
 
 /// The identity hash of an object: of its serial the low 31 bits, and of null 0.
 pub(crate) fn identity_hash<S: Store>(store: &S, at: u64) -> Answer
-    requires { IsTrue (is_held (S.kept store.now) (serial_of (S.index store.now) at)) }
-    ensures { Tells (S.kept store.now) natives.ObjectHashCode (values.Ref (serial_of (S.index store.now) at) ∷ []) (Ok result) }
+    requires { IsTrue (is_held (S.storage store.now).kept (serial_of (S.storage store.now).index at)) }
+    ensures { Tells (S.storage store.now).kept natives.ObjectHashCode (values.Ref (serial_of (S.storage store.now).index at) ∷ []) (Ok result) }
 {
     Answer::Int((serial_in(store, at) % (1 << 31)) as i32)
 }
 
 /// Whether two references are to one object.
 pub(crate) fn same_object<S: Store>(store: &S, at: u64, other: u64) -> Answer
-    requires held { IsTrue (is_held (S.kept store.now) (serial_of (S.index store.now) at)) }
-    requires other { IsTrue (is_held (S.kept store.now) (serial_of (S.index store.now) other)) }
-    ensures { Tells (S.kept store.now) natives.ObjectEquals (values.Ref (serial_of (S.index store.now) at) ∷ values.Ref (serial_of (S.index store.now) other) ∷ []) (Ok result) }
+    requires held { IsTrue (is_held (S.storage store.now).kept (serial_of (S.storage store.now).index at)) }
+    requires other { IsTrue (is_held (S.storage store.now).kept (serial_of (S.storage store.now).index other)) }
+    ensures { Tells (S.storage store.now).kept natives.ObjectEquals (values.Ref (serial_of (S.storage store.now).index at) ∷ values.Ref (serial_of (S.storage store.now).index other) ∷ []) (Ok result) }
 {
     truth(serial_in(store, at) == serial_in(store, other))
 }
 
 /// `compareTo` of constants of an enum: the difference of their ordinals.
 pub(crate) fn compare_constants<S: Store>(store: &S, at: u64, other: u64) -> Result<Answer, Thrown>
-    requires own { IsReference (S.kept store.now) AConstant (serial_of (S.index store.now) at) }
-    requires other { IsReference (S.kept store.now) AConstant (serial_of (S.index store.now) other) }
-    ensures { (machine : Machine) (beside : Beside) → on_ordinal (call_on machine (S.kept store.now) beside) (serial_of (S.index store.now) other) (λ second. on_ordinal (call_on machine (S.kept store.now) beside) (serial_of (S.index store.now) at) (λ first. gives_int (call_on machine (S.kept store.now) beside) (int_wrap w32 (first -ℤ second))))
-        ≡ answered (call_on machine (S.kept store.now) beside) result }
+    requires own { IsReference (S.storage store.now).kept AConstant (serial_of (S.storage store.now).index at) }
+    requires other { IsReference (S.storage store.now).kept AConstant (serial_of (S.storage store.now).index other) }
+    ensures { (machine : Machine) (beside : Beside) → on_ordinal (call_on machine (S.storage store.now).kept beside) (serial_of (S.storage store.now).index other) (λ second. on_ordinal (call_on machine (S.storage store.now).kept beside) (serial_of (S.storage store.now).index at) (λ first. gives_int (call_on machine (S.storage store.now).kept beside) (int_wrap w32 (first -ℤ second))))
+        ≡ answered (call_on machine (S.storage store.now).kept beside) result }
 {
     let second = ordinal_in(store, other)?;
     let first = ordinal_in(store, at)?;

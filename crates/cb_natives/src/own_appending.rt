@@ -20,9 +20,9 @@ use cb_link::Program;
 
 /// A piece behind the units of a builder.
 fn append<S: Store>(program: &Program, store: &S, at: u64, piece: &Piece) -> Result<Own, Exception>
-    requires own { IsReference (S.kept store.now) ABuilder (serial_of (S.index store.now) at) }
-    requires may { MayAppend program.now (S.kept store.now) (S.index store.now) piece.now }
-    ensures { Decides program.now (S.kept store.now) (S.index store.now) (λ call. appends call (serial_of (S.index store.now) at) (piece_units program.now (S.kept store.now) (S.index store.now) piece.now)) result }
+    requires own { IsReference (S.storage store.now).kept ABuilder (serial_of (S.storage store.now).index at) }
+    requires may { MayAppend program.now (S.storage store.now).kept (S.storage store.now).index piece.now }
+    ensures { Decides program.now (S.storage store.now).kept (S.storage store.now).index (λ call. appends call (serial_of (S.storage store.now).index at) (piece_units program.now (S.storage store.now).kept (S.storage store.now).index piece.now)) result }
 {
     if at == 0 {
         return Err(Exception::NullPointer);
@@ -38,9 +38,9 @@ pub(crate) fn append_string<S: Store>(
     at: u64,
     string: u64,
 ) -> Result<Own, Exception>
-    requires own { IsReference (S.kept store.now) ABuilder (serial_of (S.index store.now) at) }
-    requires string { IsReference (S.kept store.now) AText (serial_of (S.index store.now) string) }
-    ensures { Decides program.now (S.kept store.now) (S.index store.now) (λ call. own_native call natives.StringBuilderAppendString (values.Ref (serial_of (S.index store.now) at) ∷ values.Ref (serial_of (S.index store.now) string) ∷ [])) result }
+    requires own { IsReference (S.storage store.now).kept ABuilder (serial_of (S.storage store.now).index at) }
+    requires string { IsReference (S.storage store.now).kept AText (serial_of (S.storage store.now).index string) }
+    ensures { Decides program.now (S.storage store.now).kept (S.storage store.now).index (λ call. own_native call natives.StringBuilderAppendString (values.Ref (serial_of (S.storage store.now).index at) ∷ values.Ref (serial_of (S.storage store.now).index string) ∷ [])) result }
 {
     if string == 0 {
         return append(program, store, at, &ascii_text(b"null"));
@@ -58,8 +58,8 @@ pub(crate) fn append_int<S: Store>(
     at: u64,
     number: i32,
 ) -> Result<Own, Exception>
-    requires { IsReference (S.kept store.now) ABuilder (serial_of (S.index store.now) at) }
-    ensures { Decides program.now (S.kept store.now) (S.index store.now) (λ call. own_native call natives.StringBuilderAppendInt (values.Ref (serial_of (S.index store.now) at) ∷ values.Int number ∷ [])) result }
+    requires { IsReference (S.storage store.now).kept ABuilder (serial_of (S.storage store.now).index at) }
+    ensures { Decides program.now (S.storage store.now).kept (S.storage store.now).index (λ call. own_native call natives.StringBuilderAppendInt (values.Ref (serial_of (S.storage store.now).index at) ∷ values.Int number ∷ [])) result }
 {
     append(program, store, at, &decimal_text(i64::from(number)))
 }
@@ -71,8 +71,8 @@ pub(crate) fn append_long<S: Store>(
     at: u64,
     number: i64,
 ) -> Result<Own, Exception>
-    requires { IsReference (S.kept store.now) ABuilder (serial_of (S.index store.now) at) }
-    ensures { Decides program.now (S.kept store.now) (S.index store.now) (λ call. own_native call natives.StringBuilderAppendLong (values.Ref (serial_of (S.index store.now) at) ∷ values.Long number ∷ [])) result }
+    requires { IsReference (S.storage store.now).kept ABuilder (serial_of (S.storage store.now).index at) }
+    ensures { Decides program.now (S.storage store.now).kept (S.storage store.now).index (λ call. own_native call natives.StringBuilderAppendLong (values.Ref (serial_of (S.storage store.now).index at) ∷ values.Long number ∷ [])) result }
 {
     append(program, store, at, &decimal_text(number))
 }
@@ -84,8 +84,8 @@ pub(crate) fn append_char<S: Store>(
     at: u64,
     unit: i32,
 ) -> Result<Own, Exception>
-    requires { IsReference (S.kept store.now) ABuilder (serial_of (S.index store.now) at) }
-    ensures { Decides program.now (S.kept store.now) (S.index store.now) (λ call. own_native call natives.StringBuilderAppendChar (values.Ref (serial_of (S.index store.now) at) ∷ values.Int unit ∷ [])) result }
+    requires { IsReference (S.storage store.now).kept ABuilder (serial_of (S.storage store.now).index at) }
+    ensures { Decides program.now (S.storage store.now).kept (S.storage store.now).index (λ call. own_native call natives.StringBuilderAppendChar (values.Ref (serial_of (S.storage store.now).index at) ∷ values.Int unit ∷ [])) result }
 {
     append(program, store, at, &unit_text(unit))
 }
@@ -97,8 +97,8 @@ pub(crate) fn append_boolean<S: Store>(
     at: u64,
     is: i32,
 ) -> Result<Own, Exception>
-    requires { IsReference (S.kept store.now) ABuilder (serial_of (S.index store.now) at) }
-    ensures { Decides program.now (S.kept store.now) (S.index store.now) (λ call. own_native call natives.StringBuilderAppendBoolean (values.Ref (serial_of (S.index store.now) at) ∷ values.Int is ∷ [])) result }
+    requires { IsReference (S.storage store.now).kept ABuilder (serial_of (S.storage store.now).index at) }
+    ensures { Decides program.now (S.storage store.now).kept (S.storage store.now).index (λ call. own_native call natives.StringBuilderAppendBoolean (values.Ref (serial_of (S.storage store.now).index at) ∷ values.Int is ∷ [])) result }
 {
     append(program, store, at, &truth_text(is))
 }
@@ -110,9 +110,9 @@ pub(crate) fn append_chars<S: Store>(
     at: u64,
     array: u64,
 ) -> Result<Own, Exception>
-    requires own { IsReference (S.kept store.now) ABuilder (serial_of (S.index store.now) at) }
-    requires array { IsReference (S.kept store.now) Characters (serial_of (S.index store.now) array) }
-    ensures { Decides program.now (S.kept store.now) (S.index store.now) (λ call. own_native call natives.StringBuilderAppendChars (values.Ref (serial_of (S.index store.now) at) ∷ values.Ref (serial_of (S.index store.now) array) ∷ [])) result }
+    requires own { IsReference (S.storage store.now).kept ABuilder (serial_of (S.storage store.now).index at) }
+    requires array { IsReference (S.storage store.now).kept Characters (serial_of (S.storage store.now).index array) }
+    ensures { Decides program.now (S.storage store.now).kept (S.storage store.now).index (λ call. own_native call natives.StringBuilderAppendChars (values.Ref (serial_of (S.storage store.now).index at) ∷ values.Ref (serial_of (S.storage store.now).index array) ∷ [])) result }
 {
     if array == 0 {
         return Err(Exception::NullPointer);

@@ -30,11 +30,11 @@ fn set_text<S: Store>(
     text: &Text,
     size: u32,
 ) -> Result<Own, Exception>
-    requires own { IsReference (S.kept store.now) AText (serial_of (S.index store.now) at) }
-    requires text { IsText program.now (S.kept store.now) (S.index store.now) text.now }
-    requires size { size ≡ length (text_units program.now (S.kept store.now) (S.index store.now) text.now) }
+    requires own { IsReference (S.storage store.now).kept AText (serial_of (S.storage store.now).index at) }
+    requires text { IsText program.now (S.storage store.now).kept (S.storage store.now).index text.now }
+    requires size { size ≡ length (text_units program.now (S.storage store.now).kept (S.storage store.now).index text.now) }
     requires few { size < 2 ^ 31 }
-    ensures { Decides program.now (S.kept store.now) (S.index store.now) (λ call. on_object call (serial_of (S.index store.now) at) (sets_text call (serial_of (S.index store.now) at) (text_units program.now (S.kept store.now) (S.index store.now) text.now))) result }
+    ensures { Decides program.now (S.storage store.now).kept (S.storage store.now).index (λ call. on_object call (serial_of (S.storage store.now).index at) (sets_text call (serial_of (S.storage store.now).index at) (text_units program.now (S.storage store.now).kept (S.storage store.now).index text.now))) result }
 {
     let _ = program;
     let _ = store;
@@ -50,8 +50,8 @@ fn set_text<S: Store>(
 
 /// `new String()`.
 pub(crate) fn new_string<S: Store>(program: &Program, store: &S, at: u64) -> Result<Own, Exception>
-    requires { IsReference (S.kept store.now) AText (serial_of (S.index store.now) at) }
-    ensures { Decides program.now (S.kept store.now) (S.index store.now) (λ call. own_native call natives.StringNew (values.Ref (serial_of (S.index store.now) at) ∷ [])) result }
+    requires { IsReference (S.storage store.now).kept AText (serial_of (S.storage store.now).index at) }
+    ensures { Decides program.now (S.storage store.now).kept (S.storage store.now).index (λ call. own_native call natives.StringNew (values.Ref (serial_of (S.storage store.now).index at) ∷ [])) result }
 {
     set_text(
         program,
@@ -69,9 +69,9 @@ pub(crate) fn new_string_of<S: Store>(
     at: u64,
     array: u64,
 ) -> Result<Own, Exception>
-    requires own { IsReference (S.kept store.now) AText (serial_of (S.index store.now) at) }
-    requires array { IsReference (S.kept store.now) Characters (serial_of (S.index store.now) array) }
-    ensures { Decides program.now (S.kept store.now) (S.index store.now) (λ call. own_native call natives.StringNewChars (values.Ref (serial_of (S.index store.now) at) ∷ values.Ref (serial_of (S.index store.now) array) ∷ [])) result }
+    requires own { IsReference (S.storage store.now).kept AText (serial_of (S.storage store.now).index at) }
+    requires array { IsReference (S.storage store.now).kept Characters (serial_of (S.storage store.now).index array) }
+    ensures { Decides program.now (S.storage store.now).kept (S.storage store.now).index (λ call. own_native call natives.StringNewChars (values.Ref (serial_of (S.storage store.now).index at) ∷ values.Ref (serial_of (S.storage store.now).index array) ∷ [])) result }
 {
     if array == 0 {
         return Err(Exception::NullPointer);
@@ -89,9 +89,9 @@ pub(crate) fn new_string_range<S: Store>(
     from: i32,
     size: i32,
 ) -> Result<Own, Exception>
-    requires own { IsReference (S.kept store.now) AText (serial_of (S.index store.now) at) }
-    requires array { IsReference (S.kept store.now) Characters (serial_of (S.index store.now) array) }
-    ensures { Decides program.now (S.kept store.now) (S.index store.now) (λ call. own_native call natives.StringNewRange (values.Ref (serial_of (S.index store.now) at) ∷ values.Ref (serial_of (S.index store.now) array) ∷ values.Int from ∷ values.Int size ∷ [])) result }
+    requires own { IsReference (S.storage store.now).kept AText (serial_of (S.storage store.now).index at) }
+    requires array { IsReference (S.storage store.now).kept Characters (serial_of (S.storage store.now).index array) }
+    ensures { Decides program.now (S.storage store.now).kept (S.storage store.now).index (λ call. own_native call natives.StringNewRange (values.Ref (serial_of (S.storage store.now).index at) ∷ values.Ref (serial_of (S.storage store.now).index array) ∷ values.Int from ∷ values.Int size ∷ [])) result }
 {
     if array == 0 {
         return Err(Exception::NullPointer);
@@ -121,12 +121,12 @@ fn build<S: Store>(
     count: u32,
     room: u32,
 ) -> Result<Own, Exception>
-    requires own { IsReference (S.kept store.now) ABuilder (serial_of (S.index store.now) at) }
-    requires text { IsText program.now (S.kept store.now) (S.index store.now) text.now }
-    requires count { count ≡ length (text_units program.now (S.kept store.now) (S.index store.now) text.now) }
+    requires own { IsReference (S.storage store.now).kept ABuilder (serial_of (S.storage store.now).index at) }
+    requires text { IsText program.now (S.storage store.now).kept (S.storage store.now).index text.now }
+    requires count { count ≡ length (text_units program.now (S.storage store.now).kept (S.storage store.now).index text.now) }
     requires fits { count ≤ room }
     requires few { room < 2 ^ 31 }
-    ensures { Decides program.now (S.kept store.now) (S.index store.now) (λ call. on_object call (serial_of (S.index store.now) at) (builds call (serial_of (S.index store.now) at) (text_units program.now (S.kept store.now) (S.index store.now) text.now) room)) result }
+    ensures { Decides program.now (S.storage store.now).kept (S.storage store.now).index (λ call. on_object call (serial_of (S.storage store.now).index at) (builds call (serial_of (S.storage store.now).index at) (text_units program.now (S.storage store.now).kept (S.storage store.now).index text.now) room)) result }
 {
     let _ = program;
     let _ = store;
@@ -146,8 +146,8 @@ fn build<S: Store>(
 
 /// `new StringBuilder()`.
 pub(crate) fn new_builder<S: Store>(program: &Program, store: &S, at: u64) -> Result<Own, Exception>
-    requires { IsReference (S.kept store.now) ABuilder (serial_of (S.index store.now) at) }
-    ensures { Decides program.now (S.kept store.now) (S.index store.now) (λ call. own_native call natives.StringBuilderNew (values.Ref (serial_of (S.index store.now) at) ∷ [])) result }
+    requires { IsReference (S.storage store.now).kept ABuilder (serial_of (S.storage store.now).index at) }
+    ensures { Decides program.now (S.storage store.now).kept (S.storage store.now).index (λ call. own_native call natives.StringBuilderNew (values.Ref (serial_of (S.storage store.now).index at) ∷ [])) result }
 {
     build(
         program,
@@ -166,8 +166,8 @@ pub(crate) fn new_builder_sized<S: Store>(
     at: u64,
     room: i32,
 ) -> Result<Own, Exception>
-    requires { IsReference (S.kept store.now) ABuilder (serial_of (S.index store.now) at) }
-    ensures { Decides program.now (S.kept store.now) (S.index store.now) (λ call. own_native call natives.StringBuilderNewCapacity (values.Ref (serial_of (S.index store.now) at) ∷ values.Int room ∷ [])) result }
+    requires { IsReference (S.storage store.now).kept ABuilder (serial_of (S.storage store.now).index at) }
+    ensures { Decides program.now (S.storage store.now).kept (S.storage store.now).index (λ call. own_native call natives.StringBuilderNewCapacity (values.Ref (serial_of (S.storage store.now).index at) ∷ values.Int room ∷ [])) result }
 {
     if at == 0 {
         return Err(Exception::NullPointer);
@@ -192,9 +192,9 @@ pub(crate) fn new_builder_of<S: Store>(
     at: u64,
     string: u64,
 ) -> Result<Own, Exception>
-    requires own { IsReference (S.kept store.now) ABuilder (serial_of (S.index store.now) at) }
-    requires string { IsReference (S.kept store.now) AText (serial_of (S.index store.now) string) }
-    ensures { Decides program.now (S.kept store.now) (S.index store.now) (λ call. own_native call natives.StringBuilderNewString (values.Ref (serial_of (S.index store.now) at) ∷ values.Ref (serial_of (S.index store.now) string) ∷ [])) result }
+    requires own { IsReference (S.storage store.now).kept ABuilder (serial_of (S.storage store.now).index at) }
+    requires string { IsReference (S.storage store.now).kept AText (serial_of (S.storage store.now).index string) }
+    ensures { Decides program.now (S.storage store.now).kept (S.storage store.now).index (λ call. own_native call natives.StringBuilderNewString (values.Ref (serial_of (S.storage store.now).index at) ∷ values.Ref (serial_of (S.storage store.now).index string) ∷ [])) result }
 {
     match chars_of(store, string) {
         Some(array) => {

@@ -24,8 +24,8 @@ pub(crate) fn set_char_at<S: Store>(
     place: i32,
     unit: i32,
 ) -> Result<Own, Exception>
-    requires { IsReference (S.kept store.now) ABuilder (serial_of (S.index store.now) at) }
-    ensures { Decides program.now (S.kept store.now) (S.index store.now) (λ call. own_native call natives.StringBuilderSetCharAt (values.Ref (serial_of (S.index store.now) at) ∷ values.Int place ∷ values.Int unit ∷ [])) result }
+    requires { IsReference (S.storage store.now).kept ABuilder (serial_of (S.storage store.now).index at) }
+    ensures { Decides program.now (S.storage store.now).kept (S.storage store.now).index (λ call. own_native call natives.StringBuilderSetCharAt (values.Ref (serial_of (S.storage store.now).index at) ∷ values.Int place ∷ values.Int unit ∷ [])) result }
 {
     let _ = program;
     if at == 0 {
@@ -54,8 +54,8 @@ pub(crate) fn delete_char_at<S: Store>(
     at: u64,
     place: i32,
 ) -> Result<Own, Exception>
-    requires { IsReference (S.kept store.now) ABuilder (serial_of (S.index store.now) at) }
-    ensures { Decides program.now (S.kept store.now) (S.index store.now) (λ call. own_native call natives.StringBuilderDeleteCharAt (values.Ref (serial_of (S.index store.now) at) ∷ values.Int place ∷ [])) result }
+    requires { IsReference (S.storage store.now).kept ABuilder (serial_of (S.storage store.now).index at) }
+    ensures { Decides program.now (S.storage store.now).kept (S.storage store.now).index (λ call. own_native call natives.StringBuilderDeleteCharAt (values.Ref (serial_of (S.storage store.now).index at) ∷ values.Int place ∷ [])) result }
 {
     let _ = program;
     if at == 0 {
@@ -83,8 +83,8 @@ pub(crate) fn set_length<S: Store>(
     at: u64,
     length: i32,
 ) -> Result<Own, Exception>
-    requires { IsReference (S.kept store.now) ABuilder (serial_of (S.index store.now) at) }
-    ensures { Decides program.now (S.kept store.now) (S.index store.now) (λ call. own_native call natives.StringBuilderSetLength (values.Ref (serial_of (S.index store.now) at) ∷ values.Int length ∷ [])) result }
+    requires { IsReference (S.storage store.now).kept ABuilder (serial_of (S.storage store.now).index at) }
+    ensures { Decides program.now (S.storage store.now).kept (S.storage store.now).index (λ call. own_native call natives.StringBuilderSetLength (values.Ref (serial_of (S.storage store.now).index at) ∷ values.Int length ∷ [])) result }
 {
     if at == 0 {
         return Err(Exception::NullPointer);

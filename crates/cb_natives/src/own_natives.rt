@@ -30,9 +30,9 @@ pub(crate) fn own_of<S: Store>(
 ) -> Result<Own, Exception>
     requires makes { makes_own native ≡ true }
     requires sorts { have_sorts (sorts_of native) arguments.now ≡ true }
-    requires given { AreGiven (S.kept store.now) (roles native) (map (read_value
-        (S.index store.now)) arguments.now) }
-    ensures { Decides program.now (S.kept store.now) (S.index store.now) (λ call. own_native call native (map (read_value (S.index store.now)) arguments.now)) result }
+    requires given { AreGiven (S.storage store.now).kept (roles native) (map (read_value
+        (S.storage store.now).index) arguments.now) }
+    ensures { Decides program.now (S.storage store.now).kept (S.storage store.now).index (λ call. own_native call native (map (read_value (S.storage store.now).index) arguments.now)) result }
 {
     match native {
         Native::StringNew => new_string(program, store, reference(arguments)),
@@ -66,9 +66,9 @@ fn changed_builder<S: Store>(
 ) -> Result<Own, Exception>
     requires makes { changes_builder native ≡ true }
     requires sorts { have_sorts (sorts_of native) arguments.now ≡ true }
-    requires given { AreGiven (S.kept store.now) (roles native) (map (read_value
-        (S.index store.now)) arguments.now) }
-    ensures { Decides program.now (S.kept store.now) (S.index store.now) (λ call. own_native call native (map (read_value (S.index store.now)) arguments.now)) result }
+    requires given { AreGiven (S.storage store.now).kept (roles native) (map (read_value
+        (S.storage store.now).index) arguments.now) }
+    ensures { Decides program.now (S.storage store.now).kept (S.storage store.now).index (λ call. own_native call native (map (read_value (S.storage store.now).index) arguments.now)) result }
 {
     match native {
         Native::StringBuilderAppendString => {

@@ -11,8 +11,8 @@ use cb_link::Program;
 
 /// All units of an array of chars.
 pub(crate) fn whole<S: Store>(program: &Program, store: &S, array: u64) -> Piece
-    requires { HoldsUnits (S.kept store.now) (serial_of (S.index store.now) array) }
-    ensures { IsWhole program.now (S.kept store.now) (S.index store.now) array result }
+    requires { HoldsUnits (S.storage store.now).kept (serial_of (S.storage store.now).index array) }
+    ensures { IsWhole program.now (S.storage store.now).kept (S.storage store.now).index array result }
 {
     let _ = program;
     Piece::Range {
@@ -24,8 +24,8 @@ pub(crate) fn whole<S: Store>(program: &Program, store: &S, array: u64) -> Piece
 
 /// The text of one piece.
 pub(crate) fn text_of<S: Store>(program: &Program, store: &S, piece: Piece) -> Text
-    requires { IsPiece program.now (S.kept store.now) (S.index store.now) piece }
-    ensures { IsTextOf program.now (S.kept store.now) (S.index store.now) result (piece_units program.now (S.kept store.now) (S.index store.now) piece) }
+    requires { IsPiece program.now (S.storage store.now).kept (S.storage store.now).index piece }
+    ensures { IsTextOf program.now (S.storage store.now).kept (S.storage store.now).index result (piece_units program.now (S.storage store.now).kept (S.storage store.now).index piece) }
 {
     let _ = program;
     let _ = store;

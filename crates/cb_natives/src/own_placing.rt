@@ -1,5 +1,6 @@
 // Texts of strings and of builders that are changed.
-ghost use Rattle.std.specs.Prelude.{◌≡◌, ◌+◌, ◌-◌, ◌<◌, ◌≤◌, ◌^◌, ◌++◌, ◌∷◌, [], ℕ, false, length, slice_get, true, IsTrue, Some};
+ghost use Rattle.std.specs.Prelude.{◌≡◌, ◌+◌, ◌-◌, ◌<◌, ◌≤◌, ◌^◌, ◌++◌, ◌∷◌, [], false, length, slice_get, IsTrue, Some};
+ghost use Rattle.cb_heap.specs.Follows.{Follows};
 ghost use Rattle.cb_heap.specs.Kept.{is_kept};
 ghost use Rattle.cb_heap.specs.Reading.{serial_of};
 ghost use Rattle.cb_heap.specs.Store.{ReadsAsBefore};
@@ -9,6 +10,7 @@ ghost use Rattle.cb_machine.specs.Plans.{object_of};
 ghost use Rattle.cb_plain.specs.Requests.{words_at};
 ghost use Rattle.cb_plain.specs.State.{words_of};
 ghost use Rattle.cb_plain.specs.declared.shape.Shape.TheVariants.{Elements};
+ghost use Rattle.cb_natives.specs.Following.{FollowsFrom};
 ghost use Rattle.cb_natives.specs.Given.{HoldsUnits};
 ghost use Rattle.cb_natives.specs.Making.{HasRoom, MayMake, facts_behind};
 ghost use Rattle.cb_natives.specs.MakingOwn.{Counts, HasOwn, MayChange, MayDelete, MayPlace, MayPut, counting, deleted, made_by, objects_behind, referring, roomy, wanted_by, written};
@@ -34,20 +36,18 @@ const COUNT: u32 = 1;
 /// Places an array of chars at a site, with so much room and the units of a text in front, and answers its place. Takes time in the room.
 fn place_chars<S: Store>(program: &Program, store: &mut S, site: u32, text: &Text, room: u32) -> u64
     requires site { site < length (site_kinds program.now) }
-    requires granted { words_of room ≤ words_at (S.granted store.old) site }
-    requires shape { slice_get (S.shapes store.old) (kind_of_site program.now site) ≡ Some (Elements false) }
-    requires serials { length (S.kept store.old) + 1 < 2 ^ 63 }
-    requires text { IsText program.now (S.kept store.old) (S.index store.old) text.now }
-    requires fits { length (text_units program.now (S.kept store.old) (S.index store.old) text.now) ≤ room }
+    requires granted { words_of room ≤ words_at (S.storage store.old).granted site }
+    requires shape { slice_get (S.storage store.old).settings.shapes (kind_of_site program.now site) ≡ Some (Elements false) }
+    requires serials { length (S.storage store.old).kept + 1 < 2 ^ 63 }
+    requires text { IsText program.now (S.storage store.old).kept (S.storage store.old).index text.now }
+    requires fits { length (text_units program.now (S.storage store.old).kept (S.storage store.old).index text.now) ≤ room }
     requires few { room < 2 ^ 31 }
-    ensures kept { S.kept store.new ≡ S.kept store.old ++ Some (object_of site (kind_of_site program.now site) (roomy (text_units program.now (S.kept store.old) (S.index store.old) text.now) room)) ∷ [] }
-    ensures serial { serial_of (S.index store.new) result ≡ length (S.kept store.old) + 1 }
-    ensures places { ReadsAsBefore (S.kept store.old) (S.index store.old) (S.index store.new) }
-    ensures facts { S.facts store.new ≡ S.rules.placed (S.facts store.old) site room }
-    ensures faults { S.faults store.new ≡ S.faults store.old }
-    ensures knows { S.knows store.new ≡ S.knows store.old }
-    ensures allows { S.allows store.new ≡ S.allows store.old }
-    ensures shapes { S.shapes store.new ≡ S.shapes store.old }
+    ensures kept { (S.storage store.new).kept ≡ (S.storage store.old).kept ++ Some (object_of site (kind_of_site program.now site) (roomy (text_units program.now (S.storage store.old).kept (S.storage store.old).index text.now) room)) ∷ [] }
+    ensures serial { serial_of (S.storage store.new).index result ≡ length (S.storage store.old).kept + 1 }
+    ensures places { ReadsAsBefore (S.storage store.old).kept (S.storage store.old).index (S.storage store.new).index }
+    ensures facts { (S.storage store.new).facts ≡ S.rules.placed (S.storage store.old).facts site room }
+    ensures faults { (S.storage store.new).faults ≡ (S.storage store.old).faults }
+    ensures settings { (S.storage store.new).settings ≡ (S.storage store.old).settings }
 {
     let at = store.place(site, program.site_kind(site), room);
     write_text(program, store, at, 0, text);
@@ -56,19 +56,17 @@ fn place_chars<S: Store>(program: &Program, store: &mut S, site: u32, text: &Tex
 
 /// An object refers to a new array of chars, with so much room and the units of a text in front. Takes time in the room.
 fn refer<S: Store>(program: &Program, store: &mut S, at: u64, site: u32, text: &Text, room: u32)
-    requires may { MayPlace program.now (S.kept store.old) (S.index store.old) (serial_of (S.index store.old) at) text.now room }
+    requires may { MayPlace program.now (S.storage store.old).kept (S.storage store.old).index (serial_of (S.storage store.old).index at) text.now room }
     requires site { site < length (site_kinds program.now) }
-    requires granted { words_of room ≤ words_at (S.granted store.old) site }
-    requires shape { slice_get (S.shapes store.old) (kind_of_site program.now site) ≡ Some (Elements false) }
-    requires serials { length (S.kept store.old) + 1 < 2 ^ 63 }
-    requires allowed { (one other : ℕ) → S.allows store.old one other ≡ true }
-    ensures kept { S.kept store.new ≡ referring (S.kept store.old) (serial_of (S.index store.old) at) (length (S.kept store.old) + 1) ++ Some (object_of site (kind_of_site program.now site) (roomy (text_units program.now (S.kept store.old) (S.index store.old) text.now) room)) ∷ [] }
-    ensures places { ReadsAsBefore (S.kept store.old) (S.index store.old) (S.index store.new) }
-    ensures facts { S.facts store.new ≡ S.rules.placed (S.facts store.old) site room }
-    ensures faults { S.faults store.new ≡ S.faults store.old }
-    ensures knows { S.knows store.new ≡ S.knows store.old }
-    ensures allows { S.allows store.new ≡ S.allows store.old }
-    ensures shapes { S.shapes store.new ≡ S.shapes store.old }
+    requires granted { words_of room ≤ words_at (S.storage store.old).granted site }
+    requires shape { slice_get (S.storage store.old).settings.shapes (kind_of_site program.now site) ≡ Some (Elements false) }
+    requires serials { length (S.storage store.old).kept + 1 < 2 ^ 63 }
+    requires follows { FollowsFrom (S.storage store.old).settings.allows (referring (S.storage store.old).kept (serial_of (S.storage store.old).index at) (length (S.storage store.old).kept + 1) ++ Some (object_of site (kind_of_site program.now site) (roomy (text_units program.now (S.storage store.old).kept (S.storage store.old).index text.now) room)) ∷ []) (serial_of (S.storage store.old).index at) }
+    ensures kept { (S.storage store.new).kept ≡ referring (S.storage store.old).kept (serial_of (S.storage store.old).index at) (length (S.storage store.old).kept + 1) ++ Some (object_of site (kind_of_site program.now site) (roomy (text_units program.now (S.storage store.old).kept (S.storage store.old).index text.now) room)) ∷ [] }
+    ensures places { ReadsAsBefore (S.storage store.old).kept (S.storage store.old).index (S.storage store.new).index }
+    ensures facts { (S.storage store.new).facts ≡ S.rules.placed (S.storage store.old).facts site room }
+    ensures faults { (S.storage store.new).faults ≡ (S.storage store.old).faults }
+    ensures settings { (S.storage store.new).settings ≡ (S.storage store.old).settings }
 {
     let array = place_chars(program, store, site, text, room);
     store.put_ref(at, CHARS, array);
@@ -76,31 +74,27 @@ fn refer<S: Store>(program: &Program, store: &mut S, at: u64, site: u32, text: &
 
 /// So many units of a builder count.
 fn put_count<S: Store>(store: &mut S, at: u64, count: u32)
-    requires { Counts (S.kept store.old) (serial_of (S.index store.old) at) }
-    ensures kept { S.kept store.new ≡ counting (S.kept store.old) (serial_of (S.index store.old) at) count }
-    ensures places { S.index store.new ≡ S.index store.old }
-    ensures facts { S.facts store.new ≡ S.facts store.old }
-    ensures faults { S.faults store.new ≡ S.faults store.old }
-    ensures knows { S.knows store.new ≡ S.knows store.old }
-    ensures allows { S.allows store.new ≡ S.allows store.old }
-    ensures shapes { S.shapes store.new ≡ S.shapes store.old }
+    requires { Counts (S.storage store.old).kept (serial_of (S.storage store.old).index at) }
+    ensures kept { (S.storage store.new).kept ≡ counting (S.storage store.old).kept (serial_of (S.storage store.old).index at) count }
+    ensures places { (S.storage store.new).index ≡ (S.storage store.old).index }
+    ensures facts { (S.storage store.new).facts ≡ (S.storage store.old).facts }
+    ensures faults { (S.storage store.new).faults ≡ (S.storage store.old).faults }
+    ensures settings { (S.storage store.new).settings ≡ (S.storage store.old).settings }
 {
     store.put(at, COUNT, u64::from(count));
 }
 
 /// A string gets a new array.
 fn set_chars<S: Store>(program: &Program, store: &mut S, at: u64, text: &Text, size: u32)
-    requires may { MayChange program.now (S.kept store.old) (S.index store.old) (serial_of (S.index store.old) at) (changes.Sets text.now size) }
-    requires room { HasRoom (S.kept store.old) (wanted_by (changes.Sets text.now size)) (S.granted store.old) }
-    requires shaped { MayMake program.now (S.shapes store.old) }
-    requires allowed { (one other : ℕ) → S.allows store.old one other ≡ true }
-    ensures kept { S.kept store.new ≡ objects_behind (made_by program.now (S.kept store.old) (S.index store.old) (serial_of (S.index store.old) at) (changes.Sets text.now size)) }
-    ensures places { ReadsAsBefore (S.kept store.old) (S.index store.old) (S.index store.new) }
-    ensures facts { S.facts store.new ≡ facts_behind S.rules (S.facts store.old) (made_by program.now (S.kept store.old) (S.index store.old) (serial_of (S.index store.old) at) (changes.Sets text.now size)).placed }
-    ensures faults { S.faults store.new ≡ S.faults store.old }
-    ensures knows { S.knows store.new ≡ S.knows store.old }
-    ensures allows { S.allows store.new ≡ S.allows store.old }
-    ensures shapes { S.shapes store.new ≡ S.shapes store.old }
+    requires may { MayChange program.now (S.storage store.old).kept (S.storage store.old).index (serial_of (S.storage store.old).index at) (changes.Sets text.now size) }
+    requires room { HasRoom (S.storage store.old).kept (wanted_by (changes.Sets text.now size)) (S.storage store.old).granted }
+    requires shaped { MayMake program.now (S.storage store.old).settings.shapes }
+    requires follows { Follows (S.storage store.old).settings.allows (objects_behind (made_by program.now (S.storage store.old).kept (S.storage store.old).index (serial_of (S.storage store.old).index at) (changes.Sets text.now size))) }
+    ensures kept { (S.storage store.new).kept ≡ objects_behind (made_by program.now (S.storage store.old).kept (S.storage store.old).index (serial_of (S.storage store.old).index at) (changes.Sets text.now size)) }
+    ensures places { ReadsAsBefore (S.storage store.old).kept (S.storage store.old).index (S.storage store.new).index }
+    ensures facts { (S.storage store.new).facts ≡ facts_behind S.rules (S.storage store.old).facts (made_by program.now (S.storage store.old).kept (S.storage store.old).index (serial_of (S.storage store.old).index at) (changes.Sets text.now size)).placed }
+    ensures faults { (S.storage store.new).faults ≡ (S.storage store.old).faults }
+    ensures settings { (S.storage store.new).settings ≡ (S.storage store.old).settings }
 {
     refer(program, store, at, MADE_CHARACTERS, text, size);
 }
@@ -114,17 +108,15 @@ fn build_chars<S: Store>(
     count: u32,
     room: u32,
 )
-    requires may { MayChange program.now (S.kept store.old) (S.index store.old) (serial_of (S.index store.old) at) (changes.Builds text.now count room) }
-    requires room { HasRoom (S.kept store.old) (wanted_by (changes.Builds text.now count room)) (S.granted store.old) }
-    requires shaped { MayMake program.now (S.shapes store.old) }
-    requires allowed { (one other : ℕ) → S.allows store.old one other ≡ true }
-    ensures kept { S.kept store.new ≡ objects_behind (made_by program.now (S.kept store.old) (S.index store.old) (serial_of (S.index store.old) at) (changes.Builds text.now count room)) }
-    ensures places { ReadsAsBefore (S.kept store.old) (S.index store.old) (S.index store.new) }
-    ensures facts { S.facts store.new ≡ facts_behind S.rules (S.facts store.old) (made_by program.now (S.kept store.old) (S.index store.old) (serial_of (S.index store.old) at) (changes.Builds text.now count room)).placed }
-    ensures faults { S.faults store.new ≡ S.faults store.old }
-    ensures knows { S.knows store.new ≡ S.knows store.old }
-    ensures allows { S.allows store.new ≡ S.allows store.old }
-    ensures shapes { S.shapes store.new ≡ S.shapes store.old }
+    requires may { MayChange program.now (S.storage store.old).kept (S.storage store.old).index (serial_of (S.storage store.old).index at) (changes.Builds text.now count room) }
+    requires room { HasRoom (S.storage store.old).kept (wanted_by (changes.Builds text.now count room)) (S.storage store.old).granted }
+    requires shaped { MayMake program.now (S.storage store.old).settings.shapes }
+    requires follows { Follows (S.storage store.old).settings.allows (objects_behind (made_by program.now (S.storage store.old).kept (S.storage store.old).index (serial_of (S.storage store.old).index at) (changes.Builds text.now count room))) }
+    ensures kept { (S.storage store.new).kept ≡ objects_behind (made_by program.now (S.storage store.old).kept (S.storage store.old).index (serial_of (S.storage store.old).index at) (changes.Builds text.now count room)) }
+    ensures places { ReadsAsBefore (S.storage store.old).kept (S.storage store.old).index (S.storage store.new).index }
+    ensures facts { (S.storage store.new).facts ≡ facts_behind S.rules (S.storage store.old).facts (made_by program.now (S.storage store.old).kept (S.storage store.old).index (serial_of (S.storage store.old).index at) (changes.Builds text.now count room)).placed }
+    ensures faults { (S.storage store.new).faults ≡ (S.storage store.old).faults }
+    ensures settings { (S.storage store.new).settings ≡ (S.storage store.old).settings }
 {
     refer(program, store, at, BUILDER_CHARACTERS, text, room);
     put_count(store, at, count);
@@ -140,15 +132,13 @@ fn write_chars<S: Store>(
     piece: &Piece,
     count: u32,
 )
-    requires own { HasOwn (S.kept store.old) (serial_of (S.index store.old) at) (serial_of (S.index store.old) array) }
-    requires may { MayPut program.now (S.kept store.old) (S.index store.old) (serial_of (S.index store.old) array) from piece.now }
-    ensures kept { S.kept store.new ≡ counting (written (S.kept store.old) (serial_of (S.index store.old) array) from (piece_units program.now (S.kept store.old) (S.index store.old) piece.now)) (serial_of (S.index store.old) at) count }
-    ensures places { S.index store.new ≡ S.index store.old }
-    ensures facts { S.facts store.new ≡ S.facts store.old }
-    ensures faults { S.faults store.new ≡ S.faults store.old }
-    ensures knows { S.knows store.new ≡ S.knows store.old }
-    ensures allows { S.allows store.new ≡ S.allows store.old }
-    ensures shapes { S.shapes store.new ≡ S.shapes store.old }
+    requires own { HasOwn (S.storage store.old).kept (serial_of (S.storage store.old).index at) (serial_of (S.storage store.old).index array) }
+    requires may { MayPut program.now (S.storage store.old).kept (S.storage store.old).index (serial_of (S.storage store.old).index array) from piece.now }
+    ensures kept { (S.storage store.new).kept ≡ counting (written (S.storage store.old).kept (serial_of (S.storage store.old).index array) from (piece_units program.now (S.storage store.old).kept (S.storage store.old).index piece.now)) (serial_of (S.storage store.old).index at) count }
+    ensures places { (S.storage store.new).index ≡ (S.storage store.old).index }
+    ensures facts { (S.storage store.new).facts ≡ (S.storage store.old).facts }
+    ensures faults { (S.storage store.new).faults ≡ (S.storage store.old).faults }
+    ensures settings { (S.storage store.new).settings ≡ (S.storage store.old).settings }
 {
     write_piece(program, store, array, from, piece);
     put_count(store, at, count);
@@ -156,16 +146,14 @@ fn write_chars<S: Store>(
 
 /// Moves the units behind a place of an array to the front by one, up to an index, whose word stays as it is. Takes time in these.
 fn close_up<S: Store>(store: &mut S, array: u64, place: u32, count: u32)
-    requires kept { IsTrue (is_kept (S.kept store.old) (serial_of (S.index store.old) array)) }
-    requires units { HoldsUnits (S.kept store.old) (serial_of (S.index store.old) array) }
-    requires may { MayDelete (S.kept store.old) (serial_of (S.index store.old) array) place count }
-    ensures kept { S.kept store.new ≡ deleted (S.kept store.old) (serial_of (S.index store.old) array) place count }
-    ensures places { S.index store.new ≡ S.index store.old }
-    ensures facts { S.facts store.new ≡ S.facts store.old }
-    ensures faults { S.faults store.new ≡ S.faults store.old }
-    ensures knows { S.knows store.new ≡ S.knows store.old }
-    ensures allows { S.allows store.new ≡ S.allows store.old }
-    ensures shapes { S.shapes store.new ≡ S.shapes store.old }
+    requires kept { IsTrue (is_kept (S.storage store.old).kept (serial_of (S.storage store.old).index array)) }
+    requires units { HoldsUnits (S.storage store.old).kept (serial_of (S.storage store.old).index array) }
+    requires may { MayDelete (S.storage store.old).kept (serial_of (S.storage store.old).index array) place count }
+    ensures kept { (S.storage store.new).kept ≡ deleted (S.storage store.old).kept (serial_of (S.storage store.old).index array) place count }
+    ensures places { (S.storage store.new).index ≡ (S.storage store.old).index }
+    ensures facts { (S.storage store.new).facts ≡ (S.storage store.old).facts }
+    ensures faults { (S.storage store.new).faults ≡ (S.storage store.old).faults }
+    ensures settings { (S.storage store.new).settings ≡ (S.storage store.old).settings }
 {
     for i in place..count {
         let unit = store.get(array, i + 1);
@@ -175,15 +163,13 @@ fn close_up<S: Store>(store: &mut S, array: u64, place: u32, count: u32)
 
 /// A unit of a builder's array is left out. So many count then.
 fn delete_char<S: Store>(store: &mut S, at: u64, array: u64, place: u32, count: u32)
-    requires own { HasOwn (S.kept store.old) (serial_of (S.index store.old) at) (serial_of (S.index store.old) array) }
-    requires may { MayDelete (S.kept store.old) (serial_of (S.index store.old) array) place count }
-    ensures kept { S.kept store.new ≡ counting (deleted (S.kept store.old) (serial_of (S.index store.old) array) place count) (serial_of (S.index store.old) at) count }
-    ensures places { S.index store.new ≡ S.index store.old }
-    ensures facts { S.facts store.new ≡ S.facts store.old }
-    ensures faults { S.faults store.new ≡ S.faults store.old }
-    ensures knows { S.knows store.new ≡ S.knows store.old }
-    ensures allows { S.allows store.new ≡ S.allows store.old }
-    ensures shapes { S.shapes store.new ≡ S.shapes store.old }
+    requires own { HasOwn (S.storage store.old).kept (serial_of (S.storage store.old).index at) (serial_of (S.storage store.old).index array) }
+    requires may { MayDelete (S.storage store.old).kept (serial_of (S.storage store.old).index array) place count }
+    ensures kept { (S.storage store.new).kept ≡ counting (deleted (S.storage store.old).kept (serial_of (S.storage store.old).index array) place count) (serial_of (S.storage store.old).index at) count }
+    ensures places { (S.storage store.new).index ≡ (S.storage store.old).index }
+    ensures facts { (S.storage store.new).facts ≡ (S.storage store.old).facts }
+    ensures faults { (S.storage store.new).faults ≡ (S.storage store.old).faults }
+    ensures settings { (S.storage store.new).settings ≡ (S.storage store.old).settings }
 {
     close_up(store, array, place, count);
     put_count(store, at, count);
@@ -191,17 +177,15 @@ fn delete_char<S: Store>(store: &mut S, at: u64, array: u64, place: u32, count: 
 
 /// Changes the text of the object at a place. Takes time in the units that are written.
 pub(crate) fn make_change<S: Store>(program: &Program, store: &mut S, at: u64, change: &Change)
-    requires may { MayChange program.now (S.kept store.old) (S.index store.old) (serial_of (S.index store.old) at) change.now }
-    requires room { (wanted_by change.now ≡ [] → ⊥) → HasRoom (S.kept store.old) (wanted_by change.now) (S.granted store.old) }
-    requires shaped { MayMake program.now (S.shapes store.old) }
-    requires allowed { (one other : ℕ) → S.allows store.old one other ≡ true }
-    ensures kept { S.kept store.new ≡ objects_behind (made_by program.now (S.kept store.old) (S.index store.old) (serial_of (S.index store.old) at) change.now) }
-    ensures places { ReadsAsBefore (S.kept store.old) (S.index store.old) (S.index store.new) }
-    ensures facts { S.facts store.new ≡ facts_behind S.rules (S.facts store.old) (made_by program.now (S.kept store.old) (S.index store.old) (serial_of (S.index store.old) at) change.now).placed }
-    ensures faults { S.faults store.new ≡ S.faults store.old }
-    ensures knows { S.knows store.new ≡ S.knows store.old }
-    ensures allows { S.allows store.new ≡ S.allows store.old }
-    ensures shapes { S.shapes store.new ≡ S.shapes store.old }
+    requires may { MayChange program.now (S.storage store.old).kept (S.storage store.old).index (serial_of (S.storage store.old).index at) change.now }
+    requires room { (wanted_by change.now ≡ [] → ⊥) → HasRoom (S.storage store.old).kept (wanted_by change.now) (S.storage store.old).granted }
+    requires shaped { MayMake program.now (S.storage store.old).settings.shapes }
+    requires follows { Follows (S.storage store.old).settings.allows (objects_behind (made_by program.now (S.storage store.old).kept (S.storage store.old).index (serial_of (S.storage store.old).index at) change.now)) }
+    ensures kept { (S.storage store.new).kept ≡ objects_behind (made_by program.now (S.storage store.old).kept (S.storage store.old).index (serial_of (S.storage store.old).index at) change.now) }
+    ensures places { ReadsAsBefore (S.storage store.old).kept (S.storage store.old).index (S.storage store.new).index }
+    ensures facts { (S.storage store.new).facts ≡ facts_behind S.rules (S.storage store.old).facts (made_by program.now (S.storage store.old).kept (S.storage store.old).index (serial_of (S.storage store.old).index at) change.now).placed }
+    ensures faults { (S.storage store.new).faults ≡ (S.storage store.old).faults }
+    ensures settings { (S.storage store.new).settings ≡ (S.storage store.old).settings }
 {
     match change {
         Change::Sets { text, size } => set_chars(program, store, at, text, *size),

@@ -46,8 +46,8 @@ fn front(room: u32, number: i32) -> u32
 
 /// What the builder at a place has.
 pub(crate) fn built_at<S: Store>(store: &S, at: u64) -> Built
-    requires { IsBuilder (S.kept store.now) (serial_of (S.index store.now) at) }
-    ensures { HasBuilt (S.kept store.now) (S.index store.now) (serial_of (S.index store.now) at) result }
+    requires { IsBuilder (S.storage store.now).kept (serial_of (S.storage store.now).index at) }
+    ensures { HasBuilt (S.storage store.now).kept (S.storage store.now).index (serial_of (S.storage store.now).index at) result }
 {
     let array = store.get_ref(at, CHARS);
     let number = int_in::<S, OfInt>(store, at, COUNT);
@@ -117,12 +117,12 @@ pub(crate) fn hold<S: Store>(
     kept: u32,
     piece: &Piece,
 ) -> Result<Own, Exception>
-    requires built { HasBuilt (S.kept store.now) (S.index store.now) (serial_of (S.index store.now) at) built.now }
+    requires built { HasBuilt (S.storage store.now).kept (S.storage store.now).index (serial_of (S.storage store.now).index at) built.now }
     requires within { kept ≤ built.now.count }
-    requires piece { IsPiece program.now (S.kept store.now) (S.index store.now) piece.now }
-    requires may { MayWrite (S.index store.now) (serial_of (S.index store.now) built.now.array) kept piece.now }
-    ensures { Decides program.now (S.kept store.now) (S.index store.now)
-        (λ call. held_by call (serial_of (S.index store.now) at) gives (take kept (units_in (S.kept store.now) (serial_of (S.index store.now) built.now.array)) ++ piece_units program.now (S.kept store.now) (S.index store.now) piece.now)) result }
+    requires piece { IsPiece program.now (S.storage store.now).kept (S.storage store.now).index piece.now }
+    requires may { MayWrite (S.storage store.now).index (serial_of (S.storage store.now).index built.now.array) kept piece.now }
+    ensures { Decides program.now (S.storage store.now).kept (S.storage store.now).index
+        (λ call. held_by call (serial_of (S.storage store.now).index at) gives (take kept (units_in (S.storage store.now).kept (serial_of (S.storage store.now).index built.now.array)) ++ piece_units program.now (S.storage store.now).kept (S.storage store.now).index piece.now)) result }
 {
     let count = u64::from(kept) + piece_size(program, store, piece);
     if count > u64::from(MOST_ELEMENTS) {

@@ -27,8 +27,8 @@ const MINUS: u16 = 45;
 
 /// `parseInt`.
 pub(crate) fn parse_int<S: Store>(store: &S, at: u64) -> Result<Answer, Thrown>
-    requires { IsReference (S.kept store.now) AText (serial_of (S.index store.now) at) }
-    ensures { Tells (S.kept store.now) natives.IntegerParseInt (values.Ref (serial_of (S.index store.now) at) ∷ []) result }
+    requires { IsReference (S.storage store.now).kept AText (serial_of (S.storage store.now).index at) }
+    ensures { Tells (S.storage store.now).kept natives.IntegerParseInt (values.Ref (serial_of (S.storage store.now).index at) ∷ []) result }
 {
     if at == 0 {
         return Err(Thrown::Of(Exception::NumberFormat));
@@ -38,9 +38,9 @@ pub(crate) fn parse_int<S: Store>(store: &S, at: u64) -> Result<Answer, Thrown>
 
 /// The int that a string spells, or a NumberFormatException.
 fn int_in_text<S: Store>(store: &S, at: u64) -> Result<Answer, Thrown>
-    requires { IsReference (S.kept store.now) AText (serial_of (S.index store.now) at) }
-    ensures { (machine : Machine) (beside : Beside) → on_text (call_on machine (S.kept store.now) beside) (serial_of (S.index store.now) at) (λ units. gives_parsed (call_on machine (S.kept store.now) beside) (gives_int (call_on machine (S.kept store.now) beside)) (option_and_then (in_range w32) (number_in units)))
-        ≡ answered (call_on machine (S.kept store.now) beside) result }
+    requires { IsReference (S.storage store.now).kept AText (serial_of (S.storage store.now).index at) }
+    ensures { (machine : Machine) (beside : Beside) → on_text (call_on machine (S.storage store.now).kept beside) (serial_of (S.storage store.now).index at) (λ units. gives_parsed (call_on machine (S.storage store.now).kept beside) (gives_int (call_on machine (S.storage store.now).kept beside)) (option_and_then (in_range w32) (number_in units)))
+        ≡ answered (call_on machine (S.storage store.now).kept beside) result }
 {
     let array = text_in(store, at)?;
     match int_in_units(store, array) {
@@ -51,8 +51,8 @@ fn int_in_text<S: Store>(store: &S, at: u64) -> Result<Answer, Thrown>
 
 /// `parseLong`.
 pub(crate) fn parse_long<S: Store>(store: &S, at: u64) -> Result<Answer, Thrown>
-    requires { IsReference (S.kept store.now) AText (serial_of (S.index store.now) at) }
-    ensures { Tells (S.kept store.now) natives.LongParseLong (values.Ref (serial_of (S.index store.now) at) ∷ []) result }
+    requires { IsReference (S.storage store.now).kept AText (serial_of (S.storage store.now).index at) }
+    ensures { Tells (S.storage store.now).kept natives.LongParseLong (values.Ref (serial_of (S.storage store.now).index at) ∷ []) result }
 {
     if at == 0 {
         return Err(Thrown::Of(Exception::NumberFormat));
@@ -62,9 +62,9 @@ pub(crate) fn parse_long<S: Store>(store: &S, at: u64) -> Result<Answer, Thrown>
 
 /// The long that a string spells, or a NumberFormatException.
 fn long_in_text<S: Store>(store: &S, at: u64) -> Result<Answer, Thrown>
-    requires { IsReference (S.kept store.now) AText (serial_of (S.index store.now) at) }
-    ensures { (machine : Machine) (beside : Beside) → on_text (call_on machine (S.kept store.now) beside) (serial_of (S.index store.now) at) (λ units. gives_parsed (call_on machine (S.kept store.now) beside) (gives_long (call_on machine (S.kept store.now) beside)) (option_and_then (in_range w64) (number_in units)))
-        ≡ answered (call_on machine (S.kept store.now) beside) result }
+    requires { IsReference (S.storage store.now).kept AText (serial_of (S.storage store.now).index at) }
+    ensures { (machine : Machine) (beside : Beside) → on_text (call_on machine (S.storage store.now).kept beside) (serial_of (S.storage store.now).index at) (λ units. gives_parsed (call_on machine (S.storage store.now).kept beside) (gives_long (call_on machine (S.storage store.now).kept beside)) (option_and_then (in_range w64) (number_in units)))
+        ≡ answered (call_on machine (S.storage store.now).kept beside) result }
 {
     let array = text_in(store, at)?;
     match long_in_units(store, array) {
@@ -75,8 +75,8 @@ fn long_in_text<S: Store>(store: &S, at: u64) -> Result<Answer, Thrown>
 
 /// The int that an array of chars spells.
 fn int_in_units<S: Store>(store: &S, array: u64) -> Option<i32>
-    requires { HoldsUnits (S.kept store.now) (serial_of (S.index store.now) array) }
-    ensures { result ≡ option_and_then (in_range w32) (number_in (units_in (S.kept store.now) (serial_of (S.index store.now) array))) }
+    requires { HoldsUnits (S.storage store.now).kept (serial_of (S.storage store.now).index array) }
+    ensures { result ≡ option_and_then (in_range w32) (number_in (units_in (S.storage store.now).kept (serial_of (S.storage store.now).index array))) }
 {
     match number_in_units(store, array) {
         Some(number) => int_within(number),
@@ -86,8 +86,8 @@ fn int_in_units<S: Store>(store: &S, array: u64) -> Option<i32>
 
 /// The long that an array of chars spells.
 fn long_in_units<S: Store>(store: &S, array: u64) -> Option<i64>
-    requires { HoldsUnits (S.kept store.now) (serial_of (S.index store.now) array) }
-    ensures { result ≡ option_and_then (in_range w64) (number_in (units_in (S.kept store.now) (serial_of (S.index store.now) array))) }
+    requires { HoldsUnits (S.storage store.now).kept (serial_of (S.storage store.now).index array) }
+    ensures { result ≡ option_and_then (in_range w64) (number_in (units_in (S.storage store.now).kept (serial_of (S.storage store.now).index array))) }
 {
     match number_in_units(store, array) {
         Some(number) => long_within(number),
@@ -113,8 +113,8 @@ fn long_within(number: i128) -> Option<i64>
 
 /// The number that a string spells, or none where it spells none or one that is neither an int nor a long. Linear in its units.
 fn number_in_units<S: Store>(store: &S, array: u64) -> Option<i128>
-    requires { HoldsUnits (S.kept store.now) (serial_of (S.index store.now) array) }
-    ensures { SameInRange (number_in (units_in (S.kept store.now) (serial_of (S.index store.now) array))) result }
+    requires { HoldsUnits (S.storage store.now).kept (serial_of (S.storage store.now).index array) }
+    ensures { SameInRange (number_in (units_in (S.storage store.now).kept (serial_of (S.storage store.now).index array))) result }
 {
     if count(store, array) == 0 {
         return None;
@@ -143,9 +143,9 @@ fn signed(minus: bool, size: Option<u64>) -> Option<i128>
 /// The number that the digits of a string spell from a place on, or none where it is more than 2 to the 63, or where there is no digit or
 /// another unit.
 fn size_at<S: Store>(store: &S, array: u64, start: u32) -> Option<u64>
-    requires units { HoldsUnits (S.kept store.now) (serial_of (S.index store.now) array) }
-    requires low { start ≤ length (units_in (S.kept store.now) (serial_of (S.index store.now) array)) }
-    ensures { result ≡ at_most (read_some (drop start (units_in (S.kept store.now) (serial_of (S.index store.now) array)))) }
+    requires units { HoldsUnits (S.storage store.now).kept (serial_of (S.storage store.now).index array) }
+    requires low { start ≤ length (units_in (S.storage store.now).kept (serial_of (S.storage store.now).index array)) }
+    ensures { result ≡ at_most (read_some (drop start (units_in (S.storage store.now).kept (serial_of (S.storage store.now).index array)))) }
 {
     if start < count(store, array) {
         digits_at(store, array, start)
@@ -157,9 +157,9 @@ fn size_at<S: Store>(store: &S, array: u64, start: u32) -> Option<u64>
 /// The number that the digits of a string spell from one of its units on, or none where it is more than 2 to the 63 or there is another
 /// unit.
 fn digits_at<S: Store>(store: &S, array: u64, start: u32) -> Option<u64>
-    requires units { HoldsUnits (S.kept store.now) (serial_of (S.index store.now) array) }
-    requires low { start < length (units_in (S.kept store.now) (serial_of (S.index store.now) array)) }
-    ensures { result ≡ at_most (read_some (drop start (units_in (S.kept store.now) (serial_of (S.index store.now) array)))) }
+    requires units { HoldsUnits (S.storage store.now).kept (serial_of (S.storage store.now).index array) }
+    requires low { start < length (units_in (S.storage store.now).kept (serial_of (S.storage store.now).index array)) }
+    ensures { result ≡ at_most (read_some (drop start (units_in (S.storage store.now).kept (serial_of (S.storage store.now).index array)))) }
 {
     let mut sum = 0;
     for place in start..count(store, array) {

@@ -28,16 +28,14 @@ pub(crate) fn place_text<S: Store>(
     array: u32,
     string: u32,
 ) -> u64
-    requires text { IsText program.now (S.kept store.old) (S.index store.old) text.now }
-    requires may { MayPlaceText (S.shapes store.old) (S.granted store.old) (S.allows store.old) (S.kept store.old) array string (length (text_units program.now (S.kept store.old) (S.index store.old) text.now)) }
-    ensures kept { S.kept store.new ≡ with_made array string (text_units program.now (S.kept store.old) (S.index store.old) text.now) (S.kept store.old) }
-    ensures serial { serial_of (S.index store.new) result ≡ length (S.kept store.old) + 1 + 1 }
-    ensures places { ReadsAsBefore (S.kept store.old) (S.index store.old) (S.index store.new) }
-    ensures facts { S.facts store.new ≡ S.rules.placed (S.rules.placed (S.facts store.old) made_characters (length (text_units program.now (S.kept store.old) (S.index store.old) text.now))) made_strings 1 }
-    ensures faults { S.faults store.new ≡ S.faults store.old }
-    ensures knows { S.knows store.new ≡ S.knows store.old }
-    ensures allows { S.allows store.new ≡ S.allows store.old }
-    ensures shapes { S.shapes store.new ≡ S.shapes store.old }
+    requires text { IsText program.now (S.storage store.old).kept (S.storage store.old).index text.now }
+    requires may { MayPlaceText (S.storage store.old).settings.shapes (S.storage store.old).granted (S.storage store.old).settings.allows (S.storage store.old).kept array string (length (text_units program.now (S.storage store.old).kept (S.storage store.old).index text.now)) }
+    ensures kept { (S.storage store.new).kept ≡ with_made array string (text_units program.now (S.storage store.old).kept (S.storage store.old).index text.now) (S.storage store.old).kept }
+    ensures serial { serial_of (S.storage store.new).index result ≡ length (S.storage store.old).kept + 1 + 1 }
+    ensures places { ReadsAsBefore (S.storage store.old).kept (S.storage store.old).index (S.storage store.new).index }
+    ensures facts { (S.storage store.new).facts ≡ S.rules.placed (S.rules.placed (S.storage store.old).facts made_characters (length (text_units program.now (S.storage store.old).kept (S.storage store.old).index text.now))) made_strings 1 }
+    ensures faults { (S.storage store.new).faults ≡ (S.storage store.old).faults }
+    ensures settings { (S.storage store.new).settings ≡ (S.storage store.old).settings }
 {
     let characters = place_array(program, store, text, array);
     let at = store.place(MADE_STRINGS, string, 1);
@@ -47,20 +45,18 @@ pub(crate) fn place_text<S: Store>(
 
 /// Places an array of chars with the units of a text.
 fn place_array<S: Store>(program: &Program, store: &mut S, text: &Text, kind: u32) -> u64
-    requires text { IsText program.now (S.kept store.old) (S.index store.old) text.now }
-    requires granted { words_of (length (text_units program.now (S.kept store.old) (S.index store.old) text.now)) ≤ words_at (S.granted store.old) made_characters }
-    requires shape { slice_get (S.shapes store.old) kind ≡ Some (Elements false) }
-    requires serials { length (S.kept store.old) + 1 < 2 ^ 63 }
-    requires few { length (text_units program.now (S.kept store.old) (S.index store.old) text.now) < 2 ^ 31 }
-    ensures kept { S.kept store.new ≡ S.kept store.old ++ Some (new_array kind (text_units program.now (S.kept store.old) (S.index store.old) text.now)) ∷ [] }
-    ensures serial { serial_of (S.index store.new) result ≡ length (S.kept store.old) + 1 }
-    ensures places { ReadsAsBefore (S.kept store.old) (S.index store.old) (S.index store.new) }
-    ensures facts { S.facts store.new ≡ S.rules.placed (S.facts store.old) made_characters (length (text_units program.now (S.kept store.old) (S.index store.old) text.now)) }
-    ensures granted { S.granted store.new ≡ spent (S.granted store.old) made_characters (words_of (length (text_units program.now (S.kept store.old) (S.index store.old) text.now))) }
-    ensures faults { S.faults store.new ≡ S.faults store.old }
-    ensures knows { S.knows store.new ≡ S.knows store.old }
-    ensures allows { S.allows store.new ≡ S.allows store.old }
-    ensures shapes { S.shapes store.new ≡ S.shapes store.old }
+    requires text { IsText program.now (S.storage store.old).kept (S.storage store.old).index text.now }
+    requires granted { words_of (length (text_units program.now (S.storage store.old).kept (S.storage store.old).index text.now)) ≤ words_at (S.storage store.old).granted made_characters }
+    requires shape { slice_get (S.storage store.old).settings.shapes kind ≡ Some (Elements false) }
+    requires serials { length (S.storage store.old).kept + 1 < 2 ^ 63 }
+    requires few { length (text_units program.now (S.storage store.old).kept (S.storage store.old).index text.now) < 2 ^ 31 }
+    ensures kept { (S.storage store.new).kept ≡ (S.storage store.old).kept ++ Some (new_array kind (text_units program.now (S.storage store.old).kept (S.storage store.old).index text.now)) ∷ [] }
+    ensures serial { serial_of (S.storage store.new).index result ≡ length (S.storage store.old).kept + 1 }
+    ensures places { ReadsAsBefore (S.storage store.old).kept (S.storage store.old).index (S.storage store.new).index }
+    ensures facts { (S.storage store.new).facts ≡ S.rules.placed (S.storage store.old).facts made_characters (length (text_units program.now (S.storage store.old).kept (S.storage store.old).index text.now)) }
+    ensures granted { (S.storage store.new).granted ≡ spent (S.storage store.old).granted made_characters (words_of (length (text_units program.now (S.storage store.old).kept (S.storage store.old).index text.now))) }
+    ensures faults { (S.storage store.new).faults ≡ (S.storage store.old).faults }
+    ensures settings { (S.storage store.new).settings ≡ (S.storage store.old).settings }
 {
     let size = text_size(program, store, text) as u32;
     let array = store.place(MADE_CHARACTERS, kind, size);

@@ -8,6 +8,7 @@ ghost use Rattle.cb_link.specs.Having.{IsBelow};
 ghost use Rattle.cb_machine.specs.Copying.{fits};
 ghost use Rattle.cb_natives.specs.Answers.{Beside};
 ghost use Rattle.cb_natives.specs.Copies.{MayCopy, RefersHeld, copied, word_of, words_from};
+ghost use Rattle.cb_natives.specs.Following.{FollowsFrom};
 ghost use Rattle.cb_natives.specs.MakingKept.{HasKinds};
 ghost use Rattle.cb_natives.specs.MakingOwn.{call_of};
 ghost use Rattle.cb_natives.specs.RangeCopies.{MayFit, fitting_from};
@@ -28,16 +29,14 @@ pub(crate) fn copy_range<S: Store>(
     at: u32,
     count: u32,
 )
-    requires may { MayCopy (S.kept store.old) shape.now (serial_of (S.index store.old) source) start (serial_of (S.index store.old) to) at count }
-    requires allowed { (one other : ℕ) → S.allows store.old one other ≡ true }
-    ensures kept { S.kept store.new ≡ copied (S.kept store.old) (serial_of (S.index store.old) source) start (serial_of (S.index store.old) to) at count }
-    ensures places { S.index store.new ≡ S.index store.old }
-    ensures facts { S.facts store.new ≡ S.facts store.old }
-    ensures granted { S.granted store.new ≡ S.granted store.old }
-    ensures faults { S.faults store.new ≡ S.faults store.old }
-    ensures knows { S.knows store.new ≡ S.knows store.old }
-    ensures allows { S.allows store.new ≡ S.allows store.old }
-    ensures shapes { S.shapes store.new ≡ S.shapes store.old }
+    requires may { MayCopy (S.storage store.old).kept shape.now (serial_of (S.storage store.old).index source) start (serial_of (S.storage store.old).index to) at count }
+    requires follows { FollowsFrom (S.storage store.old).settings.allows (copied (S.storage store.old).kept (serial_of (S.storage store.old).index source) start (serial_of (S.storage store.old).index to) at count) (serial_of (S.storage store.old).index to) }
+    ensures kept { (S.storage store.new).kept ≡ copied (S.storage store.old).kept (serial_of (S.storage store.old).index source) start (serial_of (S.storage store.old).index to) at count }
+    ensures places { (S.storage store.new).index ≡ (S.storage store.old).index }
+    ensures facts { (S.storage store.new).facts ≡ (S.storage store.old).facts }
+    ensures granted { (S.storage store.new).granted ≡ (S.storage store.old).granted }
+    ensures faults { (S.storage store.new).faults ≡ (S.storage store.old).faults }
+    ensures settings { (S.storage store.new).settings ≡ (S.storage store.old).settings }
 {
     if start <= at {
         copy_words(store, shape, source, start, to, at, count);
@@ -56,8 +55,8 @@ pub(crate) fn fitting_count<S: Store>(
     count: u32,
 ) -> u32
     requires known { IsBelow (length program.now.kinds) element }
-    requires may { refers element ≡ true → MayFit program.now (S.kept store.now) (serial_of (S.index store.now) source) start count }
-    ensures fit { (frames : ℕ) (beside : Beside) → fitting_from program.now (S.kept store.now) frames beside element (serial_of (S.index store.now) source) start count ≡ take result (words_from (S.kept store.now) (serial_of (S.index store.now) source) start count) }
+    requires may { refers element ≡ true → MayFit program.now (S.storage store.now).kept (serial_of (S.storage store.now).index source) start count }
+    ensures fit { (frames : ℕ) (beside : Beside) → fitting_from program.now (S.storage store.now).kept frames beside element (serial_of (S.storage store.now).index source) start count ≡ take result (words_from (S.storage store.now).kept (serial_of (S.storage store.now).index source) start count) }
     ensures few { result ≤ count }
 {
     match element {
@@ -76,8 +75,8 @@ fn instances<S: Store>(
     count: u32,
 ) -> u32
     requires known { kind < length program.now.kinds }
-    requires may { MayFit program.now (S.kept store.now) (serial_of (S.index store.now) source) start count }
-    ensures fit { (frames : ℕ) (beside : Beside) → fitting_from program.now (S.kept store.now) frames beside (basics.Reference kind) (serial_of (S.index store.now) source) start count ≡ take result (words_from (S.kept store.now) (serial_of (S.index store.now) source) start count) }
+    requires may { MayFit program.now (S.storage store.now).kept (serial_of (S.storage store.now).index source) start count }
+    ensures fit { (frames : ℕ) (beside : Beside) → fitting_from program.now (S.storage store.now).kept frames beside (basics.Reference kind) (serial_of (S.storage store.now).index source) start count ≡ take result (words_from (S.storage store.now).kept (serial_of (S.storage store.now).index source) start count) }
     ensures few { result ≤ count }
 {
     for i in 0..count {
@@ -91,10 +90,10 @@ fn instances<S: Store>(
 /// Whether a word refers to null or to an instance of a kind.
 fn fits<S: Store>(program: &Program, store: &S, kind: u32, source: u64, word: u32) -> bool
     requires known { kind < length program.now.kinds }
-    requires kinds { HasKinds program.now (S.kept store.now) }
-    requires read { is_reference (content_at (S.kept store.now) (serial_of (S.index store.now) source) word) ≡ true }
-    requires held { RefersHeld (S.kept store.now) (content_at (S.kept store.now) (serial_of (S.index store.now) source) word) }
-    ensures { (frames : ℕ) (beside : Beside) → fits (call_of program.now (S.kept store.now) frames beside) (Some (basics.Reference kind)) (word_of (content_at (S.kept store.now) (serial_of (S.index store.now) source) word)) ≡ result }
+    requires kinds { HasKinds program.now (S.storage store.now).kept }
+    requires read { is_reference (content_at (S.storage store.now).kept (serial_of (S.storage store.now).index source) word) ≡ true }
+    requires held { RefersHeld (S.storage store.now).kept (content_at (S.storage store.now).kept (serial_of (S.storage store.now).index source) word) }
+    ensures { (frames : ℕ) (beside : Beside) → fits (call_of program.now (S.storage store.now).kept frames beside) (Some (basics.Reference kind)) (word_of (content_at (S.storage store.now).kept (serial_of (S.storage store.now).index source) word)) ≡ result }
 {
     let at = store.get_ref(source, word);
     at == 0 || program.instance(store.kind(at), kind)

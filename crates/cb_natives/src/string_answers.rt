@@ -29,10 +29,10 @@ pub(crate) fn text_answer<S: Store>(
 ) -> Result<Answer, Thrown>
     requires gives { gives_text native ≡ true }
     requires sorts { have_sorts (sorts_of native) arguments.now ≡ true }
-    requires given { AreGiven (S.kept store.now) (roles native) (map (read_value
-        (S.index store.now)) arguments.now) }
-    requires core { HasCore (S.kept store.now) }
-    ensures { Tells (S.kept store.now) native (map (read_value (S.index store.now)) arguments.now) result }
+    requires given { AreGiven (S.storage store.now).kept (roles native) (map (read_value
+        (S.storage store.now).index) arguments.now) }
+    requires core { HasCore (S.storage store.now).kept }
+    ensures { Tells (S.storage store.now).kept native (map (read_value (S.storage store.now).index) arguments.now) result }
 {
     match native {
         Native::StringLength => length_of(store, reference(arguments)),
@@ -77,8 +77,8 @@ pub(crate) fn text_answer<S: Store>(
 
 /// `length` of a string.
 fn length_of<S: Store>(store: &S, at: u64) -> Result<Answer, Thrown>
-    requires { IsReference (S.kept store.now) AText (serial_of (S.index store.now) at) }
-    ensures { Tells (S.kept store.now) natives.StringLength (values.Ref (serial_of (S.index store.now) at) ∷ []) result }
+    requires { IsReference (S.storage store.now).kept AText (serial_of (S.storage store.now).index at) }
+    ensures { Tells (S.storage store.now).kept natives.StringLength (values.Ref (serial_of (S.storage store.now).index at) ∷ []) result }
 {
     let array = text_in(store, at)?;
     Ok(Answer::Int(count(store, array) as i32))
@@ -86,8 +86,8 @@ fn length_of<S: Store>(store: &S, at: u64) -> Result<Answer, Thrown>
 
 /// `isEmpty`.
 fn is_empty<S: Store>(store: &S, at: u64) -> Result<Answer, Thrown>
-    requires { IsReference (S.kept store.now) AText (serial_of (S.index store.now) at) }
-    ensures { Tells (S.kept store.now) natives.StringIsEmpty (values.Ref (serial_of (S.index store.now) at) ∷ []) result }
+    requires { IsReference (S.storage store.now).kept AText (serial_of (S.storage store.now).index at) }
+    ensures { Tells (S.storage store.now).kept natives.StringIsEmpty (values.Ref (serial_of (S.storage store.now).index at) ∷ []) result }
 {
     let array = text_in(store, at)?;
     Ok(truth(count(store, array) == 0))
@@ -95,8 +95,8 @@ fn is_empty<S: Store>(store: &S, at: u64) -> Result<Answer, Thrown>
 
 /// `charAt` of a string.
 fn char_at<S: Store>(store: &S, at: u64, place: i32) -> Result<Answer, Thrown>
-    requires { IsReference (S.kept store.now) AText (serial_of (S.index store.now) at) }
-    ensures { Tells (S.kept store.now) natives.StringCharAt (values.Ref (serial_of (S.index store.now) at) ∷ values.Int place ∷ []) result }
+    requires { IsReference (S.storage store.now).kept AText (serial_of (S.storage store.now).index at) }
+    ensures { Tells (S.storage store.now).kept natives.StringCharAt (values.Ref (serial_of (S.storage store.now).index at) ∷ values.Int place ∷ []) result }
 {
     let array = text_in(store, at)?;
     match u32::try_from(place) {
@@ -109,10 +109,10 @@ fn char_at<S: Store>(store: &S, at: u64, place: i32) -> Result<Answer, Thrown>
 
 /// `equals` of a string.
 fn equal_strings<S: Store>(store: &S, at: u64, other: u64) -> Result<Answer, Thrown>
-    requires own { IsReference (S.kept store.now) AText (serial_of (S.index store.now) at) }
-    requires other { IsTrue (is_held (S.kept store.now) (serial_of (S.index store.now) other)) }
-    requires core { HasCore (S.kept store.now) }
-    ensures { Tells (S.kept store.now) natives.StringEquals (values.Ref (serial_of (S.index store.now) at) ∷ values.Ref (serial_of (S.index store.now) other) ∷ []) result }
+    requires own { IsReference (S.storage store.now).kept AText (serial_of (S.storage store.now).index at) }
+    requires other { IsTrue (is_held (S.storage store.now).kept (serial_of (S.storage store.now).index other)) }
+    requires core { HasCore (S.storage store.now).kept }
+    ensures { Tells (S.storage store.now).kept natives.StringEquals (values.Ref (serial_of (S.storage store.now).index at) ∷ values.Ref (serial_of (S.storage store.now).index other) ∷ []) result }
 {
     let array = text_in(store, at)?;
     Ok(truth(is_string_of(store, array, other)))
@@ -120,8 +120,8 @@ fn equal_strings<S: Store>(store: &S, at: u64, other: u64) -> Result<Answer, Thr
 
 /// `hashCode` of a string.
 fn string_hash<S: Store>(store: &S, at: u64) -> Result<Answer, Thrown>
-    requires { IsReference (S.kept store.now) AText (serial_of (S.index store.now) at) }
-    ensures { Tells (S.kept store.now) natives.StringHashCode (values.Ref (serial_of (S.index store.now) at) ∷ []) result }
+    requires { IsReference (S.storage store.now).kept AText (serial_of (S.storage store.now).index at) }
+    ensures { Tells (S.storage store.now).kept natives.StringHashCode (values.Ref (serial_of (S.storage store.now).index at) ∷ []) result }
 {
     let array = text_in(store, at)?;
     Ok(Answer::Int(hash_of_units(store, array)))
@@ -129,9 +129,9 @@ fn string_hash<S: Store>(store: &S, at: u64) -> Result<Answer, Thrown>
 
 /// `compareTo` of strings.
 fn compare_strings<S: Store>(store: &S, at: u64, other: u64) -> Result<Answer, Thrown>
-    requires own { IsReference (S.kept store.now) AText (serial_of (S.index store.now) at) }
-    requires other { IsReference (S.kept store.now) AText (serial_of (S.index store.now) other) }
-    ensures { Tells (S.kept store.now) natives.StringCompareTo (values.Ref (serial_of (S.index store.now) at) ∷ values.Ref (serial_of (S.index store.now) other) ∷ []) result }
+    requires own { IsReference (S.storage store.now).kept AText (serial_of (S.storage store.now).index at) }
+    requires other { IsReference (S.storage store.now).kept AText (serial_of (S.storage store.now).index other) }
+    ensures { Tells (S.storage store.now).kept natives.StringCompareTo (values.Ref (serial_of (S.storage store.now).index at) ∷ values.Ref (serial_of (S.storage store.now).index other) ∷ []) result }
 {
     let other = text_in(store, other)?;
     let array = text_in(store, at)?;
@@ -140,8 +140,8 @@ fn compare_strings<S: Store>(store: &S, at: u64, other: u64) -> Result<Answer, T
 
 /// `indexOf(int)`.
 fn index_of_unit<S: Store>(store: &S, at: u64, wanted: i32) -> Result<Answer, Thrown>
-    requires { IsReference (S.kept store.now) AText (serial_of (S.index store.now) at) }
-    ensures { Tells (S.kept store.now) natives.StringIndexOfUnit (values.Ref (serial_of (S.index store.now) at) ∷ values.Int wanted ∷ []) result }
+    requires { IsReference (S.storage store.now).kept AText (serial_of (S.storage store.now).index at) }
+    ensures { Tells (S.storage store.now).kept natives.StringIndexOfUnit (values.Ref (serial_of (S.storage store.now).index at) ∷ values.Int wanted ∷ []) result }
 {
     let array = text_in(store, at)?;
     Ok(Answer::Int(find_unit(store, array, wanted)))
@@ -149,9 +149,9 @@ fn index_of_unit<S: Store>(store: &S, at: u64, wanted: i32) -> Result<Answer, Th
 
 /// `indexOf(String)`.
 fn index_of_string<S: Store>(store: &S, at: u64, part: u64) -> Result<Answer, Thrown>
-    requires own { IsReference (S.kept store.now) AText (serial_of (S.index store.now) at) }
-    requires other { IsReference (S.kept store.now) AText (serial_of (S.index store.now) part) }
-    ensures { Tells (S.kept store.now) natives.StringIndexOfString (values.Ref (serial_of (S.index store.now) at) ∷ values.Ref (serial_of (S.index store.now) part) ∷ []) result }
+    requires own { IsReference (S.storage store.now).kept AText (serial_of (S.storage store.now).index at) }
+    requires other { IsReference (S.storage store.now).kept AText (serial_of (S.storage store.now).index part) }
+    ensures { Tells (S.storage store.now).kept natives.StringIndexOfString (values.Ref (serial_of (S.storage store.now).index at) ∷ values.Ref (serial_of (S.storage store.now).index part) ∷ []) result }
 {
     let other = text_in(store, part)?;
     let array = text_in(store, at)?;
@@ -160,9 +160,9 @@ fn index_of_string<S: Store>(store: &S, at: u64, part: u64) -> Result<Answer, Th
 
 /// `startsWith`.
 fn starts_with<S: Store>(store: &S, at: u64, front: u64) -> Result<Answer, Thrown>
-    requires own { IsReference (S.kept store.now) AText (serial_of (S.index store.now) at) }
-    requires other { IsReference (S.kept store.now) AText (serial_of (S.index store.now) front) }
-    ensures { Tells (S.kept store.now) natives.StringStartsWith (values.Ref (serial_of (S.index store.now) at) ∷ values.Ref (serial_of (S.index store.now) front) ∷ []) result }
+    requires own { IsReference (S.storage store.now).kept AText (serial_of (S.storage store.now).index at) }
+    requires other { IsReference (S.storage store.now).kept AText (serial_of (S.storage store.now).index front) }
+    ensures { Tells (S.storage store.now).kept natives.StringStartsWith (values.Ref (serial_of (S.storage store.now).index at) ∷ values.Ref (serial_of (S.storage store.now).index front) ∷ []) result }
 {
     let other = text_in(store, front)?;
     let array = text_in(store, at)?;
@@ -171,9 +171,9 @@ fn starts_with<S: Store>(store: &S, at: u64, front: u64) -> Result<Answer, Throw
 
 /// `endsWith`.
 fn ends_with<S: Store>(store: &S, at: u64, end: u64) -> Result<Answer, Thrown>
-    requires own { IsReference (S.kept store.now) AText (serial_of (S.index store.now) at) }
-    requires other { IsReference (S.kept store.now) AText (serial_of (S.index store.now) end) }
-    ensures { Tells (S.kept store.now) natives.StringEndsWith (values.Ref (serial_of (S.index store.now) at) ∷ values.Ref (serial_of (S.index store.now) end) ∷ []) result }
+    requires own { IsReference (S.storage store.now).kept AText (serial_of (S.storage store.now).index at) }
+    requires other { IsReference (S.storage store.now).kept AText (serial_of (S.storage store.now).index end) }
+    ensures { Tells (S.storage store.now).kept natives.StringEndsWith (values.Ref (serial_of (S.storage store.now).index at) ∷ values.Ref (serial_of (S.storage store.now).index end) ∷ []) result }
 {
     let other = text_in(store, end)?;
     let array = text_in(store, at)?;
@@ -182,9 +182,9 @@ fn ends_with<S: Store>(store: &S, at: u64, end: u64) -> Result<Answer, Thrown>
 
 /// `length` of a builder.
 fn built_length<S: Store>(store: &S, at: u64) -> Result<Answer, Thrown>
-    requires { IsReference (S.kept store.now) ABuilder (serial_of (S.index store.now) at) }
-    ensures { (machine : Machine) (beside : Beside) → on_built (call_on machine (S.kept store.now) beside) (serial_of (S.index store.now) at) (λ units. gives_int (call_on machine (S.kept store.now) beside) (pos (length units)))
-        ≡ answered (call_on machine (S.kept store.now) beside) result }
+    requires { IsReference (S.storage store.now).kept ABuilder (serial_of (S.storage store.now).index at) }
+    ensures { (machine : Machine) (beside : Beside) → on_built (call_on machine (S.storage store.now).kept beside) (serial_of (S.storage store.now).index at) (λ units. gives_int (call_on machine (S.storage store.now).kept beside) (pos (length units)))
+        ≡ answered (call_on machine (S.storage store.now).kept beside) result }
 {
     let (_, units) = built_in(store, at)?;
     Ok(Answer::Int(units as i32))
@@ -192,9 +192,9 @@ fn built_length<S: Store>(store: &S, at: u64) -> Result<Answer, Thrown>
 
 /// `charAt` of a builder.
 fn built_char_at<S: Store>(store: &S, at: u64, place: i32) -> Result<Answer, Thrown>
-    requires { IsReference (S.kept store.now) ABuilder (serial_of (S.index store.now) at) }
-    ensures { (machine : Machine) (beside : Beside) → on_built (call_on machine (S.kept store.now) beside) (serial_of (S.index store.now) at) (unit_at (call_on machine (S.kept store.now) beside) place)
-        ≡ answered (call_on machine (S.kept store.now) beside) result }
+    requires { IsReference (S.storage store.now).kept ABuilder (serial_of (S.storage store.now).index at) }
+    ensures { (machine : Machine) (beside : Beside) → on_built (call_on machine (S.storage store.now).kept beside) (serial_of (S.storage store.now).index at) (unit_at (call_on machine (S.storage store.now).kept beside) place)
+        ≡ answered (call_on machine (S.storage store.now).kept beside) result }
 {
     let (array, units) = built_in(store, at)?;
     match u32::try_from(place) {

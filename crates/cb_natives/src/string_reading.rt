@@ -27,12 +27,12 @@ const COUNT: u32 = 1;
 
 /// The place of the array of a string's chars, 0 where it has none, or a NullPointerException where there is no string.
 pub(crate) fn text_in<S: Store>(store: &S, at: u64) -> Result<u64, Thrown>
-    requires { IsReference (S.kept store.now) AText (serial_of (S.index store.now) at) }
+    requires { IsReference (S.storage store.now).kept AText (serial_of (S.storage store.now).index at) }
     ensures text { (machine : Machine) (beside : Beside) (go : List ℕ → Option Performed)
-        → on_text (call_on machine (S.kept store.now) beside) (serial_of (S.index store.now) at) go
-        ≡ on_given (call_on machine (S.kept store.now) beside) (with_units (call_on machine (S.kept store.now) beside) (S.index store.now) go) result }
-    ensures units { IfOk result (λ array. HoldsUnits (S.kept store.now) (serial_of
-        (S.index store.now) array)) }
+        → on_text (call_on machine (S.storage store.now).kept beside) (serial_of (S.storage store.now).index at) go
+        ≡ on_given (call_on machine (S.storage store.now).kept beside) (with_units (call_on machine (S.storage store.now).kept beside) (S.storage store.now).index go) result }
+    ensures units { IfOk result (λ array. HoldsUnits (S.storage store.now).kept (serial_of
+        (S.storage store.now).index array)) }
 {
     match chars_of(store, at) {
         Some(array) => Ok(array),
@@ -54,14 +54,14 @@ fn front(units: u32, number: i32) -> u32
 
 /// The place of a builder's array of chars, and how many of these count, or a NullPointerException where there is no builder.
 pub(crate) fn built_in<S: Store>(store: &S, at: u64) -> Result<(u64, u32), Thrown>
-    requires { IsReference (S.kept store.now) ABuilder (serial_of (S.index store.now) at) }
+    requires { IsReference (S.storage store.now).kept ABuilder (serial_of (S.storage store.now).index at) }
     ensures built { (machine : Machine) (beside : Beside) (go : List ℕ → Option Performed)
-        → on_built (call_on machine (S.kept store.now) beside) (serial_of (S.index store.now) at) go
-        ≡ on_given (call_on machine (S.kept store.now) beside) (with_front (call_on machine (S.kept store.now) beside) (S.index store.now) go) result }
-    ensures units { IfOk result (λ front. HoldsUnits (S.kept store.now) (serial_of
-        (S.index store.now) front.0)) }
-    ensures within { IfOk result (λ front. front.1 ≤ length (units_in (S.kept store.now) (serial_of
-        (S.index store.now) front.0))) }
+        → on_built (call_on machine (S.storage store.now).kept beside) (serial_of (S.storage store.now).index at) go
+        ≡ on_given (call_on machine (S.storage store.now).kept beside) (with_front (call_on machine (S.storage store.now).kept beside) (S.storage store.now).index go) result }
+    ensures units { IfOk result (λ front. HoldsUnits (S.storage store.now).kept (serial_of
+        (S.storage store.now).index front.0)) }
+    ensures within { IfOk result (λ front. front.1 ≤ length (units_in (S.storage store.now).kept (serial_of
+        (S.storage store.now).index front.0))) }
 {
     if at == 0 {
         return Err(Thrown::Of(Exception::NullPointer));
@@ -73,14 +73,14 @@ pub(crate) fn built_in<S: Store>(store: &S, at: u64) -> Result<(u64, u32), Throw
 
 /// The place of the array of a string's chars, if the object is a string.
 fn string_at<S: Store>(store: &S, other: u64) -> Option<u64>
-    requires held { IsTrue (is_held (S.kept store.now) (serial_of (S.index store.now) other)) }
-    requires text { (object : Object) → object_in (S.kept store.now) (serial_of (S.index store.now) other) ≡ Some object → object.kind ≡ 8
-        → HasText (S.kept store.now) (serial_of (S.index store.now) other) }
+    requires held { IsTrue (is_held (S.storage store.now).kept (serial_of (S.storage store.now).index other)) }
+    requires text { (object : Object) → object_in (S.storage store.now).kept (serial_of (S.storage store.now).index other) ≡ Some object → object.kind ≡ 8
+        → HasText (S.storage store.now).kept (serial_of (S.storage store.now).index other) }
     ensures text { (machine : Machine) (beside : Beside) (units : List ℕ)
-        → equal_texts (call_on machine (S.kept store.now) beside).state units (of_kind (S.kept store.now) 8 (serial_of (S.index store.now) other))
-        ≡ equal_units (S.kept store.now) (S.index store.now) units result }
-    ensures units { IfSome result (λ array. HoldsUnits (S.kept store.now) (serial_of
-        (S.index store.now) array)) }
+        → equal_texts (call_on machine (S.storage store.now).kept beside).state units (of_kind (S.storage store.now).kept 8 (serial_of (S.storage store.now).index other))
+        ≡ equal_units (S.storage store.now).kept (S.storage store.now).index units result }
+    ensures units { IfSome result (λ array. HoldsUnits (S.storage store.now).kept (serial_of
+        (S.storage store.now).index array)) }
 {
     if other == 0 || store.kind(other) != STRING {
         return None;
@@ -90,12 +90,12 @@ fn string_at<S: Store>(store: &S, other: u64) -> Option<u64>
 
 /// Whether an object is a string of these units.
 pub(crate) fn is_string_of<S: Store>(store: &S, array: u64, other: u64) -> bool
-    requires units { HoldsUnits (S.kept store.now) (serial_of (S.index store.now) array) }
-    requires held { IsTrue (is_held (S.kept store.now) (serial_of (S.index store.now) other)) }
-    requires text { (object : Object) → object_in (S.kept store.now) (serial_of (S.index store.now) other) ≡ Some object → object.kind ≡ 8
-        → HasText (S.kept store.now) (serial_of (S.index store.now) other) }
+    requires units { HoldsUnits (S.storage store.now).kept (serial_of (S.storage store.now).index array) }
+    requires held { IsTrue (is_held (S.storage store.now).kept (serial_of (S.storage store.now).index other)) }
+    requires text { (object : Object) → object_in (S.storage store.now).kept (serial_of (S.storage store.now).index other) ≡ Some object → object.kind ≡ 8
+        → HasText (S.storage store.now).kept (serial_of (S.storage store.now).index other) }
     ensures { (machine : Machine) (beside : Beside)
-        → equal_texts (call_on machine (S.kept store.now) beside).state (units_in (S.kept store.now) (serial_of (S.index store.now) array)) (of_kind (S.kept store.now) 8 (serial_of (S.index store.now) other))
+        → equal_texts (call_on machine (S.storage store.now).kept beside).state (units_in (S.storage store.now).kept (serial_of (S.storage store.now).index array)) (of_kind (S.storage store.now).kept 8 (serial_of (S.storage store.now).index other))
         ≡ result }
 {
     match string_at(store, other) {

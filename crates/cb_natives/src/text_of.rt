@@ -28,11 +28,11 @@ pub(crate) fn text_of<S: Store>(
 ) -> Result<Text, Exception>
     requires makes { makes_text native ≡ true }
     requires sorts { have_sorts (sorts_of native) arguments.now ≡ true }
-    requires given { AreGiven (S.kept store.now) (roles native) (map (read_value
-        (S.index store.now)) arguments.now) }
-    ensures text { TellsText (S.kept store.now) (S.index store.now) native (map (read_value
-        (S.index store.now)) arguments.now) result }
-    ensures is { IsTextOf (S.kept store.now) (S.index store.now) result }
+    requires given { AreGiven (S.storage store.now).kept (roles native) (map (read_value
+        (S.storage store.now).index) arguments.now) }
+    ensures text { TellsText (S.storage store.now).kept (S.storage store.now).index native (map (read_value
+        (S.storage store.now).index) arguments.now) result }
+    ensures is { IsTextOf (S.storage store.now).kept (S.storage store.now).index result }
 {
     match native {
         Native::ObjectSay => {
@@ -69,11 +69,11 @@ pub(crate) fn text_of<S: Store>(
 fn value_text<S: Store>(store: &S, native: Native, arguments: &[Value]) -> Result<Text, Exception>
     requires makes { makes_value_text native ≡ true }
     requires sorts { have_sorts (sorts_of native) arguments.now ≡ true }
-    requires given { AreGiven (S.kept store.now) (roles native) (map (read_value
-        (S.index store.now)) arguments.now) }
-    ensures text { TellsText (S.kept store.now) (S.index store.now) native (map (read_value
-        (S.index store.now)) arguments.now) result }
-    ensures is { IsTextOf (S.kept store.now) (S.index store.now) result }
+    requires given { AreGiven (S.storage store.now).kept (roles native) (map (read_value
+        (S.storage store.now).index) arguments.now) }
+    ensures text { TellsText (S.storage store.now).kept (S.storage store.now).index native (map (read_value
+        (S.storage store.now).index) arguments.now) result }
+    ensures is { IsTextOf (S.storage store.now).kept (S.storage store.now).index result }
 {
     match native {
         Native::StringValueOfInt => Ok(in_decimal(i64::from(int(arguments)))),
@@ -89,11 +89,11 @@ fn value_text<S: Store>(store: &S, native: Native, arguments: &[Value]) -> Resul
 fn box_text<S: Store>(store: &S, native: Native, arguments: &[Value]) -> Result<Text, Exception>
     requires makes { makes_box_text native ≡ true }
     requires sorts { have_sorts (sorts_of native) arguments.now ≡ true }
-    requires given { AreGiven (S.kept store.now) (roles native) (map (read_value
-        (S.index store.now)) arguments.now) }
-    ensures text { TellsText (S.kept store.now) (S.index store.now) native (map (read_value
-        (S.index store.now)) arguments.now) result }
-    ensures is { IsTextOf (S.kept store.now) (S.index store.now) result }
+    requires given { AreGiven (S.storage store.now).kept (roles native) (map (read_value
+        (S.storage store.now).index) arguments.now) }
+    ensures text { TellsText (S.storage store.now).kept (S.storage store.now).index native (map (read_value
+        (S.storage store.now).index) arguments.now) result }
+    ensures is { IsTextOf (S.storage store.now).kept (S.storage store.now).index result }
 {
     match native {
         Native::IntegerTextOf => Ok(in_decimal(i64::from(int(arguments)))),

@@ -55,9 +55,9 @@ fn two_pieces(first: Piece, second: Piece) -> Text
 
 /// All units of an array of chars.
 fn all_units<S: Store>(store: &S, array: u64) -> Piece
-    requires { HoldsUnits (S.kept store.now) (serial_of (S.index store.now) array) }
-    ensures units { (program : Linked) → piece_units program (S.kept store.now) (S.index store.now) result ≡ units_in (S.kept store.now) (serial_of (S.index store.now) array) }
-    ensures is { (program : Linked) → IsPiece program (S.kept store.now) (S.index store.now) result }
+    requires { HoldsUnits (S.storage store.now).kept (serial_of (S.storage store.now).index array) }
+    ensures units { (program : Linked) → piece_units program (S.storage store.now).kept (S.storage store.now).index result ≡ units_in (S.storage store.now).kept (serial_of (S.storage store.now).index array) }
+    ensures is { (program : Linked) → IsPiece program (S.storage store.now).kept (S.storage store.now).index result }
 {
     Piece::Range {
         array,
@@ -68,9 +68,9 @@ fn all_units<S: Store>(store: &S, array: u64) -> Piece
 
 /// `toString` of an object that has none of its own: the name of its class, and its hash.
 pub(crate) fn object_text<S: Store>(store: &S, at: u64, hash: i32) -> Result<Text, Exception>
-    requires { IsReference (S.kept store.now) AnObject (serial_of (S.index store.now) at) }
-    ensures text { TellsText (S.kept store.now) (S.index store.now) natives.ObjectSay (values.Ref (serial_of (S.index store.now) at) ∷ values.Int hash ∷ []) result }
-    ensures is { IsTextOf (S.kept store.now) (S.index store.now) result }
+    requires { IsReference (S.storage store.now).kept AnObject (serial_of (S.storage store.now).index at) }
+    ensures text { TellsText (S.storage store.now).kept (S.storage store.now).index natives.ObjectSay (values.Ref (serial_of (S.storage store.now).index at) ∷ values.Int hash ∷ []) result }
+    ensures is { IsTextOf (S.storage store.now).kept (S.storage store.now).index result }
 {
     if at == 0 {
         return Err(Exception::NullPointer);
@@ -84,10 +84,10 @@ pub(crate) fn object_text<S: Store>(store: &S, at: u64, hash: i32) -> Result<Tex
 
 /// `toString` of a throwable: the name of its class, and its message if it has one.
 pub(crate) fn throwable_text<S: Store>(store: &S, at: u64, message: u64) -> Result<Text, Exception>
-    requires own { IsReference (S.kept store.now) AThrowable (serial_of (S.index store.now) at) }
-    requires other { IsReference (S.kept store.now) AText (serial_of (S.index store.now) message) }
-    ensures text { TellsText (S.kept store.now) (S.index store.now) natives.ThrowableSay (values.Ref (serial_of (S.index store.now) at) ∷ values.Ref (serial_of (S.index store.now) message) ∷ []) result }
-    ensures is { IsTextOf (S.kept store.now) (S.index store.now) result }
+    requires own { IsReference (S.storage store.now).kept AThrowable (serial_of (S.storage store.now).index at) }
+    requires other { IsReference (S.storage store.now).kept AText (serial_of (S.storage store.now).index message) }
+    ensures text { TellsText (S.storage store.now).kept (S.storage store.now).index natives.ThrowableSay (values.Ref (serial_of (S.storage store.now).index at) ∷ values.Ref (serial_of (S.storage store.now).index message) ∷ []) result }
+    ensures is { IsTextOf (S.storage store.now).kept (S.storage store.now).index result }
 {
     if at == 0 {
         return Err(Exception::NullPointer);
@@ -101,10 +101,10 @@ pub(crate) fn throwable_text<S: Store>(store: &S, at: u64, message: u64) -> Resu
 
 /// The name of a kind and a message.
 fn message_text<S: Store>(store: &S, kind: u32, message: u64) -> Result<Text, Exception>
-    requires { IsReference (S.kept store.now) AText (serial_of (S.index store.now) message) }
-    ensures text { (machine : Machine) (beside : Beside) → on_text (call_on machine (S.kept store.now) beside) (serial_of (S.index store.now) message) (λ units. gives_text (call_on machine (S.kept store.now) beside) (class_name machine.program kind ++ codes ": " ++ units))
-        ≡ text_answered (S.index store.now) (call_on machine (S.kept store.now) beside) result }
-    ensures is { IsTextOf (S.kept store.now) (S.index store.now) result }
+    requires { IsReference (S.storage store.now).kept AText (serial_of (S.storage store.now).index message) }
+    ensures text { (machine : Machine) (beside : Beside) → on_text (call_on machine (S.storage store.now).kept beside) (serial_of (S.storage store.now).index message) (λ units. gives_text (call_on machine (S.storage store.now).kept beside) (class_name machine.program kind ++ codes ": " ++ units))
+        ≡ text_answered (S.storage store.now).index (call_on machine (S.storage store.now).kept beside) result }
+    ensures is { IsTextOf (S.storage store.now).kept (S.storage store.now).index result }
 {
     let Some(array) = chars_of(store, message) else {
         return Err(Exception::NullPointer);
@@ -118,10 +118,10 @@ fn message_text<S: Store>(store: &S, kind: u32, message: u64) -> Result<Text, Ex
 
 /// `concat`.
 pub(crate) fn concat_text<S: Store>(store: &S, at: u64, other: u64) -> Result<Text, Exception>
-    requires own { IsReference (S.kept store.now) AText (serial_of (S.index store.now) at) }
-    requires other { IsReference (S.kept store.now) AText (serial_of (S.index store.now) other) }
-    ensures text { TellsText (S.kept store.now) (S.index store.now) natives.StringConcat (values.Ref (serial_of (S.index store.now) at) ∷ values.Ref (serial_of (S.index store.now) other) ∷ []) result }
-    ensures is { IsTextOf (S.kept store.now) (S.index store.now) result }
+    requires own { IsReference (S.storage store.now).kept AText (serial_of (S.storage store.now).index at) }
+    requires other { IsReference (S.storage store.now).kept AText (serial_of (S.storage store.now).index other) }
+    ensures text { TellsText (S.storage store.now).kept (S.storage store.now).index natives.StringConcat (values.Ref (serial_of (S.storage store.now).index at) ∷ values.Ref (serial_of (S.storage store.now).index other) ∷ []) result }
+    ensures is { IsTextOf (S.storage store.now).kept (S.storage store.now).index result }
 {
     let Some(array) = chars_of(store, at) else {
         return Err(Exception::NullPointer);
@@ -134,9 +134,9 @@ pub(crate) fn concat_text<S: Store>(store: &S, at: u64, other: u64) -> Result<Te
 
 /// `substring(int)`.
 pub(crate) fn rest_text<S: Store>(store: &S, at: u64, from: i32) -> Result<Text, Exception>
-    requires { IsReference (S.kept store.now) AText (serial_of (S.index store.now) at) }
-    ensures text { TellsText (S.kept store.now) (S.index store.now) natives.StringSubstringFrom (values.Ref (serial_of (S.index store.now) at) ∷ values.Int from ∷ []) result }
-    ensures is { IsTextOf (S.kept store.now) (S.index store.now) result }
+    requires { IsReference (S.storage store.now).kept AText (serial_of (S.storage store.now).index at) }
+    ensures text { TellsText (S.storage store.now).kept (S.storage store.now).index natives.StringSubstringFrom (values.Ref (serial_of (S.storage store.now).index at) ∷ values.Int from ∷ []) result }
+    ensures is { IsTextOf (S.storage store.now).kept (S.storage store.now).index result }
 {
     let Some(array) = chars_of(store, at) else {
         return Err(Exception::NullPointer);
@@ -146,9 +146,9 @@ pub(crate) fn rest_text<S: Store>(store: &S, at: u64, from: i32) -> Result<Text,
 
 /// `substring(int, int)`.
 pub(crate) fn part_text<S: Store>(store: &S, at: u64, from: i32, to: i32) -> Result<Text, Exception>
-    requires { IsReference (S.kept store.now) AText (serial_of (S.index store.now) at) }
-    ensures text { TellsText (S.kept store.now) (S.index store.now) natives.StringSubstring (values.Ref (serial_of (S.index store.now) at) ∷ values.Int from ∷ values.Int to ∷ []) result }
-    ensures is { IsTextOf (S.kept store.now) (S.index store.now) result }
+    requires { IsReference (S.storage store.now).kept AText (serial_of (S.storage store.now).index at) }
+    ensures text { TellsText (S.storage store.now).kept (S.storage store.now).index natives.StringSubstring (values.Ref (serial_of (S.storage store.now).index at) ∷ values.Int from ∷ values.Int to ∷ []) result }
+    ensures is { IsTextOf (S.storage store.now).kept (S.storage store.now).index result }
 {
     let Some(array) = chars_of(store, at) else {
         return Err(Exception::NullPointer);
@@ -158,10 +158,10 @@ pub(crate) fn part_text<S: Store>(store: &S, at: u64, from: i32, to: i32) -> Res
 
 /// The units of an array of chars from one index to another, or a StringIndexOutOfBoundsException where these are no range of it.
 fn range_text<S: Store>(store: &S, array: u64, from: i32, to: i32) -> Result<Text, Exception>
-    requires { HoldsUnits (S.kept store.now) (serial_of (S.index store.now) array) }
-    ensures text { (machine : Machine) (beside : Beside) → gives_range (call_on machine (S.kept store.now) beside) (units_in (S.kept store.now) (serial_of (S.index store.now) array)) from to
-        ≡ text_answered (S.index store.now) (call_on machine (S.kept store.now) beside) result }
-    ensures is { IsTextOf (S.kept store.now) (S.index store.now) result }
+    requires { HoldsUnits (S.storage store.now).kept (serial_of (S.storage store.now).index array) }
+    ensures text { (machine : Machine) (beside : Beside) → gives_range (call_on machine (S.storage store.now).kept beside) (units_in (S.storage store.now).kept (serial_of (S.storage store.now).index array)) from to
+        ≡ text_answered (S.storage store.now).index (call_on machine (S.storage store.now).kept beside) result }
+    ensures is { IsTextOf (S.storage store.now).kept (S.storage store.now).index result }
 {
     match u32::try_from(from) {
         Ok(from) => range_from(store, array, from, to),
@@ -171,10 +171,10 @@ fn range_text<S: Store>(store: &S, array: u64, from: i32, to: i32) -> Result<Tex
 
 /// The same from an index that isn't negative.
 fn range_from<S: Store>(store: &S, array: u64, from: u32, to: i32) -> Result<Text, Exception>
-    requires { HoldsUnits (S.kept store.now) (serial_of (S.index store.now) array) }
-    ensures text { (machine : Machine) (beside : Beside) → gives_range (call_on machine (S.kept store.now) beside) (units_in (S.kept store.now) (serial_of (S.index store.now) array)) (pos from) to
-        ≡ text_answered (S.index store.now) (call_on machine (S.kept store.now) beside) result }
-    ensures is { IsTextOf (S.kept store.now) (S.index store.now) result }
+    requires { HoldsUnits (S.storage store.now).kept (serial_of (S.storage store.now).index array) }
+    ensures text { (machine : Machine) (beside : Beside) → gives_range (call_on machine (S.storage store.now).kept beside) (units_in (S.storage store.now).kept (serial_of (S.storage store.now).index array)) (pos from) to
+        ≡ text_answered (S.storage store.now).index (call_on machine (S.storage store.now).kept beside) result }
+    ensures is { IsTextOf (S.storage store.now).kept (S.storage store.now).index result }
 {
     match u32::try_from(to) {
         Ok(to) if from <= to && to <= count(store, array) => Ok(one_piece(Piece::Range {
@@ -193,9 +193,9 @@ pub(crate) fn replaced_text<S: Store>(
     old: i32,
     new: i32,
 ) -> Result<Text, Exception>
-    requires { IsReference (S.kept store.now) AText (serial_of (S.index store.now) at) }
-    ensures text { TellsText (S.kept store.now) (S.index store.now) natives.StringReplace (values.Ref (serial_of (S.index store.now) at) ∷ values.Int old ∷ values.Int new ∷ []) result }
-    ensures is { IsTextOf (S.kept store.now) (S.index store.now) result }
+    requires { IsReference (S.storage store.now).kept AText (serial_of (S.storage store.now).index at) }
+    ensures text { TellsText (S.storage store.now).kept (S.storage store.now).index natives.StringReplace (values.Ref (serial_of (S.storage store.now).index at) ∷ values.Int old ∷ values.Int new ∷ []) result }
+    ensures is { IsTextOf (S.storage store.now).kept (S.storage store.now).index result }
 {
     let Some(array) = chars_of(store, at) else {
         return Err(Exception::NullPointer);
@@ -209,9 +209,9 @@ pub(crate) fn replaced_text<S: Store>(
 
 /// `String.valueOf(char[])`.
 pub(crate) fn characters_text<S: Store>(store: &S, at: u64) -> Result<Text, Exception>
-    requires { IsReference (S.kept store.now) Characters (serial_of (S.index store.now) at) }
-    ensures text { TellsText (S.kept store.now) (S.index store.now) natives.StringValueOfChars (values.Ref (serial_of (S.index store.now) at) ∷ []) result }
-    ensures is { IsTextOf (S.kept store.now) (S.index store.now) result }
+    requires { IsReference (S.storage store.now).kept Characters (serial_of (S.storage store.now).index at) }
+    ensures text { TellsText (S.storage store.now).kept (S.storage store.now).index natives.StringValueOfChars (values.Ref (serial_of (S.storage store.now).index at) ∷ []) result }
+    ensures is { IsTextOf (S.storage store.now).kept (S.storage store.now).index result }
 {
     if at == 0 {
         return Err(Exception::NullPointer);
@@ -221,9 +221,9 @@ pub(crate) fn characters_text<S: Store>(store: &S, at: u64) -> Result<Text, Exce
 
 /// `toString` of a builder: so many of its units as count.
 pub(crate) fn built_text<S: Store>(store: &S, at: u64) -> Result<Text, Exception>
-    requires { IsReference (S.kept store.now) ABuilder (serial_of (S.index store.now) at) }
-    ensures text { TellsText (S.kept store.now) (S.index store.now) natives.StringBuilderToString (values.Ref (serial_of (S.index store.now) at) ∷ []) result }
-    ensures is { IsTextOf (S.kept store.now) (S.index store.now) result }
+    requires { IsReference (S.storage store.now).kept ABuilder (serial_of (S.storage store.now).index at) }
+    ensures text { TellsText (S.storage store.now).kept (S.storage store.now).index natives.StringBuilderToString (values.Ref (serial_of (S.storage store.now).index at) ∷ []) result }
+    ensures is { IsTextOf (S.storage store.now).kept (S.storage store.now).index result }
 {
     if at == 0 {
         return Err(Exception::NullPointer);
@@ -235,9 +235,9 @@ pub(crate) fn built_text<S: Store>(store: &S, at: u64) -> Result<Text, Exception
 
 /// The units of an array of chars that count.
 fn front_units<S: Store>(store: &S, array: u64, number: i32) -> Piece
-    requires { HoldsUnits (S.kept store.now) (serial_of (S.index store.now) array) }
-    ensures units { (program : Linked) → piece_units program (S.kept store.now) (S.index store.now) result ≡ counted (units_in (S.kept store.now) (serial_of (S.index store.now) array)) number }
-    ensures is { (program : Linked) → IsPiece program (S.kept store.now) (S.index store.now) result }
+    requires { HoldsUnits (S.storage store.now).kept (serial_of (S.storage store.now).index array) }
+    ensures units { (program : Linked) → piece_units program (S.storage store.now).kept (S.storage store.now).index result ≡ counted (units_in (S.storage store.now).kept (serial_of (S.storage store.now).index array)) number }
+    ensures is { (program : Linked) → IsPiece program (S.storage store.now).kept (S.storage store.now).index result }
 {
     let units = count(store, array);
     Piece::Range {
@@ -253,9 +253,9 @@ fn front_units<S: Store>(store: &S, array: u64, number: i32) -> Piece
 
 /// `getName` of a class.
 pub(crate) fn class_text<S: Store>(store: &S, at: u64) -> Result<Text, Exception>
-    requires { IsReference (S.kept store.now) AClass (serial_of (S.index store.now) at) }
-    ensures text { TellsText (S.kept store.now) (S.index store.now) natives.ClassGetName (values.Ref (serial_of (S.index store.now) at) ∷ []) result }
-    ensures is { IsTextOf (S.kept store.now) (S.index store.now) result }
+    requires { IsReference (S.storage store.now).kept AClass (serial_of (S.storage store.now).index at) }
+    ensures text { TellsText (S.storage store.now).kept (S.storage store.now).index natives.ClassGetName (values.Ref (serial_of (S.storage store.now).index at) ∷ []) result }
+    ensures is { IsTextOf (S.storage store.now).kept (S.storage store.now).index result }
 {
     if at == 0 {
         return Err(Exception::NullPointer);

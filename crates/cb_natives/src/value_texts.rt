@@ -51,9 +51,9 @@ pub(crate) fn as_unit(number: i32) -> Text
 
 /// `toString` of an Integer.
 pub(crate) fn integer_text<S: Store>(store: &S, at: u64) -> Result<Text, Exception>
-    requires { IsReference (S.kept store.now) (ABox basics.Int) (serial_of (S.index store.now) at) }
-    ensures text { TellsText (S.kept store.now) (S.index store.now) natives.IntegerToString (values.Ref (serial_of (S.index store.now) at) ∷ []) result }
-    ensures is { IsTextOf (S.kept store.now) (S.index store.now) result }
+    requires { IsReference (S.storage store.now).kept (ABox basics.Int) (serial_of (S.storage store.now).index at) }
+    ensures text { TellsText (S.storage store.now).kept (S.storage store.now).index natives.IntegerToString (values.Ref (serial_of (S.storage store.now).index at) ∷ []) result }
+    ensures is { IsTextOf (S.storage store.now).kept (S.storage store.now).index result }
 {
     match box_int::<S, OfInt>(store, at) {
         Some(number) => Ok(in_decimal(i64::from(number))),
@@ -63,9 +63,9 @@ pub(crate) fn integer_text<S: Store>(store: &S, at: u64) -> Result<Text, Excepti
 
 /// `toString` of a Long.
 pub(crate) fn long_text<S: Store>(store: &S, at: u64) -> Result<Text, Exception>
-    requires { IsReference (S.kept store.now) ALongBox (serial_of (S.index store.now) at) }
-    ensures text { TellsText (S.kept store.now) (S.index store.now) natives.LongToString (values.Ref (serial_of (S.index store.now) at) ∷ []) result }
-    ensures is { IsTextOf (S.kept store.now) (S.index store.now) result }
+    requires { IsReference (S.storage store.now).kept ALongBox (serial_of (S.storage store.now).index at) }
+    ensures text { TellsText (S.storage store.now).kept (S.storage store.now).index natives.LongToString (values.Ref (serial_of (S.storage store.now).index at) ∷ []) result }
+    ensures is { IsTextOf (S.storage store.now).kept (S.storage store.now).index result }
 {
     match box_long(store, at) {
         Some(number) => Ok(in_decimal(number)),
@@ -75,9 +75,9 @@ pub(crate) fn long_text<S: Store>(store: &S, at: u64) -> Result<Text, Exception>
 
 /// `toString` of a Character.
 pub(crate) fn character_text<S: Store>(store: &S, at: u64) -> Result<Text, Exception>
-    requires { IsReference (S.kept store.now) (ABox basics.Char) (serial_of (S.index store.now) at) }
-    ensures text { TellsText (S.kept store.now) (S.index store.now) natives.CharacterToString (values.Ref (serial_of (S.index store.now) at) ∷ []) result }
-    ensures is { IsTextOf (S.kept store.now) (S.index store.now) result }
+    requires { IsReference (S.storage store.now).kept (ABox basics.Char) (serial_of (S.storage store.now).index at) }
+    ensures text { TellsText (S.storage store.now).kept (S.storage store.now).index natives.CharacterToString (values.Ref (serial_of (S.storage store.now).index at) ∷ []) result }
+    ensures is { IsTextOf (S.storage store.now).kept (S.storage store.now).index result }
 {
     match box_int::<S, OfChar>(store, at) {
         Some(number) => Ok(as_unit(number)),
@@ -87,9 +87,9 @@ pub(crate) fn character_text<S: Store>(store: &S, at: u64) -> Result<Text, Excep
 
 /// `toString` of a Boolean.
 pub(crate) fn boolean_text<S: Store>(store: &S, at: u64) -> Result<Text, Exception>
-    requires { IsReference (S.kept store.now) (ABox basics.Boolean) (serial_of (S.index store.now) at) }
-    ensures text { TellsText (S.kept store.now) (S.index store.now) natives.BooleanToString (values.Ref (serial_of (S.index store.now) at) ∷ []) result }
-    ensures is { IsTextOf (S.kept store.now) (S.index store.now) result }
+    requires { IsReference (S.storage store.now).kept (ABox basics.Boolean) (serial_of (S.storage store.now).index at) }
+    ensures text { TellsText (S.storage store.now).kept (S.storage store.now).index natives.BooleanToString (values.Ref (serial_of (S.storage store.now).index at) ∷ []) result }
+    ensures is { IsTextOf (S.storage store.now).kept (S.storage store.now).index result }
 {
     match box_int::<S, OfBoolean>(store, at) {
         Some(number) => Ok(as_truth(number)),
@@ -99,10 +99,10 @@ pub(crate) fn boolean_text<S: Store>(store: &S, at: u64) -> Result<Text, Excepti
 
 /// The int that a box holds, where there is a box.
 fn box_int<S: Store, B: Holds>(store: &S, at: u64) -> Option<i32>
-    requires { IsReference (S.kept store.now) (ABox B.basic) (serial_of (S.index store.now) at) }
+    requires { IsReference (S.storage store.now).kept (ABox B.basic) (serial_of (S.storage store.now).index at) }
     ensures { (machine : Machine) (beside : Beside) (go : ℤ → Option Performed)
-        → on_number (call_on machine (S.kept store.now) beside) (serial_of (S.index store.now) at) go
-        ≡ on_held (call_on machine (S.kept store.now) beside) go result }
+        → on_number (call_on machine (S.storage store.now).kept beside) (serial_of (S.storage store.now).index at) go
+        ≡ on_held (call_on machine (S.storage store.now).kept beside) go result }
 {
     if at == 0 {
         return None;
@@ -112,10 +112,10 @@ fn box_int<S: Store, B: Holds>(store: &S, at: u64) -> Option<i32>
 
 /// The long that an object holds, where there is one.
 fn box_long<S: Store>(store: &S, at: u64) -> Option<i64>
-    requires { IsReference (S.kept store.now) ALongBox (serial_of (S.index store.now) at) }
+    requires { IsReference (S.storage store.now).kept ALongBox (serial_of (S.storage store.now).index at) }
     ensures { (machine : Machine) (beside : Beside) (go : ℤ → Option Performed)
-        → on_number (call_on machine (S.kept store.now) beside) (serial_of (S.index store.now) at) go
-        ≡ on_held (call_on machine (S.kept store.now) beside) go result }
+        → on_number (call_on machine (S.storage store.now).kept beside) (serial_of (S.storage store.now).index at) go
+        ≡ on_held (call_on machine (S.storage store.now).kept beside) go result }
 {
     if at == 0 {
         return None;

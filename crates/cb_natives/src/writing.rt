@@ -24,8 +24,8 @@ const DOT: u16 = 46;
 
 /// How many units a piece has.
 pub(crate) fn piece_size<S: Store>(program: &Program, store: &S, piece: &Piece) -> u64
-    requires { IsPiece program.now (S.kept store.now) (S.index store.now) piece.now }
-    ensures is { result ≡ length (piece_units program.now (S.kept store.now) (S.index store.now) piece.now) }
+    requires { IsPiece program.now (S.storage store.now).kept (S.storage store.now).index piece.now }
+    ensures is { result ≡ length (piece_units program.now (S.storage store.now).kept (S.storage store.now).index piece.now) }
     ensures few { result < 2 ^ 62 }
 {
     match piece {
@@ -39,8 +39,8 @@ pub(crate) fn piece_size<S: Store>(program: &Program, store: &S, piece: &Piece) 
 
 /// How many units a text has.
 pub(crate) fn text_size<S: Store>(program: &Program, store: &S, text: &Text) -> u64
-    requires { IsText program.now (S.kept store.now) (S.index store.now) text.now }
-    ensures { result ≡ length (text_units program.now (S.kept store.now) (S.index store.now) text.now) }
+    requires { IsText program.now (S.storage store.now).kept (S.storage store.now).index text.now }
+    ensures { result ≡ length (text_units program.now (S.storage store.now).kept (S.storage store.now).index text.now) }
 {
     let first = piece_size(program, store, &text.first);
     let second = piece_size(program, store, &text.second);
@@ -57,21 +57,19 @@ pub(crate) fn write_piece<S: Store>(
     from: u32,
     piece: &Piece,
 ) -> u32
-    requires there { IsTrue (is_kept (S.kept store.old) (serial_of (S.index store.old) to)) }
-    requires numbers { HoldsNumbers (S.kept store.old) (serial_of (S.index store.old) to) }
-    requires piece { IsPiece program.now (S.kept store.old) (S.index store.old) piece.now }
-    requires may { MayWrite (S.index store.old) (serial_of (S.index store.old) to) from piece.now }
-    requires room { from + length (piece_units program.now (S.kept store.old) (S.index store.old) piece.now) ≤ length (contents_at (S.kept store.old) (serial_of (S.index store.old) to)) }
-    requires few { length (contents_at (S.kept store.old) (serial_of (S.index store.old) to)) < 2 ^ 31 }
-    ensures kept { S.kept store.new ≡ with_contents_in (S.kept store.old) (serial_of (S.index store.old) to) (overwritten (contents_at (S.kept store.old) (serial_of (S.index store.old) to)) from (unit_contents (piece_units program.now (S.kept store.old) (S.index store.old) piece.now))) }
-    ensures end { result ≡ from + length (piece_units program.now (S.kept store.old) (S.index store.old) piece.now) }
-    ensures places { S.index store.new ≡ S.index store.old }
-    ensures facts { S.facts store.new ≡ S.facts store.old }
-    ensures granted { S.granted store.new ≡ S.granted store.old }
-    ensures faults { S.faults store.new ≡ S.faults store.old }
-    ensures knows { S.knows store.new ≡ S.knows store.old }
-    ensures allows { S.allows store.new ≡ S.allows store.old }
-    ensures shapes { S.shapes store.new ≡ S.shapes store.old }
+    requires there { IsTrue (is_kept (S.storage store.old).kept (serial_of (S.storage store.old).index to)) }
+    requires numbers { HoldsNumbers (S.storage store.old).kept (serial_of (S.storage store.old).index to) }
+    requires piece { IsPiece program.now (S.storage store.old).kept (S.storage store.old).index piece.now }
+    requires may { MayWrite (S.storage store.old).index (serial_of (S.storage store.old).index to) from piece.now }
+    requires room { from + length (piece_units program.now (S.storage store.old).kept (S.storage store.old).index piece.now) ≤ length (contents_at (S.storage store.old).kept (serial_of (S.storage store.old).index to)) }
+    requires few { length (contents_at (S.storage store.old).kept (serial_of (S.storage store.old).index to)) < 2 ^ 31 }
+    ensures kept { (S.storage store.new).kept ≡ with_contents_in (S.storage store.old).kept (serial_of (S.storage store.old).index to) (overwritten (contents_at (S.storage store.old).kept (serial_of (S.storage store.old).index to)) from (unit_contents (piece_units program.now (S.storage store.old).kept (S.storage store.old).index piece.now))) }
+    ensures end { result ≡ from + length (piece_units program.now (S.storage store.old).kept (S.storage store.old).index piece.now) }
+    ensures places { (S.storage store.new).index ≡ (S.storage store.old).index }
+    ensures facts { (S.storage store.new).facts ≡ (S.storage store.old).facts }
+    ensures granted { (S.storage store.new).granted ≡ (S.storage store.old).granted }
+    ensures faults { (S.storage store.new).faults ≡ (S.storage store.old).faults }
+    ensures settings { (S.storage store.new).settings ≡ (S.storage store.old).settings }
 {
     let size = piece_size(program, store, piece) as u32;
     let mut left = size;
@@ -90,21 +88,19 @@ pub(crate) fn write_text<S: Store>(
     from: u32,
     text: &Text,
 ) -> u32
-    requires there { IsTrue (is_kept (S.kept store.old) (serial_of (S.index store.old) to)) }
-    requires numbers { HoldsNumbers (S.kept store.old) (serial_of (S.index store.old) to) }
-    requires text { IsText program.now (S.kept store.old) (S.index store.old) text.now }
-    requires apart { TextApart (S.index store.old) (serial_of (S.index store.old) to) text.now }
-    requires room { from + length (text_units program.now (S.kept store.old) (S.index store.old) text.now) ≤ length (contents_at (S.kept store.old) (serial_of (S.index store.old) to)) }
-    requires few { length (contents_at (S.kept store.old) (serial_of (S.index store.old) to)) < 2 ^ 31 }
-    ensures kept { S.kept store.new ≡ with_contents_in (S.kept store.old) (serial_of (S.index store.old) to) (overwritten (contents_at (S.kept store.old) (serial_of (S.index store.old) to)) from (unit_contents (text_units program.now (S.kept store.old) (S.index store.old) text.now))) }
-    ensures end { result ≡ from + length (text_units program.now (S.kept store.old) (S.index store.old) text.now) }
-    ensures places { S.index store.new ≡ S.index store.old }
-    ensures facts { S.facts store.new ≡ S.facts store.old }
-    ensures granted { S.granted store.new ≡ S.granted store.old }
-    ensures faults { S.faults store.new ≡ S.faults store.old }
-    ensures knows { S.knows store.new ≡ S.knows store.old }
-    ensures allows { S.allows store.new ≡ S.allows store.old }
-    ensures shapes { S.shapes store.new ≡ S.shapes store.old }
+    requires there { IsTrue (is_kept (S.storage store.old).kept (serial_of (S.storage store.old).index to)) }
+    requires numbers { HoldsNumbers (S.storage store.old).kept (serial_of (S.storage store.old).index to) }
+    requires text { IsText program.now (S.storage store.old).kept (S.storage store.old).index text.now }
+    requires apart { TextApart (S.storage store.old).index (serial_of (S.storage store.old).index to) text.now }
+    requires room { from + length (text_units program.now (S.storage store.old).kept (S.storage store.old).index text.now) ≤ length (contents_at (S.storage store.old).kept (serial_of (S.storage store.old).index to)) }
+    requires few { length (contents_at (S.storage store.old).kept (serial_of (S.storage store.old).index to)) < 2 ^ 31 }
+    ensures kept { (S.storage store.new).kept ≡ with_contents_in (S.storage store.old).kept (serial_of (S.storage store.old).index to) (overwritten (contents_at (S.storage store.old).kept (serial_of (S.storage store.old).index to)) from (unit_contents (text_units program.now (S.storage store.old).kept (S.storage store.old).index text.now))) }
+    ensures end { result ≡ from + length (text_units program.now (S.storage store.old).kept (S.storage store.old).index text.now) }
+    ensures places { (S.storage store.new).index ≡ (S.storage store.old).index }
+    ensures facts { (S.storage store.new).facts ≡ (S.storage store.old).facts }
+    ensures granted { (S.storage store.new).granted ≡ (S.storage store.old).granted }
+    ensures faults { (S.storage store.new).faults ≡ (S.storage store.old).faults }
+    ensures settings { (S.storage store.new).settings ≡ (S.storage store.old).settings }
 {
     let second = write_piece(program, store, to, from, &text.first);
     let third = write_piece(program, store, to, second, &text.second);
@@ -120,16 +116,14 @@ fn write_unit<S: Store>(
     piece: &Piece,
     place: u32,
 )
-    requires number { IsTrue (is_number (content_at (S.kept store.old) (serial_of (S.index store.old) to) word)) }
-    requires read { MayRead program.now (S.kept store.old) (S.index store.old) piece.now place }
-    ensures kept { S.kept store.new ≡ with_content (S.kept store.old) (serial_of (S.index store.old) to) word (Number (pos (unit_read program.now (S.kept store.old) (S.index store.old) piece.now place))) }
-    ensures places { S.index store.new ≡ S.index store.old }
-    ensures facts { S.facts store.new ≡ S.facts store.old }
-    ensures granted { S.granted store.new ≡ S.granted store.old }
-    ensures faults { S.faults store.new ≡ S.faults store.old }
-    ensures knows { S.knows store.new ≡ S.knows store.old }
-    ensures allows { S.allows store.new ≡ S.allows store.old }
-    ensures shapes { S.shapes store.new ≡ S.shapes store.old }
+    requires number { IsTrue (is_number (content_at (S.storage store.old).kept (serial_of (S.storage store.old).index to) word)) }
+    requires read { MayRead program.now (S.storage store.old).kept (S.storage store.old).index piece.now place }
+    ensures kept { (S.storage store.new).kept ≡ with_content (S.storage store.old).kept (serial_of (S.storage store.old).index to) word (Number (pos (unit_read program.now (S.storage store.old).kept (S.storage store.old).index piece.now place))) }
+    ensures places { (S.storage store.new).index ≡ (S.storage store.old).index }
+    ensures facts { (S.storage store.new).facts ≡ (S.storage store.old).facts }
+    ensures granted { (S.storage store.new).granted ≡ (S.storage store.old).granted }
+    ensures faults { (S.storage store.new).faults ≡ (S.storage store.old).faults }
+    ensures settings { (S.storage store.new).settings ≡ (S.storage store.old).settings }
 {
     let unit = piece_unit(program, store, piece, place);
     store.put(to, word, u64::from(unit));
@@ -137,8 +131,8 @@ fn write_unit<S: Store>(
 
 /// A unit of a piece.
 fn piece_unit<S: Store>(program: &Program, store: &S, piece: &Piece, place: u32) -> u16
-    requires { MayRead program.now (S.kept store.now) (S.index store.now) piece.now place }
-    ensures { result ≡ unit_read program.now (S.kept store.now) (S.index store.now) piece.now place }
+    requires { MayRead program.now (S.storage store.now).kept (S.storage store.now).index piece.now place }
+    ensures { result ≡ unit_read program.now (S.storage store.now).kept (S.storage store.now).index piece.now place }
 {
     match piece {
         Piece::Range { array, from, .. } => word_unit(store, *array, *from + place),
@@ -153,8 +147,8 @@ fn piece_unit<S: Store>(program: &Program, store: &S, piece: &Piece, place: u32)
 
 /// The unit that a word of an array of chars holds.
 fn word_unit<S: Store>(store: &S, array: u64, word: u32) -> u16
-    requires { IsUnit (content_at (S.kept store.now) (serial_of (S.index store.now) array) word) }
-    ensures { result ≡ unit_of_word (content_at (S.kept store.now) (serial_of (S.index store.now) array) word) }
+    requires { IsUnit (content_at (S.storage store.now).kept (serial_of (S.storage store.now).index array) word) }
+    ensures { result ≡ unit_of_word (content_at (S.storage store.now).kept (serial_of (S.storage store.now).index array) word) }
 {
     store.get(array, word) as u16
 }

@@ -9,6 +9,7 @@ use Rattle.cb_interp.specs.Running.{Ended, MayRun, Strays}
 use Rattle.cb_interp.specs.Starting.{BeginsWith, RefusesStart, unread}
 use Rattle.cb_interp.specs.declared.end.End.{End}
 use Rattle.cb_act.specs.Turning.{Moment, StandsAt, machine_of as limited, moment_of, state_of}
+use Rattle.cb_interp.proofs.Laws.{all_allowed}
 use Rattle.cb_link.specs.Program.{Linked}
 use Rattle.cb_machine.specs.Starting.{start}
 use Rattle.cb_mapheap.specs.Room.{rules_of}
@@ -67,14 +68,15 @@ module _ (asks : Run) (program : Linked) (input : List ℕ) (objects : List Obje
   pub begins_so : ¬ FillsFirst asks program
   begins_so fills = absurd (cc ((begun []).ruled.full.0 fills))
 
-  pub begun_runs : (shapes : List Shape) → IsLinked program → IsTyped program → ShapesOf program shapes → IsTypedState program (first_of input objects roots)
-      → MayRun program shapes (λ site. true) (λ one other. true) (first_of input objects roots)
-  begun_runs shapes linked fits shaped typed = record {
+  pub begun_runs : (limit : ℕ) (shapes : List Shape) → IsLinked program → IsTyped program → ShapesOf program shapes → IsTypedState program (first_of input objects roots)
+      → MayRun false (limited program limit) (record { shapes = shapes; knows = λ site. true; allows = λ one other. true }) (first_of input objects roots)
+  begun_runs limit shapes linked fits shaped typed = record {
     linked = linked;
     fits = fits;
     shaped = shaped;
     sites = λ site low. refl;
-    pairs = λ one other. refl;
+    follows = all_allowed (limited program limit) linked fits (first_of input objects roots) typed;
+    few = λ fixed. absurd (cc fixed);
     typed = typed;
   }
 

@@ -10,7 +10,7 @@ use Rattle.cb_heap.specs.Reading.{View, seen, serial_of}
 use Rattle.cb_heap.specs.Rules.{Meaning}
 use Rattle.cb_heap.specs.declared.no_room.NoRoom.{NoRoom}
 use Rattle.cb_heap.specs.declared.no_room.NoRoom.TheVariants as rooms
-use Rattle.cb_interp.specs.Reading.{TakesInput, as_bytes}
+use Rattle.cb_interp.specs.Reading.{Takes, TakesInput, as_bytes}
 use Rattle.cb_interp.specs.Running.{Ended, IsThrownAt, LeavesAt, Strays, last_of}
 use Rattle.cb_act.specs.Steps.{view_of}
 use Rattle.cb_interp.specs.Texts.{exception_units}
@@ -227,37 +227,47 @@ module _ (asks : Run) (program : Linked) (begins : ¬ FillsFirst asks program) (
         })
 
     -- what a call read that came before the one which failed
-    fault_at : (known : Option (List ℕ)) → IfSome known (λ bytes. bytes ≡ input) → (front after : List ℕ) → input ≡ front ++ after → IfSome known (λ bytes. LeavesAt ends.InputFault after leaves)
-        → (more : ℕ) × (more ≤ length after) × IfSome known (λ bytes. leaves ≡ Some (drop (length input - length after + more) bytes))
-    fault_at None may front after whole remains = (0, omega arith, tt)
-    fault_at (Some bytes) may front after whole (piece, rest, is, leave) = (
-      length piece,
-      omega (arith, ap (λ (bytes : List ℕ). length bytes) is, length-append piece rest),
-      leave ∙ ap (λ (bytes : List ℕ). Some bytes) (sym (
-          ap (drop (length input - length after + length piece)) may
+    record FailsAt (known : Option (List ℕ)) (state : State) : Type 0 where
+      pub front : List ℕ
+      pub rest : List ℕ
+      pub is : state.input ≡ front ++ rest
+      pub own : Takes (machine_of asks program) state (front ++ 0 ∷ [])
+      pub remains : IfSome known (λ bytes. leaves ≡ Some (drop (length input - length state.input + length front) bytes))
+
+    fault_at : (known : Option (List ℕ)) → IfSome known (λ bytes. bytes ≡ input) → (front : List ℕ) (state : State) → input ≡ front ++ state.input → TakesInput (machine_of asks program) state
+        → IfSome known (λ bytes. LeavesAt (machine_of asks program) ends.InputFault state leaves) → FailsAt known state
+    fault_at None may front state whole takes_one remains = record { front = []; rest = state.input; is = refl; own = takes_one; remains = tt }
+    fault_at (Some bytes) may front state whole takes_one (piece, rest, is, leave, takes_all) = record {
+      front = piece;
+      rest = rest;
+      is = is;
+      own = takes_all;
+      remains = leave ∙ ap (λ (bytes : List ℕ). Some bytes) (sym (
+          ap (drop (length input - length state.input + length piece)) may
           ∙ ap (λ (after : List ℕ). drop (length input - length after + length piece) input) is
           ∙ drop_more input front piece rest (whole ∙ ap (λ (after : List ℕ). front ++ after) is)
-          )),
-    )
+          ));
+    }
 
     input_so : (run : HasRun ends.InputFault) → (stop : Stop) → stop ≡ InputFault → Shown stop
     input_so run stop is =
-        let (more, low, left_is) = fault_at (as_bytes left) may_so run.read (here run.count).input (whole_so_far ends.InputFault run) run.remains in
+        let fails = fault_at (as_bytes left) may_so run.read (here run.count) (whole_so_far ends.InputFault run) run.ends.1 run.remains in
         subst Shown (sym is) (record {
           printed = run.said;
-          read = read_to run.count + more;
+          read = read_to run.count + length fails.front;
           appends = run.out;
-          left = left_is;
+          left = fails.remains;
           runs = inl (
             input,
             may_so,
             run.count,
-            more,
+            fails.front,
+            fails.rest,
             run.ends.0,
             had ends.InputFault run,
-            run.ends.1,
-            low,
-            ap (λ printed. input_fault_behind printed (read_to run.count + more)) (said_so ends.InputFault run),
+            fails.is,
+            fails.own,
+            ap (λ printed. input_fault_behind printed (read_to run.count + length fails.front)) (said_so ends.InputFault run),
           );
         })
 

@@ -4,7 +4,7 @@ use Rattle.std.specs.declared.result.Result.{Result}
 use Rattle.std.specs.declared.result.Result.TheVariants.{Err, Ok}
 use Rattle.std.proofs.lemmas.Bool.{cases_lt}
 use Rattle.cb_act.specs.Steps.{view_of}
-use Rattle.cb_act.specs.Turning.{Asked, Moment, NotAsked, RoomMade, TurnMade, Turns}
+use Rattle.cb_act.specs.Turning.{Asked, Moment, NotAsked, NotSwept, RoomMade, Swept, SweptAll, TurnMade, Turns, WholeTurn}
 use Rattle.cb_heap.specs.Closed.{Collects}
 use Rattle.cb_heap.specs.Kept.{keep, residents}
 use Rattle.cb_heap.specs.declared.no_room.NoRoom.{NoRoom}
@@ -62,6 +62,20 @@ module _ (machine : Machine) where
       let went : next machine before.state ≡ made turn.own = rw there refl in
       (room.0, turn.steps ∙ sym went)
 
+  -- and lets no object go where it is asked to
+  swept_was : (before made last : Moment (Unit {0})) → Swept rules_of machine before made last → last.state ≡ made.state
+  swept_was before made last (NotSwept calls) = refl
+  swept_was before made last (SweptAll now calls ruled collects same) = same ∙ ap (with_objects made.state) objects where
+    objects : now.state.objects ≡ made.state.objects
+    objects =
+        let kept = collects.objects in
+        kept ∙ ap (λ marks. keep marks made.state.objects) ruled.residents ∙ keep_own made.state.objects
+
+  whole_was : (before last : Moment (Unit {0})) → WholeTurn rules_of machine before last → HasRoom before.state × (last.state ≡ next machine before.state)
+  whole_was before last turn =
+      let (room, went) = turn_was before turn.middle turn.made in
+      (room, swept_was before turn.middle last turn.swept ∙ went)
+
   behind : (count : ℕ) (state : State) → after machine (suc count) state ≡ next machine (after machine count state)
   behind zero state = refl
   behind (suc count) state = behind count (next machine state)
@@ -84,7 +98,7 @@ module _ (machine : Machine) where
       (ap (λ (moment : Moment (Unit {0})). moment.state) (sym same) ∙ starts, λ step low. absurd (omega (arith, low)))
   turns_were (suc count) first last state (before, turns, turn) starts =
       let (is, had) = turns_were count first before state turns starts in
-      let (room, went) = turn_was before last turn in
+      let (room, went) = whole_was before last turn in
       (went ∙ ap (next machine) is ∙ sym (behind count state), one_more count state (subst HasRoom is room) had)
 
   pub had_room : (count : ℕ) (first last : Moment (Unit {0})) (state : State) → Turns rules_of machine count first last → first.state ≡ state → Roomy state count

@@ -1,9 +1,9 @@
 -- What a run of a program comes to, over a store that never lets an object go.
-use Rattle.std.specs.Prelude.{ℤ, ◌≡◌, ◌⊎◌, ◌<◌, ◌≤◌, ◌++◌, ◌+◌, ◌-◌, ℕ, Bool, true, false, IfSome, IsTrue, List, [], Option, None, Some, codes, length, map}
+use Rattle.std.specs.Prelude.{ℤ, ◌≡◌, ◌⊎◌, ◌<◌, ◌≤◌, ◌++◌, ◌+◌, ◌-◌, ℕ, Bool, true, false, IfSome, IsTrue, List, [], ◌∷◌, Option, None, Some, codes, length, map}
 use Rattle.std.specs.Fmt.{decimal}
 use Rattle.cb_heap.specs.declared.no_room.NoRoom.{NoRoom}
 use Rattle.cb_heap.specs.declared.no_room.NoRoom.TheVariants.{Full, ReportFault, OutOfMemory as NoMemory}
-use Rattle.cb_interp.specs.Reading.{TakesInput, as_bytes}
+use Rattle.cb_interp.specs.Reading.{Takes, TakesInput, as_bytes}
 use Rattle.cb_interp.specs.Running.{Prints}
 use Rattle.cb_act.specs.Steps.{view_of}
 use Rattle.cb_interp.specs.Texts.{exception_units}
@@ -105,8 +105,8 @@ EndsRun run program left ending =
     ⊎ ((¬ FillsFirst run program)
     × (((input : List ℕ) × MayBeInput left input × EndsBegun run program input ending) ⊎ (MayStray run program left × IsTrue (ends_begun ending.cause))))
 
--- and so it is cut short: no memory is to be had, a call of the input fails in a step that asks it, which may have read more before, or a
--- write of what a step prints fails
+-- and so it is cut short: no memory is to be had, a call of the input fails in a step that asks it, which may have taken other bytes before,
+-- but fewer than it takes, or a write of what a step prints fails
 abbrev pub CutsMemory : Run → Linked → Option (List ℕ) → Ending → Type 0
 CutsMemory run program left ending =
     ((input : List ℕ) × MayBeInput left input × (count : ℕ) × (count ≤ run.steps) × HadRoom run program input count
@@ -115,9 +115,9 @@ CutsMemory run program left ending =
 
 abbrev pub CutsInput : Run → Linked → Option (List ℕ) → Ending → Type 0
 CutsInput run program left ending =
-    ((input : List ℕ) × MayBeInput left input × (count : ℕ) × (more : ℕ) × (count < run.steps) × HadRoom run program input count
-    × TakesInput (machine_of run program) (state_at run program input count) × (more ≤ length (state_at run program input count).input)
-    × (ending ≡ input_fault_behind (state_at run program input count).printed (read_at run program input count + more)))
+    ((input : List ℕ) × MayBeInput left input × (count : ℕ) × (front : List ℕ) × (rest : List ℕ) × (count < run.steps) × HadRoom run program input count
+    × ((state_at run program input count).input ≡ front ++ rest) × Takes (machine_of run program) (state_at run program input count) (front ++ 0 ∷ [])
+    × (ending ≡ input_fault_behind (state_at run program input count).printed (read_at run program input count + length front)))
     ⊎ (MayStray run program left × (ending.cause ≡ causes.InputFault))
 
 abbrev pub CutsOutput : Run → Linked → Option (List ℕ) → Ending → Type 0

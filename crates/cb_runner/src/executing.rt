@@ -21,6 +21,7 @@ use cb_io::{Sink, Source};
 use cb_link::Program;
 use cb_mapheap::MapHeap;
 use cb_plain::Request;
+use cb_safety::linked_has_start;
 use cb_text::Units;
 use std::alloc::Global;
 
@@ -84,6 +85,7 @@ fn run_from<I: Source, O: Sink>(
     ensures fault { CountsFaults (O.faults out.old) (O.faults out.new) (result ≡ stops.OutputFault) }
     ensures read { CountsFaults (I.faults input.old) (I.faults input.new) (result ≡ stops.InputFault) }
 {
+    linked_has_start();
     let mut request = Request::new();
     match start(program, store, roots, &mut request, given) {
         Ok(()) => run_on(alloc, program, store, roots, asked, input, out),

@@ -193,21 +193,23 @@ all_lowered [] stays = []
 all_lowered (cell ∷ cells) [] = []
 all_lowered (cell ∷ cells) (stay ∷ stays) = lowered stay cell ∷ all_lowered cells stays
 
-keep_entry : (kept stays : Bool) (object : Object) (rest olds : List (Option Object)) → rest ≡ keep (residents rest) olds →
-    (if kept && stays then Some object else None) ∷ rest ≡ keep (is_some (if kept && stays then Some object else None) ∷ residents rest) ((if kept then Some object else None) ∷ olds)
-keep_entry true true object rest olds same = ap (λ rest. Some object ∷ rest) same
-keep_entry true false object rest olds same = ap (λ rest. None ∷ rest) same
-keep_entry false stays object rest olds same = ap (λ rest. None ∷ rest) same
+keep_entry : (kept stays : Bool) (object : Object) (rest olds : List (Option Object)) (marks : List Bool) → rest ≡ keep marks olds →
+    (if kept && stays then Some object else None) ∷ rest ≡ keep (stays ∷ marks) ((if kept then Some object else None) ∷ olds)
+keep_entry true true object rest olds marks same = ap (λ rest. Some object ∷ rest) same
+keep_entry true false object rest olds marks same = ap (λ rest. None ∷ rest) same
+keep_entry false true object rest olds marks same = ap (λ rest. None ∷ rest) same
+keep_entry false false object rest olds marks same = ap (λ rest. None ∷ rest) same
 
-keeps_lowered : (cells : List Cell) (stays : List Bool) (count : ℕ) →
-    map entry_of (take count (all_lowered cells stays)) ≡ keep (residents (map entry_of (take count (all_lowered cells stays)))) (map entry_of (take count cells))
-keeps_lowered [] stays zero = refl
-keeps_lowered [] stays (suc count) = refl
+keeps_lowered : (cells : List Cell) (stays : List Bool) (count : ℕ) → map entry_of (take count (all_lowered cells stays)) ≡ keep stays (map entry_of (take count cells))
+keeps_lowered [] [] zero = refl
+keeps_lowered [] (stay ∷ stays) zero = refl
+keeps_lowered [] [] (suc count) = refl
+keeps_lowered [] (stay ∷ stays) (suc count) = refl
 keeps_lowered (cell ∷ cells) [] zero = refl
 keeps_lowered (cell ∷ cells) [] (suc count) = refl
 keeps_lowered (cell ∷ cells) (stay ∷ stays) zero = refl
 keeps_lowered (cell ∷ cells) (stay ∷ stays) (suc count) =
-    keep_entry cell.kept stay (object_of cell) (map entry_of (take count (all_lowered cells stays))) (map entry_of (take count cells)) (keeps_lowered cells stays count)
+    keep_entry cell.kept stay (object_of cell) (map entry_of (take count (all_lowered cells stays))) (map entry_of (take count cells)) stays (keeps_lowered cells stays count)
 
 abbrev pub first_four : {X : Type 0} → List X → X → List X
 first_four items x = slice_index_or items 0 x ∷ slice_index_or items 1 x ∷ slice_index_or items 2 x ∷ slice_index_or items 3 x ∷ []
@@ -220,13 +222,12 @@ four (a ∷ b ∷ c ∷ []) x is = absurd (omega (arith, is))
 four (a ∷ b ∷ c ∷ d ∷ []) x is = refl
 four (a ∷ b ∷ c ∷ d ∷ e ∷ items) x is = absurd (omega (arith, is))
 
-pub keeps_four : (cells : List Cell) (stays : List Bool) (count : ℕ) (blank : Cell) (stay : Bool) (now : List Cell) → length cells ≡ 4 →
-    now ≡ all_lowered (first_four cells blank) (first_four stays stay) →
-    map entry_of (take count now) ≡ keep (residents (map entry_of (take count now))) (map entry_of (take count cells))
-keeps_four cells stays count blank stay now is same =
-    subst (λ olds. map entry_of (take count now) ≡ keep (residents (map entry_of (take count now))) (map entry_of (take count olds))) (sym (four cells blank is))
-    (subst (λ news. map entry_of (take count news) ≡ keep (residents (map entry_of (take count news))) (map entry_of (take count (first_four cells blank)))) (sym same)
-    (keeps_lowered (first_four cells blank) (first_four stays stay) count))
+pub keeps_four : (cells : List Cell) (stays : List Bool) (count : ℕ) (blank : Cell) (stay : Bool) (now : List Cell) → length cells ≡ 4 → length stays ≡ 4 →
+    now ≡ all_lowered (first_four cells blank) (first_four stays stay) → map entry_of (take count now) ≡ keep stays (map entry_of (take count cells))
+keeps_four cells stays count blank stay now is marks same =
+    subst (λ olds. map entry_of (take count now) ≡ keep stays (map entry_of (take count olds))) (sym (four cells blank is))
+    (subst (λ each. map entry_of (take count now) ≡ keep each (map entry_of (take count (first_four cells blank)))) (sym (four stays stay marks))
+    (ap (λ news. map entry_of (take count news)) same ∙ keeps_lowered (first_four cells blank) (first_four stays stay) count))
 
 -- ---- words
 

@@ -2,3 +2,4 @@ mod CellLaws
 mod Empty
 mod Linked
 mod MapHeaps
+mod MarkLaws

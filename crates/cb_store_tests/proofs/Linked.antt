@@ -1,8 +1,6 @@
 -- Two objects that are placed one after the other, and linked.
-use Rattle.std.proofs.Common.{◌≡◌, ◌∙◌, ap, sym, refl, subst, arith, ℕ, ◌+◌, true, List, [], ◌∷◌, ◌++◌, Option, Some, is_some, length, slice_get, zero, suc, IsTrue, length-append}
+use Rattle.std.proofs.Common.{◌≡◌, ◌∙◌, ap, sym, refl, subst, arith, ℕ, ◌+◌, List, [], ◌∷◌, ◌++◌, Option, Some, is_some, length, slice_get, zero, suc, IsTrue, length-append}
 use Rattle.std.specs.List.{list_all}
-use Rattle.cb_plain.specs.declared.shape.Shape.{Shape}
-use Rattle.cb_plain.specs.declared.shape.Shape.TheVariants.{Elements}
 use Rattle.cb_plain.specs.Reach.{root_references}
 use Rattle.cb_plain.specs.Roots.{with_pending}
 use Rattle.cb_plain.specs.State.{Content, Object, Reference, Roots}
@@ -10,7 +8,6 @@ use Rattle.cb_plain.specs.Updates.{object_in}
 use Rattle.cb_heap.specs.Closed.{Collects, IsClosed}
 use Rattle.cb_heap.specs.Kept.{content_at, is_held, is_kept, with_content}
 use Rattle.cb_heap.specs.Reading.{View, read_roots, seen, serial_of}
-use Rattle.cb_heap.specs.Shaped.{new_object}
 use Rattle.cb_heap.specs.Store.{ReadsAsBefore}
 use Rattle.cb_heap.proofs.Laws as laws
 

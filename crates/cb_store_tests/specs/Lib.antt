@@ -1,3 +1,4 @@
 pub mod Cells
 pub mod FourCells
+pub mod Marks
 pub mod Pair

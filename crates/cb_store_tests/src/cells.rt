@@ -1,15 +1,17 @@
 // A store of four cells, of which those are emptied that nothing reaches.
-ghost use Rattle.std.specs.Prelude.{◌≡◌, ◌+◌, ◌<◌, ◌≤◌, ◌^◌, ◌++◌, ◌∷◌, ℕ, Bool, true, false, [], length, pos, pred, is_some, IfSome, IsTrue, Some};
+ghost use Rattle.std.specs.Prelude.{◌≡◌, ◌+◌, ◌<◌, ◌≤◌, ◌^◌, ◌++◌, ◌∷◌, ℕ, Bool, true, false, [], length, pos, pred, refl, is_some, IfSome, IsTrue, Some};
 ghost use Rattle.std.specs.Int.{int_wrap, w64};
 ghost use Rattle.std.specs.List.{list_all};
 ghost use Rattle.cb_plain.specs.State.{Number, Reference};
 ghost use Rattle.cb_plain.specs.Updates.{object_in};
 ghost use Rattle.cb_frames.specs.Entries.{entries};
-ghost use Rattle.cb_store_tests.specs.FourCells.{cell_shapes, entry_of, lowered, no_rules, object_of};
+ghost use Rattle.cb_store_tests.specs.FourCells.{cell_rules, cell_rules_are_bounded, cell_shapes, cells_asked, entry_of, every_site, fits, lowered, object_of};
+ghost use Rattle.cb_store_tests.specs.Marks.{IsAny, IsBehind, IsMarked, IsNamed, IsNext, IsUnmarked};
 ghost use Rattle.cb_heap.specs.Closed.{Collects, IsClosed, references_in, references_in_entry};
 ghost use Rattle.cb_heap.specs.Grants.{IsBounded};
 ghost use Rattle.cb_heap.specs.Kept.{content_at, is_held, is_kept, is_number, is_reference, keep, residents, with_content};
 ghost use Rattle.cb_heap.specs.Reading.{seen, serial_of};
+ghost use Rattle.cb_heap.specs.Taking.{IsTaken};
 
 use crate::cell::Cell;
 use cb_frames::Roots;
@@ -74,85 +76,47 @@ impl CellStore {
         cells[at as usize - 1].word = word;
     }
 
-    /// Whether a reference is null or names an object that is kept.
-    fn holds(&self, to: u64) -> bool
-        ensures { result ≡ is_held self.now.objects to }
-    {
-        if to == 0 {
-            return true;
-        }
-        if to > self.count as u64 {
-            return false;
-        }
-        self.cells[to as usize - 1].kept
-    }
-
-    /// Whether what a cell refers to is held.
-    fn holds_word(&self, cell: &Cell) -> bool
-        ensures { IsTrue result → IsTrue (list_all (is_held self.now.objects) (references_in_entry (entry_of cell.now))) }
-    {
-        !cell.kept || !cell.linked || self.holds(cell.word)
-    }
-
-    /// Whether all that cells refer to is held.
-    fn holds_words(&self) -> bool
-        ensures { IsTrue result → IsTrue (list_all (is_held self.now.objects) (references_in self.now.objects)) }
+    /// The place of an object that isn't marked and that a marked one refers to, where there is any.
+    fn behind(&self, marked: &[bool; 4]) -> Option<usize>
+        ensures { IsAny (IsBehind self.now.objects marked.now) result }
     {
         let cells = &self.cells;
         for i in 0..self.count {
-            if !self.holds_word(&cells[i]) {
-                return false;
+            if marked[i] {
+                if let Some(place) = unmarked(marked, cells[i].referent()) {
+                    return Some(place);
+                }
             }
         }
-        true
+        None
     }
 
-    /// Whether all that roots refer to is held.
-    fn holds_roots(&self, roots: &Roots) -> bool
-        ensures { IsTrue result → IsTrue (list_all (is_held self.now.objects) (entries roots.now.roots)) }
+    /// The place of an object that is to be marked next, where there is any.
+    fn next(&self, roots: &Roots, marked: &[bool; 4]) -> Option<usize>
+        ensures { IsAny (IsNext (seen pred self.now.objects roots.now.roots) marked.now) result }
     {
-        for i in 0..roots.reference_count() {
-            if !self.holds(roots.reference(i)) {
-                return false;
-            }
-        }
-        true
-    }
-
-    /// Whether nothing names an object that isn't kept.
-    fn is_closed(&self, roots: &Roots) -> bool
-        ensures { IsTrue result → IsClosed (seen pred self.now.objects roots.now.roots) }
-    {
-        self.holds_roots(roots) && self.holds_words()
-    }
-
-    /// Marks what marked cells refer to.
-    fn spread(&self, marked: &mut [bool; 4]) {
-        let cells = &self.cells;
-        for i in 0..4 {
-            if marked[i] && cells[i].linked {
-                note(marked, cells[i].word);
-            }
+        match named(roots, marked) {
+            Some(place) => Some(place),
+            None => self.behind(marked),
         }
     }
 
     /// Marks what is reached.
-    fn mark(&self, roots: &Roots) -> [bool; 4] {
+    fn mark(&self, roots: &Roots) -> [bool; 4]
+        ensures { IsMarked (seen pred self.now.objects roots.now.roots) result }
+    {
         let mut marked = [false; 4];
-        for i in 0..roots.reference_count() {
-            note(&mut marked, roots.reference(i));
-        }
-        for _ in 0..4 {
-            self.spread(&mut marked);
+        while let Some(place) = self.next(roots, &marked) {
+            marked[place] = true;
         }
         marked
     }
 
-    /// The same store without the cells that aren't marked.
+    /// The same store without the objects that aren't marked.
     fn only(&self, marked: &[bool; 4]) -> CellStore
-        ensures objects { result.objects ≡ keep (residents result.objects) self.now.objects }
-        ensures count { length result.objects ≡ length self.now.objects }
+        ensures objects { result.objects ≡ keep marked.now self.now.objects }
         ensures granted { result.granted ≡ self.now.granted }
+        ensures few { length self.now.objects ≤ length marked.now }
     {
         let cells = &self.cells;
         CellStore {
@@ -170,18 +134,17 @@ impl CellStore {
     /// Empties the cells that nothing reaches.
     fn collect(&mut self, roots: &Roots)
         requires { IsClosed (seen pred self.old.objects roots.now.roots) }
+        ensures taken { IsTaken every_site (seen pred self.old.objects roots.now.roots) (residents self.new.objects) }
         ensures collected { Collects (seen pred self.old.objects roots.now.roots) (seen pred self.new.objects roots.now.roots) }
         ensures granted { self.new.granted ≡ self.old.granted }
     {
         let marked = self.mark(roots);
-        let left = self.only(&marked);
-        if left.is_closed(roots) {
-            *self = left;
-        }
+        *self = self.only(&marked);
     }
 
     /// Grants what is asked for, where that is for one site and there are cells for it.
     fn grant(&mut self, request: &Request) -> bool
+        ensures told { result ≡ fits (length self.old.objects) request.now }
         ensures objects { self.new.objects ≡ self.old.objects }
         ensures granted { IsTrue result → self.new.granted ≡ request.now }
         ensures refused { result ≡ false → self.new.granted ≡ self.old.granted }
@@ -203,27 +166,24 @@ impl CellStore {
 impl Store for CellStore {
     ghost Facts = { Unit {0} };
 
-    ghost rules = { no_rules };
+    ghost rules = { cell_rules };
 
-    ghost facts = { λ store. tt };
-
-    ghost kept = { λ store. store.objects };
-
-    ghost index = { λ store. pred };
-
-    ghost shapes = { λ store. cell_shapes };
-
-    ghost knows = { λ store site. true };
-
-    ghost allows = { λ store one other. true };
-
-    ghost granted = { λ store. store.granted };
-
-    ghost faults = { λ store. 0 };
+    ghost storage = { λ store. record {
+      kept = store.objects;
+      index = pred;
+      facts = tt;
+      granted = store.granted;
+      faults = 0;
+      settings = record { shapes = cell_shapes; knows = λ site. true; allows = λ one other. true };
+    } };
 
     ghost FIXED = { true };
 
     const FIXED: bool = true;
+
+    ghost tells_fixed = { refl };
+
+    ghost bounded = { cell_rules_are_bounded };
 
     fn make_room(&mut self, request: &Request, roots: &mut Roots) -> Result<(), NoRoom> {
         self.collect(roots);
@@ -291,7 +251,9 @@ impl Store for CellStore {
 }
 
 /// How many cells are asked for.
-fn cells_asked(request: &Request) -> u64 {
+fn cells_asked(request: &Request) -> u64
+    ensures { result ≡ cells_asked request.now }
+{
     let mut cells: u64 = 0;
     for i in 0..request.len() {
         cells = cells.saturating_add(request.at(i).words / 4);
@@ -299,11 +261,27 @@ fn cells_asked(request: &Request) -> u64 {
     cells
 }
 
-/// Marks a cell, if there is one.
-fn note(marked: &mut [bool; 4], to: u64) {
-    if 0 < to && to <= 4 {
-        marked[to as usize - 1] = true;
+/// The place of what a reference names, where that isn't marked.
+fn unmarked(marked: &[bool; 4], to: u64) -> Option<usize>
+    ensures { IsAny (IsUnmarked marked.now to) result }
+{
+    if to == 0 || to > 4 {
+        return None;
     }
+    let place = to as usize - 1;
+    if marked[place] { None } else { Some(place) }
+}
+
+/// The place of an object that isn't marked and that a root names, where there is any.
+fn named(roots: &Roots, marked: &[bool; 4]) -> Option<usize>
+    ensures { IsAny (IsNamed roots.now.roots marked.now) result }
+{
+    for i in 0..roots.reference_count() {
+        if let Some(place) = unmarked(marked, roots.reference(i)) {
+            return Some(place);
+        }
+    }
+    None
 }
 
 /// A cell, which is emptied unless it stays.
@@ -325,19 +303,71 @@ mod tests {
     use std::alloc::Global;
     use std::test::Fail;
 
+    /// Whether a reference is null or names an object that is kept.
+    fn holds(store: &CellStore, to: u64) -> bool
+        ensures { result ≡ is_held store.now.objects to }
+    {
+        if to == 0 {
+            return true;
+        }
+        if to > store.count as u64 {
+            return false;
+        }
+        store.cells[to as usize - 1].kept
+    }
+
+    /// Whether what a cell refers to is held.
+    fn holds_word(store: &CellStore, cell: &Cell) -> bool
+        ensures { IsTrue result → IsTrue (list_all (is_held store.now.objects) (references_in_entry (entry_of cell.now))) }
+    {
+        !cell.kept || !cell.linked || holds(store, cell.word)
+    }
+
+    /// Whether all that cells refer to is held.
+    fn holds_words(store: &CellStore) -> bool
+        ensures { IsTrue result → IsTrue (list_all (is_held store.now.objects) (references_in store.now.objects)) }
+    {
+        let cells = &store.cells;
+        for i in 0..store.count {
+            if !holds_word(store, &cells[i]) {
+                return false;
+            }
+        }
+        true
+    }
+
+    /// Whether all that roots refer to is held.
+    fn holds_roots(store: &CellStore, roots: &Roots) -> bool
+        ensures { IsTrue result → IsTrue (list_all (is_held store.now.objects) (entries roots.now.roots)) }
+    {
+        for i in 0..roots.reference_count() {
+            if !holds(store, roots.reference(i)) {
+                return false;
+            }
+        }
+        true
+    }
+
+    /// Whether nothing names an object that isn't kept.
+    fn is_closed(store: &CellStore, roots: &Roots) -> bool
+        ensures { IsTrue result → IsClosed (seen pred store.now.objects roots.now.roots) }
+    {
+        holds_roots(store, roots) && holds_words(store)
+    }
+
     impl CellStore {
         /// Whether an object is kept whose word holds a number.
         fn has_number(&self, at: u64) -> bool
             ensures { IsTrue result → IsTrue (is_number (content_at self.now.objects (serial_of pred at) 0)) }
         {
-            at > 0 && self.holds(at) && !self.cell(at).linked
+            at > 0 && holds(self, at) && !self.cell(at).linked
         }
 
         /// Whether one is kept whose word holds a reference.
         fn has_reference(&self, at: u64) -> bool
             ensures { IsTrue result → IsTrue (is_reference (content_at self.now.objects (serial_of pred at) 0)) }
         {
-            at > 0 && self.holds(at) && self.cell(at).linked
+            at > 0 && holds(self, at) && self.cell(at).linked
         }
     }
 
@@ -356,7 +386,7 @@ mod tests {
     fn empties_what_nothing_reaches(rt: HostRuntime) -> Result<(), Fail> {
         let mut store = CellStore::new();
         let mut roots = no_roots(rt.alloc())?;
-        assert!(rt; store.is_closed(&roots));
+        assert!(rt; is_closed(&store, &roots));
         let mut request = Request::new();
         request.add(0, 12);
         store.make_room(&request, &mut roots)?;
@@ -368,9 +398,9 @@ mod tests {
         assert!(rt; store.has_reference(one));
         store.put_ref(one, 0, other);
         roots.set_pending(one);
-        assert!(rt; store.is_closed(&roots));
+        assert!(rt; is_closed(&store, &roots));
         store.collect_all(&mut roots)?;
-        assert!(rt; !store.holds(third));
+        assert!(rt; !holds(&store, third));
         assert_eq!(rt; roots.pending(), one);
         assert!(rt; store.has_reference(one));
         let back = store.get_ref(one, 0);
@@ -383,14 +413,14 @@ mod tests {
     fn runs_what_runs_over_any_store(rt: HostRuntime) -> Result<(), Fail> {
         let mut store = CellStore::new();
         let mut roots = no_roots(rt.alloc())?;
-        assert!(rt; store.is_closed(&roots));
+        assert!(rt; is_closed(&store, &roots));
         let mut request = Request::new();
         request.add(0, 4);
         store.make_room(&request, &mut roots)?;
         let alone = store.place(0, 1, 1);
-        assert!(rt; store.is_closed(&roots));
+        assert!(rt; is_closed(&store, &roots));
         assert_eq!(rt; linked(&mut store, &mut roots, &mut request)?, 3);
-        assert!(rt; !store.holds(alone));
+        assert!(rt; !holds(&store, alone));
         Ok(())
     }
 }

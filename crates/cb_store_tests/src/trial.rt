@@ -1,4 +1,5 @@
 // That code over any store is proved from its clauses alone.
+ghost use Rattle.cb_heap.specs.Storage.{view_in};
 ghost use Rattle.std.specs.Prelude.{◌≡◌, ◌+◌, ◌<◌, ◌^◌, ℕ, Bool, true, [], ◌∷◌, length, IfOk, IsTrue};
 ghost use Rattle.cb_plain.specs.State.{Reference};
 ghost use Rattle.cb_heap.specs.Closed.{IsClosed};
@@ -15,13 +16,13 @@ pub fn linked<S: Store>(
     roots: &mut Roots,
     request: &mut Request,
 ) -> Result<u64, NoRoom>
-    requires closed { IsClosed (seen (S.index store.old) (S.kept store.old) roots.old.roots) }
-    requires sized { IsTrue (has_size (S.shapes store.old) 1 1) }
-    requires blank { (new_object (S.shapes store.old) 0 1 1).contents ≡ Reference 0 ∷ [] }
-    requires serials { length (S.kept store.old) + 3 < 2 ^ 63 }
-    requires knows { S.knows store.old 0 ≡ true }
-    requires allows { (one other : ℕ) → S.allows store.old one other ≡ true }
-    ensures { IfOk result (λ serial. serial ≡ length (S.kept store.old) + 2) }
+    requires closed { IsClosed (view_in (S.storage store.old) roots.old.roots) }
+    requires sized { IsTrue (has_size (S.storage store.old).settings.shapes 1 1) }
+    requires blank { (new_object (S.storage store.old).settings.shapes 0 1 1).contents ≡ Reference 0 ∷ [] }
+    requires serials { length (S.storage store.old).kept + 3 < 2 ^ 63 }
+    requires knows { (S.storage store.old).settings.knows 0 ≡ true }
+    requires allows { (one other : ℕ) → (S.storage store.old).settings.allows one other ≡ true }
+    ensures { IfOk result (λ serial. serial ≡ length (S.storage store.old).kept + 2) }
 {
     request.clear();
     request.add(0, 8);

@@ -1,4 +1,5 @@
 // The objects of constant strings.
+ghost use Rattle.cb_heap.specs.Storage.{view_in};
 ghost use Rattle.std.specs.Prelude.{◌≡◌, ◌<◌, length};
 ghost use Rattle.cb_heap.specs.Reading.{seen, serial_of};
 ghost use Rattle.cb_link.specs.Having.{site_kinds};
@@ -28,28 +29,26 @@ pub fn constant_string<S: Store>(
 ) -> u64
     requires text { text < length program.now.constants }
     requires table { text < length roots.old.roots.tables.constants }
-    requires may { IsNew roots.old.roots text → MayEnter program.now text (S.shapes store.old)
-        (S.granted store.old) (S.allows store.old) (seen (S.index store.old) (S.kept store.old)
+    requires may { IsNew roots.old.roots text → MayEnter program.now text (S.storage store.old).settings.shapes
+        (S.storage store.old).granted (S.storage store.old).settings.allows (view_in (S.storage store.old)
         roots.old.roots) }
-    ensures behind { with_constant program.now text (seen (S.index store.old) (S.kept store.old)
+    ensures behind { with_constant program.now text (view_in (S.storage store.old)
         roots.old.roots)
         ≡ (
-          serial_of (S.index store.new) result,
-          seen (S.index store.new) (S.kept store.new)
+          serial_of (S.storage store.new).index result,
+          view_in (S.storage store.new)
               roots.new.roots,
         ) }
     ensures limit { roots.new.limit ≡ roots.old.limit }
     ensures same { (IsNew roots.old.roots text → ⊥) → store.new ≡ store.old }
-    ensures facts { IsNew roots.old.roots text → S.facts store.new
-        ≡ S.rules.placed (S.rules.placed (S.facts store.old) constant_characters
+    ensures facts { IsNew roots.old.roots text → (S.storage store.new).facts
+        ≡ S.rules.placed (S.rules.placed (S.storage store.old).facts constant_characters
         (length (units_of program.now text))) constant_strings 1 }
-    ensures granted { IsNew roots.old.roots text → S.granted store.new
-        ≡ spent (spent (S.granted store.old) constant_characters
+    ensures granted { IsNew roots.old.roots text → (S.storage store.new).granted
+        ≡ spent (spent (S.storage store.old).granted constant_characters
         (words_of (length (units_of program.now text)))) constant_strings (words_of 1) }
-    ensures faults { S.faults store.new ≡ S.faults store.old }
-    ensures knows { S.knows store.new ≡ S.knows store.old }
-    ensures allows { S.allows store.new ≡ S.allows store.old }
-    ensures shapes { S.shapes store.new ≡ S.shapes store.old }
+    ensures faults { (S.storage store.new).faults ≡ (S.storage store.old).faults }
+    ensures settings { (S.storage store.new).settings ≡ (S.storage store.old).settings }
 {
     let known = roots.table(Table::Constants, text);
     if known != 0 {

@@ -1,4 +1,5 @@
 // Pending exceptions that look for their handlers.
+ghost use Rattle.cb_heap.specs.Storage.{view_in};
 ghost use Rattle.std.specs.Prelude.{◌≡◌, ◌<◌, ℕ, false, length, true, IsTrue, Some};
 ghost use Rattle.cb_frames.specs.Tops.{cleared, top_room};
 ghost use Rattle.cb_heap.specs.Kept.{is_kept};
@@ -27,12 +28,12 @@ const ERROR: u32 = 25;
 /// Whether the next step of unwinding wraps the pending exception: the topmost frame is that of an initialisation, and the exception is no
 /// Error (JVMS §5.5).
 pub fn wraps<S: Store>(program: &Program, store: &S, roots: &Roots) -> bool
-    requires there { IsTrue (is_kept (S.kept store.now) (serial_of (S.index store.now)
+    requires there { IsTrue (is_kept (S.storage store.now).kept (serial_of (S.storage store.now).index
         roots.now.roots.pending)) }
-    requires kind { HasPendingKind program.now (seen (S.index store.now) (S.kept store.now)
+    requires kind { HasPendingKind program.now (view_in (S.storage store.now)
         roots.now.roots) }
     requires error { error < length program.now.kinds }
-    ensures { result ≡ wraps program.now (seen (S.index store.now) (S.kept store.now)
+    ensures { result ≡ wraps program.now (view_in (S.storage store.now)
         roots.now.roots) }
 {
     let kind = pending_kind(store, roots);
@@ -48,30 +49,27 @@ pub fn wraps<S: Store>(program: &Program, store: &S, roots: &Roots) -> bool
 /// that is no Error is then wrapped, for which there has to be room: `wraps` says so beforehand. Takes time in the slots of the frame and
 /// the handlers of its method.
 pub fn unwind_step<S: Store>(program: &Program, store: &mut S, roots: &mut Roots) -> Unwound
-    requires there { IsTrue (is_kept (S.kept store.old) (serial_of (S.index store.old)
+    requires there { IsTrue (is_kept (S.storage store.old).kept (serial_of (S.storage store.old).index
         roots.old.roots.pending)) }
-    requires kind { HasPendingKind program.now (seen (S.index store.old) (S.kept store.old)
+    requires kind { HasPendingKind program.now (view_in (S.storage store.old)
         roots.old.roots) }
     requires error { error < length program.now.kinds }
     requires method { MethodBelow (length program.now.methods) roots.old.roots }
     requires catches { MayCatch program.now roots.old.roots }
     requires class { ClassBelow (length roots.old.roots.classes) roots.old.roots }
-    requires may { wraps program.now (seen (S.index store.old) (S.kept store.old) roots.old.roots)
-        ≡ true → MayWrap program.now (S.shapes store.old) (S.granted store.old)
-        (S.allows store.old) (seen (S.index store.old) (S.kept store.old) roots.old.roots) }
-    ensures behind { unwound program.now (S.shapes store.old) (seen (S.index store.old)
-        (S.kept store.old) roots.old.roots)
-        ≡ Some (result, seen (S.index store.new) (S.kept store.new) roots.new.roots) }
+    requires may { wraps program.now (view_in (S.storage store.old) roots.old.roots)
+        ≡ true → MayWrap program.now (S.storage store.old).settings.shapes (S.storage store.old).granted
+        (S.storage store.old).settings.allows (view_in (S.storage store.old) roots.old.roots) }
+    ensures behind { unwound program.now (S.storage store.old).settings.shapes (view_in (S.storage store.old) roots.old.roots)
+        ≡ Some (result, view_in (S.storage store.new) roots.new.roots) }
     ensures limit { roots.new.limit ≡ roots.old.limit }
     ensures same { (result ≡ Unwound.Wrapped → ⊥) → store.new ≡ store.old }
-    ensures facts { result ≡ Unwound.Wrapped → S.facts store.new
-        ≡ S.rules.placed (S.facts store.old) exception_in_initializer exception_size }
-    ensures granted { result ≡ Unwound.Wrapped → S.granted store.new
-        ≡ spent (S.granted store.old) exception_in_initializer (words_of exception_size) }
-    ensures faults { S.faults store.new ≡ S.faults store.old }
-    ensures knows { S.knows store.new ≡ S.knows store.old }
-    ensures allows { S.allows store.new ≡ S.allows store.old }
-    ensures shapes { S.shapes store.new ≡ S.shapes store.old }
+    ensures facts { result ≡ Unwound.Wrapped → (S.storage store.new).facts
+        ≡ S.rules.placed (S.storage store.old).facts exception_in_initializer exception_size }
+    ensures granted { result ≡ Unwound.Wrapped → (S.storage store.new).granted
+        ≡ spent (S.storage store.old).granted exception_in_initializer (words_of exception_size) }
+    ensures faults { (S.storage store.new).faults ≡ (S.storage store.old).faults }
+    ensures settings { (S.storage store.new).settings ≡ (S.storage store.old).settings }
 {
     let kind = pending_kind(store, roots);
     match roots.top() {
@@ -85,9 +83,9 @@ pub fn unwind_step<S: Store>(program: &Program, store: &mut S, roots: &mut Roots
 
 /// The kind of the pending exception.
 fn pending_kind<S: Store>(store: &S, roots: &Roots) -> u32
-    requires { IsTrue (is_kept (S.kept store.now) (serial_of (S.index store.now)
+    requires { IsTrue (is_kept (S.storage store.now).kept (serial_of (S.storage store.now).index
         roots.now.roots.pending)) }
-    ensures { IsPendingKind (seen (S.index store.now) (S.kept store.now) roots.now.roots) result }
+    ensures { IsPendingKind (view_in (S.storage store.now) roots.now.roots) result }
 {
     store.kind(roots.pending())
 }
@@ -128,24 +126,20 @@ fn past_class<S: Store>(
     requires class { class < length roots.old.roots.classes }
     requires kind { kind < length program.now.kinds }
     requires error { error < length program.now.kinds }
-    requires there { IsTrue (is_kept (S.kept store.old) (serial_of (S.index store.old)
+    requires there { IsTrue (is_kept (S.storage store.old).kept (serial_of (S.storage store.old).index
         roots.old.roots.pending)) }
     requires may { (instance program.now kind error ≡ false) → MayWrap program.now
-        (S.shapes store.old) (S.granted store.old) (S.allows store.old) (seen (S.index store.old)
-        (S.kept store.old) roots.old.roots) }
-    ensures behind { past_class program.now (S.shapes store.old) (seen (S.index store.old)
-        (S.kept store.old) roots.old.roots) kind class
-        ≡ (result, seen (S.index store.new) (S.kept store.new) roots.new.roots) }
+        (S.storage store.old).settings.shapes (S.storage store.old).granted (S.storage store.old).settings.allows (view_in (S.storage store.old) roots.old.roots) }
+    ensures behind { past_class program.now (S.storage store.old).settings.shapes (view_in (S.storage store.old) roots.old.roots) kind class
+        ≡ (result, view_in (S.storage store.new) roots.new.roots) }
     ensures limit { roots.new.limit ≡ roots.old.limit }
     ensures same { (result ≡ Unwound.Wrapped → ⊥) → store.new ≡ store.old }
-    ensures facts { result ≡ Unwound.Wrapped → S.facts store.new
-        ≡ S.rules.placed (S.facts store.old) exception_in_initializer exception_size }
-    ensures granted { result ≡ Unwound.Wrapped → S.granted store.new
-        ≡ spent (S.granted store.old) exception_in_initializer (words_of exception_size) }
-    ensures faults { S.faults store.new ≡ S.faults store.old }
-    ensures knows { S.knows store.new ≡ S.knows store.old }
-    ensures allows { S.allows store.new ≡ S.allows store.old }
-    ensures shapes { S.shapes store.new ≡ S.shapes store.old }
+    ensures facts { result ≡ Unwound.Wrapped → (S.storage store.new).facts
+        ≡ S.rules.placed (S.storage store.old).facts exception_in_initializer exception_size }
+    ensures granted { result ≡ Unwound.Wrapped → (S.storage store.new).granted
+        ≡ spent (S.storage store.old).granted exception_in_initializer (words_of exception_size) }
+    ensures faults { (S.storage store.new).faults ≡ (S.storage store.old).faults }
+    ensures settings { (S.storage store.new).settings ≡ (S.storage store.old).settings }
 {
     if program.instance(kind, ERROR) {
         end_init(roots, class, ClassState::Failed);

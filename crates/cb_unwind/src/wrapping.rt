@@ -1,4 +1,5 @@
 // Exceptions of initialisers that are wrapped.
+ghost use Rattle.cb_heap.specs.Storage.{view_in};
 ghost use Rattle.std.specs.Prelude.{◌≡◌, ◌+◌, ◌<◌, ◌≤◌, ◌^◌, ◌∷◌, [], length, slice_get, true, IsTrue, Some};
 ghost use Rattle.cb_heap.specs.Closed.{IsClosed};
 ghost use Rattle.cb_heap.specs.Kept.{is_kept};
@@ -24,30 +25,28 @@ const CAUSE_WORD: u32 = 1;
 
 /// Places an ExceptionInInitializerError of a kind whose cause is the pending exception, and which becomes pending (JVMS §5.5).
 pub(crate) fn wrap<S: Store>(store: &mut S, roots: &mut Roots, kind: u32)
-    requires granted { words_of exception_size ≤ words_at (S.granted store.old)
+    requires granted { words_of exception_size ≤ words_at (S.storage store.old).granted
         exception_in_initializer }
-    requires shape { slice_get (S.shapes store.old) kind ≡ Some (Fields (true ∷ true ∷ true ∷ [])) }
-    requires serials { length (S.kept store.old) + 1 < 2 ^ 63 }
-    requires closed { IsClosed (seen (S.index store.old) (S.kept store.old) roots.old.roots) }
-    requires there { IsTrue (is_kept (S.kept store.old) (serial_of (S.index store.old)
+    requires shape { slice_get (S.storage store.old).settings.shapes kind ≡ Some (Fields (true ∷ true ∷ true ∷ [])) }
+    requires serials { length (S.storage store.old).kept + 1 < 2 ^ 63 }
+    requires closed { IsClosed (view_in (S.storage store.old) roots.old.roots) }
+    requires there { IsTrue (is_kept (S.storage store.old).kept (serial_of (S.storage store.old).index
         roots.old.roots.pending)) }
-    requires allowed { (object : Object) → object_in (S.kept store.old) (serial_of
-        (S.index store.old) roots.old.roots.pending) ≡ Some object
-        → S.allows store.old exception_in_initializer object.site ≡ true }
-    ensures behind { seen (S.index store.new) (S.kept store.new) roots.new.roots
-        ≡ wrapped (S.shapes store.old) kind (seen (S.index store.old) (S.kept store.old)
+    requires allowed { (object : Object) → object_in (S.storage store.old).kept (serial_of
+        (S.storage store.old).index roots.old.roots.pending) ≡ Some object
+        → (S.storage store.old).settings.allows exception_in_initializer object.site ≡ true }
+    ensures behind { view_in (S.storage store.new) roots.new.roots
+        ≡ wrapped (S.storage store.old).settings.shapes kind (view_in (S.storage store.old)
         roots.old.roots) }
     ensures frames { roots.new.roots.frames ≡ roots.old.roots.frames }
     ensures classes { roots.new.roots.classes ≡ roots.old.roots.classes }
     ensures limit { roots.new.limit ≡ roots.old.limit }
-    ensures facts { S.facts store.new ≡ S.rules.placed (S.facts store.old)
+    ensures facts { (S.storage store.new).facts ≡ S.rules.placed (S.storage store.old).facts
         exception_in_initializer exception_size }
-    ensures granted { S.granted store.new ≡ spent (S.granted store.old) exception_in_initializer
+    ensures granted { (S.storage store.new).granted ≡ spent (S.storage store.old).granted exception_in_initializer
         (words_of exception_size) }
-    ensures faults { S.faults store.new ≡ S.faults store.old }
-    ensures knows { S.knows store.new ≡ S.knows store.old }
-    ensures allows { S.allows store.new ≡ S.allows store.old }
-    ensures shapes { S.shapes store.new ≡ S.shapes store.old }
+    ensures faults { (S.storage store.new).faults ≡ (S.storage store.old).faults }
+    ensures settings { (S.storage store.new).settings ≡ (S.storage store.old).settings }
 {
     let cause = roots.pending();
     let at = store.place(EXCEPTION_IN_INITIALIZER, kind, EXCEPTION_SIZE);

@@ -1,6 +1,7 @@
 mod Declaring
 mod Dropped
 mod FrameLists
+mod FramedLaws
 mod Heights
 mod Known
 mod LaidSteps

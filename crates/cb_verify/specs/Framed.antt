@@ -1,6 +1,6 @@
 -- The frames before the instructions of a program that is typed.
-use Rattle.std.specs.Prelude.{ℕ, List, [], ◌∷◌, map, Option, Some, None, length, option_and_then, option_map, slice_get, ◌==◌}
-use Rattle.std.specs.List.{find, flat_map, range_with_len}
+use Rattle.std.specs.Prelude.{◌≡◌, ◌<◌, ◌≤◌, ℕ, Bool, false, List, [], ◌∷◌, map, Option, Some, None, is_some, length, option_and_then, option_map, slice_get, ◌==◌}
+use Rattle.std.specs.List.{find, flat_map, list_any, range_with_len}
 use Rattle.cb_link.specs.Program.{Linked}
 use Rattle.cb_verify.specs.Frames.{Frame}
 use Rattle.cb_verify.specs.Typed.{Placed, placed_in}
@@ -31,3 +31,13 @@ frame_at_place pc frames = option_map (λ entry. entry.1) (find (λ entry. entry
 
 abbrev pub frame_in : List (List (ℕ × Frame)) → ℕ → ℕ → Option Frame
 frame_in typing method pc = option_and_then (frame_at_place pc) (slice_get typing method)
+
+-- whether an instruction stands at a place of a method: none does where it has no code
+abbrev pub stands_at : Option Within → ℕ → Bool
+stands_at None pc = false
+stands_at (Some method) pc = list_any (λ placed. placed.0 == pc) method.body.code
+
+-- there is a frame just where an instruction of a method of the program stands
+pub record FramesStand (program : Linked) (typing : List (List (ℕ × Frame))) : Type 0 where
+  pub each : (method pc : ℕ) → method < length program.methods → is_some (frame_in typing method pc) ≡ stands_at (within program method) pc
+  pub none : (method pc : ℕ) → length program.methods ≤ method → frame_in typing method pc ≡ None

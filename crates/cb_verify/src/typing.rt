@@ -31,7 +31,8 @@ impl Typing {
         Typing { methods }
     }
 
-    /// The frame before the instruction at a place of a method, if one stands there that can be reached.
+    /// The frame before the instruction at a place of a method. None where no instruction stands there, or the method has no code or isn't
+    /// one of the program: each instruction of a program that is typed has a frame before it (`verify`).
     pub fn frame(&self, method: u32, pc: u32) -> Option<&TypeFrame>
         ensures { option_copied result ≡ frame_in self.now method pc }
     {

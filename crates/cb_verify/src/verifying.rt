@@ -1,6 +1,6 @@
 // Whether a program is typed.
 ghost use Rattle.std.specs.Prelude.{◌≡◌, ◌<◌, length, IfErr, IfOk};
-ghost use Rattle.cb_verify.specs.Framed.{frames_in, typing_of};
+ghost use Rattle.cb_verify.specs.Framed.{FramesStand, frames_in, typing_of};
 ghost use Rattle.cb_verify.specs.Refused.{Refuses};
 ghost use Rattle.cb_verify.specs.Typed.{IsTyped, fails_at};
 ghost use Rattle.cb_verify.specs.Within.{within};
@@ -45,6 +45,7 @@ impl From<AllocError> for VerifyFault {
 pub fn verify(alloc: Global, program: &Program) -> Result<Typing, VerifyFault>
     ensures typed { IfOk result (λ _. IsTyped program.now) }
     ensures typing { IfOk result (λ typing. typing ≡ typing_of program.now) }
+    ensures frames { IfOk result (FramesStand program.now) }
     ensures refused { IfErr result (Refuses program.now) }
 {
     let mut methods = List::new(alloc);

@@ -1,6 +1,6 @@
+use Rattle.cb_heap.specs.Storage.{view_in}
 use Rattle.std.proofs.Common.{◌∙◌, ap, sym, ◌+◌}
 use Rattle.std.specs.Prelude.{is_some}
-use Rattle.cb_heap.specs.Reading.{seen}
 use Rattle.cb_act.specs.Acting.{call_deed, on_method, receiver_deed}
 use Rattle.cb_link.specs.Calls.{select}
 use Rattle.cb_act.proofs.CallLaws.{kind_receiver, null_receiver, receiver_count, receiver_kept, receiver_sort, receiver_taken}
@@ -12,9 +12,9 @@ reference_at-at-requires g c =
     let method = c.in-Method.method in
     let count = c.parameter_count-count.result in
     let is =
-    receiver_taken program method (g.S.Store.index c.args.store.now) (g.S.Store.kept c.args.store.now) c.args.roots.now.roots count c.parameter_count-count.ensures c.args.roots.now.limit (λ kind. select program kind method)
-    (ap (λ named. is_some (on_method (λ method. receiver_deed program c.args.roots.now.limit (seen (g.S.Store.index c.args.store.now) (g.S.Store.kept c.args.store.now) c.args.roots.now.roots) (λ kind. select program kind method) method) named)) (sym c.in-Method.is) ∙ c.requires.there) in
-    receiver_sort program method (g.S.Store.index c.args.store.now) (g.S.Store.kept c.args.store.now) c.args.roots.now.roots count c.parameter_count-count.ensures is
+    receiver_taken program method (g.S.Store.storage c.args.store.now).index (g.S.Store.storage c.args.store.now).kept c.args.roots.now.roots count c.parameter_count-count.ensures c.args.roots.now.limit (λ kind. select program kind method)
+    (ap (λ named. is_some (on_method (λ method. receiver_deed program c.args.roots.now.limit (view_in (g.S.Store.storage c.args.store.now) c.args.roots.now.roots) (λ kind. select program kind method) method) named)) (sym c.in-Method.is) ∙ c.requires.there) in
+    receiver_sort program method (g.S.Store.storage c.args.store.now).index (g.S.Store.storage c.args.store.now).kept c.args.roots.now.roots count c.parameter_count-count.ensures is
 
 pub returns-then-at-eq0-clause-deed : goal.returns-then-at-eq0-clause-deed
 returns-then-at-eq0-clause-deed g c =
@@ -22,10 +22,10 @@ returns-then-at-eq0-clause-deed g c =
     let method = c.in-Method.method in
     let count = c.parameter_count-count.result in
     let is =
-    receiver_taken program method (g.S.Store.index c.args.store.now) (g.S.Store.kept c.args.store.now) c.args.roots.now.roots count c.parameter_count-count.ensures c.args.roots.now.limit (λ kind. select program kind method)
-    (ap (λ named. is_some (on_method (λ method. receiver_deed program c.args.roots.now.limit (seen (g.S.Store.index c.args.store.now) (g.S.Store.kept c.args.store.now) c.args.roots.now.roots) (λ kind. select program kind method) method) named)) (sym c.in-Method.is) ∙ c.requires.there) in
-    ap (on_method (λ method. receiver_deed program c.args.roots.now.limit (seen (g.S.Store.index c.args.store.now) (g.S.Store.kept c.args.store.now) c.args.roots.now.roots) (λ kind. select program kind method) method)) c.in-Method.is
-    ∙ null_receiver program method (g.S.Store.index c.args.store.now) (g.S.Store.kept c.args.store.now) c.args.roots.now.roots count c.parameter_count-count.ensures is c.reference_at-at.result c.reference_at-at.ensures c.if-at-eq0.true c.args.roots.now.limit (λ kind. select program kind method)
+    receiver_taken program method (g.S.Store.storage c.args.store.now).index (g.S.Store.storage c.args.store.now).kept c.args.roots.now.roots count c.parameter_count-count.ensures c.args.roots.now.limit (λ kind. select program kind method)
+    (ap (λ named. is_some (on_method (λ method. receiver_deed program c.args.roots.now.limit (view_in (g.S.Store.storage c.args.store.now) c.args.roots.now.roots) (λ kind. select program kind method) method) named)) (sym c.in-Method.is) ∙ c.requires.there) in
+    ap (on_method (λ method. receiver_deed program c.args.roots.now.limit (view_in (g.S.Store.storage c.args.store.now) c.args.roots.now.roots) (λ kind. select program kind method) method)) c.in-Method.is
+    ∙ null_receiver program method (g.S.Store.storage c.args.store.now).index (g.S.Store.storage c.args.store.now).kept c.args.roots.now.roots count c.parameter_count-count.ensures is c.reference_at-at.result c.reference_at-at.ensures c.if-at-eq0.true c.args.roots.now.limit (λ kind. select program kind method)
 
 pub kind-requires : goal.kind-requires
 kind-requires g c =
@@ -33,9 +33,9 @@ kind-requires g c =
     let method = c.in-Method.method in
     let count = c.parameter_count-count.result in
     let is =
-    receiver_taken program method (g.S.Store.index c.args.store.now) (g.S.Store.kept c.args.store.now) c.args.roots.now.roots count c.parameter_count-count.ensures c.args.roots.now.limit (λ kind. select program kind method)
-    (ap (λ named. is_some (on_method (λ method. receiver_deed program c.args.roots.now.limit (seen (g.S.Store.index c.args.store.now) (g.S.Store.kept c.args.store.now) c.args.roots.now.roots) (λ kind. select program kind method) method) named)) (sym c.in-Method.is) ∙ c.requires.there) in
-    receiver_kept program method (g.S.Store.index c.args.store.now) (g.S.Store.kept c.args.store.now) c.args.roots.now.roots count c.parameter_count-count.ensures is c.reference_at-at.result c.reference_at-at.ensures c.requires.held c.if-at-eq0.false
+    receiver_taken program method (g.S.Store.storage c.args.store.now).index (g.S.Store.storage c.args.store.now).kept c.args.roots.now.roots count c.parameter_count-count.ensures c.args.roots.now.limit (λ kind. select program kind method)
+    (ap (λ named. is_some (on_method (λ method. receiver_deed program c.args.roots.now.limit (view_in (g.S.Store.storage c.args.store.now) c.args.roots.now.roots) (λ kind. select program kind method) method) named)) (sym c.in-Method.is) ∙ c.requires.there) in
+    receiver_kept program method (g.S.Store.storage c.args.store.now).index (g.S.Store.storage c.args.store.now).kept c.args.roots.now.roots count c.parameter_count-count.ensures is c.reference_at-at.result c.reference_at-at.ensures c.requires.held c.if-at-eq0.false
 
 pub calls-requires-clause-there : goal.calls-requires-clause-there
 calls-requires-clause-there g c =
@@ -43,11 +43,11 @@ calls-requires-clause-there g c =
     let method = c.in-Method.method in
     let count = c.parameter_count-count.result in
     let is =
-    receiver_taken program method (g.S.Store.index c.args.store.now) (g.S.Store.kept c.args.store.now) c.args.roots.now.roots count c.parameter_count-count.ensures c.args.roots.now.limit (λ kind. select program kind method)
-    (ap (λ named. is_some (on_method (λ method. receiver_deed program c.args.roots.now.limit (seen (g.S.Store.index c.args.store.now) (g.S.Store.kept c.args.store.now) c.args.roots.now.roots) (λ kind. select program kind method) method) named)) (sym c.in-Method.is) ∙ c.requires.there) in
-    ap is_some (sym (ap (on_method (λ method. receiver_deed program c.args.roots.now.limit (seen (g.S.Store.index c.args.store.now) (g.S.Store.kept c.args.store.now) c.args.roots.now.roots) (λ kind. select program kind method) method)) c.in-Method.is
-    ∙ kind_receiver program method (g.S.Store.index c.args.store.now) (g.S.Store.kept c.args.store.now) c.args.roots.now.roots count c.parameter_count-count.ensures is c.reference_at-at.result c.reference_at-at.ensures c.if-at-eq0.false c.kind.result c.kind.ensures c.args.roots.now.limit (λ kind. select program kind method)
-    ∙ ap (call_deed program c.args.roots.now.limit (seen (g.S.Store.index c.args.store.now) (g.S.Store.kept c.args.store.now) c.args.roots.now.roots) (count + 1)) (sym c.select-selected.ensures.found)))
+    receiver_taken program method (g.S.Store.storage c.args.store.now).index (g.S.Store.storage c.args.store.now).kept c.args.roots.now.roots count c.parameter_count-count.ensures c.args.roots.now.limit (λ kind. select program kind method)
+    (ap (λ named. is_some (on_method (λ method. receiver_deed program c.args.roots.now.limit (view_in (g.S.Store.storage c.args.store.now) c.args.roots.now.roots) (λ kind. select program kind method) method) named)) (sym c.in-Method.is) ∙ c.requires.there) in
+    ap is_some (sym (ap (on_method (λ method. receiver_deed program c.args.roots.now.limit (view_in (g.S.Store.storage c.args.store.now) c.args.roots.now.roots) (λ kind. select program kind method) method)) c.in-Method.is
+    ∙ kind_receiver program method (g.S.Store.storage c.args.store.now).index (g.S.Store.storage c.args.store.now).kept c.args.roots.now.roots count c.parameter_count-count.ensures is c.reference_at-at.result c.reference_at-at.ensures c.if-at-eq0.false c.kind.result c.kind.ensures c.args.roots.now.limit (λ kind. select program kind method)
+    ∙ ap (call_deed program c.args.roots.now.limit (view_in (g.S.Store.storage c.args.store.now) c.args.roots.now.roots) (count + 1)) (sym c.select-selected.ensures.found)))
     ∙ c.requires.there
 
 pub calls-requires-clause-few : goal.calls-requires-clause-few
@@ -56,9 +56,9 @@ calls-requires-clause-few g c =
     let method = c.in-Method.method in
     let count = c.parameter_count-count.result in
     let is =
-    receiver_taken program method (g.S.Store.index c.args.store.now) (g.S.Store.kept c.args.store.now) c.args.roots.now.roots count c.parameter_count-count.ensures c.args.roots.now.limit (λ kind. select program kind method)
-    (ap (λ named. is_some (on_method (λ method. receiver_deed program c.args.roots.now.limit (seen (g.S.Store.index c.args.store.now) (g.S.Store.kept c.args.store.now) c.args.roots.now.roots) (λ kind. select program kind method) method) named)) (sym c.in-Method.is) ∙ c.requires.there) in
-    receiver_count program method (g.S.Store.index c.args.store.now) (g.S.Store.kept c.args.store.now) c.args.roots.now.roots count c.parameter_count-count.ensures is
+    receiver_taken program method (g.S.Store.storage c.args.store.now).index (g.S.Store.storage c.args.store.now).kept c.args.roots.now.roots count c.parameter_count-count.ensures c.args.roots.now.limit (λ kind. select program kind method)
+    (ap (λ named. is_some (on_method (λ method. receiver_deed program c.args.roots.now.limit (view_in (g.S.Store.storage c.args.store.now) c.args.roots.now.roots) (λ kind. select program kind method) method) named)) (sym c.in-Method.is) ∙ c.requires.there) in
+    receiver_count program method (g.S.Store.storage c.args.store.now).index (g.S.Store.storage c.args.store.now).kept c.args.roots.now.roots count c.parameter_count-count.ensures is
 
 pub calls-requires-clause-fit : goal.calls-requires-clause-fit
 calls-requires-clause-fit g c = λ called number numbered body low there has each.
@@ -66,12 +66,12 @@ calls-requires-clause-fit g c = λ called number numbered body low there has eac
     let method = c.in-Method.method in
     let count = c.parameter_count-count.result in
     let is =
-    receiver_taken program method (g.S.Store.index c.args.store.now) (g.S.Store.kept c.args.store.now) c.args.roots.now.roots count c.parameter_count-count.ensures c.args.roots.now.limit (λ kind. select program kind method)
-    (ap (λ named. is_some (on_method (λ method. receiver_deed program c.args.roots.now.limit (seen (g.S.Store.index c.args.store.now) (g.S.Store.kept c.args.store.now) c.args.roots.now.roots) (λ kind. select program kind method) method) named)) (sym c.in-Method.is) ∙ c.requires.there) in
+    receiver_taken program method (g.S.Store.storage c.args.store.now).index (g.S.Store.storage c.args.store.now).kept c.args.roots.now.roots count c.parameter_count-count.ensures c.args.roots.now.limit (λ kind. select program kind method)
+    (ap (λ named. is_some (on_method (λ method. receiver_deed program c.args.roots.now.limit (view_in (g.S.Store.storage c.args.store.now) c.args.roots.now.roots) (λ kind. select program kind method) method) named)) (sym c.in-Method.is) ∙ c.requires.there) in
     c.requires.fit called number numbered body low there has
-    (λ limit. ap (on_method (λ method. receiver_deed program limit (seen (g.S.Store.index c.args.store.now) (g.S.Store.kept c.args.store.now) c.args.roots.now.roots) (λ kind. select program kind method) method)) c.in-Method.is
-    ∙ kind_receiver program method (g.S.Store.index c.args.store.now) (g.S.Store.kept c.args.store.now) c.args.roots.now.roots count c.parameter_count-count.ensures is c.reference_at-at.result c.reference_at-at.ensures c.if-at-eq0.false c.kind.result c.kind.ensures limit (λ kind. select program kind method)
-    ∙ ap (call_deed program limit (seen (g.S.Store.index c.args.store.now) (g.S.Store.kept c.args.store.now) c.args.roots.now.roots) (count + 1)) (sym c.select-selected.ensures.found)
+    (λ limit. ap (on_method (λ method. receiver_deed program limit (view_in (g.S.Store.storage c.args.store.now) c.args.roots.now.roots) (λ kind. select program kind method) method)) c.in-Method.is
+    ∙ kind_receiver program method (g.S.Store.storage c.args.store.now).index (g.S.Store.storage c.args.store.now).kept c.args.roots.now.roots count c.parameter_count-count.ensures is c.reference_at-at.result c.reference_at-at.ensures c.if-at-eq0.false c.kind.result c.kind.ensures limit (λ kind. select program kind method)
+    ∙ ap (call_deed program limit (view_in (g.S.Store.storage c.args.store.now) c.args.roots.now.roots) (count + 1)) (sym c.select-selected.ensures.found)
     ∙ each limit)
 
 pub returns-clause-deed : goal.returns-clause-deed
@@ -80,9 +80,9 @@ returns-clause-deed g c =
     let method = c.in-Method.method in
     let count = c.parameter_count-count.result in
     let is =
-    receiver_taken program method (g.S.Store.index c.args.store.now) (g.S.Store.kept c.args.store.now) c.args.roots.now.roots count c.parameter_count-count.ensures c.args.roots.now.limit (λ kind. select program kind method)
-    (ap (λ named. is_some (on_method (λ method. receiver_deed program c.args.roots.now.limit (seen (g.S.Store.index c.args.store.now) (g.S.Store.kept c.args.store.now) c.args.roots.now.roots) (λ kind. select program kind method) method) named)) (sym c.in-Method.is) ∙ c.requires.there) in
-    ap (on_method (λ method. receiver_deed program c.args.roots.now.limit (seen (g.S.Store.index c.args.store.now) (g.S.Store.kept c.args.store.now) c.args.roots.now.roots) (λ kind. select program kind method) method)) c.in-Method.is
-    ∙ kind_receiver program method (g.S.Store.index c.args.store.now) (g.S.Store.kept c.args.store.now) c.args.roots.now.roots count c.parameter_count-count.ensures is c.reference_at-at.result c.reference_at-at.ensures c.if-at-eq0.false c.kind.result c.kind.ensures c.args.roots.now.limit (λ kind. select program kind method)
-    ∙ ap (call_deed program c.args.roots.now.limit (seen (g.S.Store.index c.args.store.now) (g.S.Store.kept c.args.store.now) c.args.roots.now.roots) (count + 1)) (sym c.select-selected.ensures.found)
+    receiver_taken program method (g.S.Store.storage c.args.store.now).index (g.S.Store.storage c.args.store.now).kept c.args.roots.now.roots count c.parameter_count-count.ensures c.args.roots.now.limit (λ kind. select program kind method)
+    (ap (λ named. is_some (on_method (λ method. receiver_deed program c.args.roots.now.limit (view_in (g.S.Store.storage c.args.store.now) c.args.roots.now.roots) (λ kind. select program kind method) method) named)) (sym c.in-Method.is) ∙ c.requires.there) in
+    ap (on_method (λ method. receiver_deed program c.args.roots.now.limit (view_in (g.S.Store.storage c.args.store.now) c.args.roots.now.roots) (λ kind. select program kind method) method)) c.in-Method.is
+    ∙ kind_receiver program method (g.S.Store.storage c.args.store.now).index (g.S.Store.storage c.args.store.now).kept c.args.roots.now.roots count c.parameter_count-count.ensures is c.reference_at-at.result c.reference_at-at.ensures c.if-at-eq0.false c.kind.result c.kind.ensures c.args.roots.now.limit (λ kind. select program kind method)
+    ∙ ap (call_deed program c.args.roots.now.limit (view_in (g.S.Store.storage c.args.store.now) c.args.roots.now.roots) (count + 1)) (sym c.select-selected.ensures.found)
     ∙ c.calls.ensures.deed

@@ -1,6 +1,6 @@
+use Rattle.cb_heap.specs.Storage.{view_in}
 use Rattle.std.proofs.Common.{◌≡◌, ◌∙◌, ap, sym, ◌+◌}
 use Rattle.std.specs.Prelude.{is_some}
-use Rattle.cb_heap.specs.Reading.{seen}
 use Rattle.cb_machine.specs.Calling.{implementing}
 use Rattle.cb_act.specs.Acting.{call_deed, holder_kind}
 use Rattle.cb_act.proofs.CallLaws.{kind_receiver, null_receiver, receiver_count, receiver_kept, receiver_sort, receiver_taken}
@@ -13,8 +13,8 @@ reference_at-at-requires g c =
     let count = c.parameter_count-count.result in
     let choose = implementing program method (holder_kind program c.args.caller c.args.index) in
     let is =
-    receiver_taken program method (g.S.Store.index c.args.store.now) (g.S.Store.kept c.args.store.now) c.args.roots.now.roots count c.parameter_count-count.ensures c.args.roots.now.limit choose c.requires.there in
-    receiver_sort program method (g.S.Store.index c.args.store.now) (g.S.Store.kept c.args.store.now) c.args.roots.now.roots count c.parameter_count-count.ensures is
+    receiver_taken program method (g.S.Store.storage c.args.store.now).index (g.S.Store.storage c.args.store.now).kept c.args.roots.now.roots count c.parameter_count-count.ensures c.args.roots.now.limit choose c.requires.there in
+    receiver_sort program method (g.S.Store.storage c.args.store.now).index (g.S.Store.storage c.args.store.now).kept c.args.roots.now.roots count c.parameter_count-count.ensures is
 
 pub returns-then-at-eq0-clause-deed : goal.returns-then-at-eq0-clause-deed
 returns-then-at-eq0-clause-deed g c =
@@ -23,8 +23,8 @@ returns-then-at-eq0-clause-deed g c =
     let count = c.parameter_count-count.result in
     let choose = implementing program method (holder_kind program c.args.caller c.args.index) in
     let is =
-    receiver_taken program method (g.S.Store.index c.args.store.now) (g.S.Store.kept c.args.store.now) c.args.roots.now.roots count c.parameter_count-count.ensures c.args.roots.now.limit choose c.requires.there in
-    null_receiver program method (g.S.Store.index c.args.store.now) (g.S.Store.kept c.args.store.now) c.args.roots.now.roots count c.parameter_count-count.ensures is c.reference_at-at.result c.reference_at-at.ensures c.if-at-eq0.true c.args.roots.now.limit choose
+    receiver_taken program method (g.S.Store.storage c.args.store.now).index (g.S.Store.storage c.args.store.now).kept c.args.roots.now.roots count c.parameter_count-count.ensures c.args.roots.now.limit choose c.requires.there in
+    null_receiver program method (g.S.Store.storage c.args.store.now).index (g.S.Store.storage c.args.store.now).kept c.args.roots.now.roots count c.parameter_count-count.ensures is c.reference_at-at.result c.reference_at-at.ensures c.if-at-eq0.true c.args.roots.now.limit choose
 
 pub kind-requires : goal.kind-requires
 kind-requires g c =
@@ -33,8 +33,8 @@ kind-requires g c =
     let count = c.parameter_count-count.result in
     let choose = implementing program method (holder_kind program c.args.caller c.args.index) in
     let is =
-    receiver_taken program method (g.S.Store.index c.args.store.now) (g.S.Store.kept c.args.store.now) c.args.roots.now.roots count c.parameter_count-count.ensures c.args.roots.now.limit choose c.requires.there in
-    receiver_kept program method (g.S.Store.index c.args.store.now) (g.S.Store.kept c.args.store.now) c.args.roots.now.roots count c.parameter_count-count.ensures is c.reference_at-at.result c.reference_at-at.ensures c.requires.held c.if-at-eq0.false
+    receiver_taken program method (g.S.Store.storage c.args.store.now).index (g.S.Store.storage c.args.store.now).kept c.args.roots.now.roots count c.parameter_count-count.ensures c.args.roots.now.limit choose c.requires.there in
+    receiver_kept program method (g.S.Store.storage c.args.store.now).index (g.S.Store.storage c.args.store.now).kept c.args.roots.now.roots count c.parameter_count-count.ensures is c.reference_at-at.result c.reference_at-at.ensures c.requires.held c.if-at-eq0.false
 
 pub calls-requires-clause-there : goal.calls-requires-clause-there
 calls-requires-clause-there g c =
@@ -43,11 +43,11 @@ calls-requires-clause-there g c =
     let count = c.parameter_count-count.result in
     let choose = implementing program method (holder_kind program c.args.caller c.args.index) in
     let is =
-    receiver_taken program method (g.S.Store.index c.args.store.now) (g.S.Store.kept c.args.store.now) c.args.roots.now.roots count c.parameter_count-count.ensures c.args.roots.now.limit choose c.requires.there in
+    receiver_taken program method (g.S.Store.storage c.args.store.now).index (g.S.Store.storage c.args.store.now).kept c.args.roots.now.roots count c.parameter_count-count.ensures c.args.roots.now.limit choose c.requires.there in
     let selected : choose c.kind.result ≡ c.implementing-selected.result =
     ap (λ interface. implementing program method interface c.kind.result) (sym c.holder_kind-interface.ensures.found) ∙ sym c.implementing-selected.ensures.found in
-    ap is_some (sym (kind_receiver program method (g.S.Store.index c.args.store.now) (g.S.Store.kept c.args.store.now) c.args.roots.now.roots count c.parameter_count-count.ensures is c.reference_at-at.result c.reference_at-at.ensures c.if-at-eq0.false c.kind.result c.kind.ensures c.args.roots.now.limit choose
-    ∙ ap (call_deed program c.args.roots.now.limit (seen (g.S.Store.index c.args.store.now) (g.S.Store.kept c.args.store.now) c.args.roots.now.roots) (count + 1)) selected))
+    ap is_some (sym (kind_receiver program method (g.S.Store.storage c.args.store.now).index (g.S.Store.storage c.args.store.now).kept c.args.roots.now.roots count c.parameter_count-count.ensures is c.reference_at-at.result c.reference_at-at.ensures c.if-at-eq0.false c.kind.result c.kind.ensures c.args.roots.now.limit choose
+    ∙ ap (call_deed program c.args.roots.now.limit (view_in (g.S.Store.storage c.args.store.now) c.args.roots.now.roots) (count + 1)) selected))
     ∙ c.requires.there
 
 pub calls-requires-clause-few : goal.calls-requires-clause-few
@@ -57,8 +57,8 @@ calls-requires-clause-few g c =
     let count = c.parameter_count-count.result in
     let choose = implementing program method (holder_kind program c.args.caller c.args.index) in
     let is =
-    receiver_taken program method (g.S.Store.index c.args.store.now) (g.S.Store.kept c.args.store.now) c.args.roots.now.roots count c.parameter_count-count.ensures c.args.roots.now.limit choose c.requires.there in
-    receiver_count program method (g.S.Store.index c.args.store.now) (g.S.Store.kept c.args.store.now) c.args.roots.now.roots count c.parameter_count-count.ensures is
+    receiver_taken program method (g.S.Store.storage c.args.store.now).index (g.S.Store.storage c.args.store.now).kept c.args.roots.now.roots count c.parameter_count-count.ensures c.args.roots.now.limit choose c.requires.there in
+    receiver_count program method (g.S.Store.storage c.args.store.now).index (g.S.Store.storage c.args.store.now).kept c.args.roots.now.roots count c.parameter_count-count.ensures is
 
 pub calls-requires-clause-fit : goal.calls-requires-clause-fit
 calls-requires-clause-fit g c = λ called number numbered body low there has each.
@@ -67,12 +67,12 @@ calls-requires-clause-fit g c = λ called number numbered body low there has eac
     let count = c.parameter_count-count.result in
     let choose = implementing program method (holder_kind program c.args.caller c.args.index) in
     let is =
-    receiver_taken program method (g.S.Store.index c.args.store.now) (g.S.Store.kept c.args.store.now) c.args.roots.now.roots count c.parameter_count-count.ensures c.args.roots.now.limit choose c.requires.there in
+    receiver_taken program method (g.S.Store.storage c.args.store.now).index (g.S.Store.storage c.args.store.now).kept c.args.roots.now.roots count c.parameter_count-count.ensures c.args.roots.now.limit choose c.requires.there in
     let selected : choose c.kind.result ≡ c.implementing-selected.result =
     ap (λ interface. implementing program method interface c.kind.result) (sym c.holder_kind-interface.ensures.found) ∙ sym c.implementing-selected.ensures.found in
     c.requires.fit called number numbered body low there has
-    (λ limit. kind_receiver program method (g.S.Store.index c.args.store.now) (g.S.Store.kept c.args.store.now) c.args.roots.now.roots count c.parameter_count-count.ensures is c.reference_at-at.result c.reference_at-at.ensures c.if-at-eq0.false c.kind.result c.kind.ensures limit choose
-    ∙ ap (call_deed program limit (seen (g.S.Store.index c.args.store.now) (g.S.Store.kept c.args.store.now) c.args.roots.now.roots) (count + 1)) selected
+    (λ limit. kind_receiver program method (g.S.Store.storage c.args.store.now).index (g.S.Store.storage c.args.store.now).kept c.args.roots.now.roots count c.parameter_count-count.ensures is c.reference_at-at.result c.reference_at-at.ensures c.if-at-eq0.false c.kind.result c.kind.ensures limit choose
+    ∙ ap (call_deed program limit (view_in (g.S.Store.storage c.args.store.now) c.args.roots.now.roots) (count + 1)) selected
     ∙ each limit)
 
 pub returns-clause-deed : goal.returns-clause-deed
@@ -82,9 +82,9 @@ returns-clause-deed g c =
     let count = c.parameter_count-count.result in
     let choose = implementing program method (holder_kind program c.args.caller c.args.index) in
     let is =
-    receiver_taken program method (g.S.Store.index c.args.store.now) (g.S.Store.kept c.args.store.now) c.args.roots.now.roots count c.parameter_count-count.ensures c.args.roots.now.limit choose c.requires.there in
+    receiver_taken program method (g.S.Store.storage c.args.store.now).index (g.S.Store.storage c.args.store.now).kept c.args.roots.now.roots count c.parameter_count-count.ensures c.args.roots.now.limit choose c.requires.there in
     let selected : choose c.kind.result ≡ c.implementing-selected.result =
     ap (λ interface. implementing program method interface c.kind.result) (sym c.holder_kind-interface.ensures.found) ∙ sym c.implementing-selected.ensures.found in
-    kind_receiver program method (g.S.Store.index c.args.store.now) (g.S.Store.kept c.args.store.now) c.args.roots.now.roots count c.parameter_count-count.ensures is c.reference_at-at.result c.reference_at-at.ensures c.if-at-eq0.false c.kind.result c.kind.ensures c.args.roots.now.limit choose
-    ∙ ap (call_deed program c.args.roots.now.limit (seen (g.S.Store.index c.args.store.now) (g.S.Store.kept c.args.store.now) c.args.roots.now.roots) (count + 1)) selected
+    kind_receiver program method (g.S.Store.storage c.args.store.now).index (g.S.Store.storage c.args.store.now).kept c.args.roots.now.roots count c.parameter_count-count.ensures is c.reference_at-at.result c.reference_at-at.ensures c.if-at-eq0.false c.kind.result c.kind.ensures c.args.roots.now.limit choose
+    ∙ ap (call_deed program c.args.roots.now.limit (view_in (g.S.Store.storage c.args.store.now) c.args.roots.now.roots) (count + 1)) selected
     ∙ c.calls.ensures.deed

@@ -1,6 +1,6 @@
+use Rattle.cb_heap.specs.Storage.{view_in}
 use Rattle.std.proofs.Common.{◌∙◌, ap, sym, Some}
 use Rattle.std.specs.Prelude.{if◌then◌else◌}
-use Rattle.cb_heap.specs.Reading.{seen}
 use Rattle.cb_machine.specs.Sites.{incompatible_class_change}
 use Rattle.cb_act.specs.Acting.{Asks, implementing_deed}
 use Rattle.cb_act.specs.declared.need.Need.TheVariants as needs
@@ -10,6 +10,6 @@ pub calls_implementing-requires-clause-fit : goal.calls_implementing-requires-cl
 calls_implementing-requires-clause-fit g c = λ called number numbered body low there has each.
     c.requires.fit called number numbered body low there has
     (λ limit. ap (λ private. if private then Some (Asks (needs.Throws incompatible_class_change))
-    else implementing_deed c.args.program.now limit (seen (g.S.Store.index c.args.store.now) (g.S.Store.kept c.args.store.now) c.args.roots.now.roots) c.args.caller c.args.index c.args.method)
+    else implementing_deed c.args.program.now limit (view_in (g.S.Store.storage c.args.store.now) c.args.roots.now.roots) c.args.caller c.args.index c.args.method)
     (sym c.is_private.ensures ∙ c.if-is_private.false)
     ∙ each limit)

@@ -1,6 +1,6 @@
+use Rattle.cb_heap.specs.Storage.{view_in}
 use Rattle.std.proofs.Common.{◌∙◌, ap, sym, Some}
 use Rattle.std.specs.Prelude.{is_some, option_and_then, option_map}
-use Rattle.cb_heap.specs.Reading.{seen}
 use Rattle.cb_act.specs.Acting.{going_on, of_left}
 use Rattle.cb_act.specs.Objects.{behind_get_field, left_by}
 use Rattle.cb_act.proofs.Going.{going_there}
@@ -9,12 +9,12 @@ use Rattle.cb_act.proofs.acting_objects.gets_field.Goals as goal
 
 pub basic_of-requires-clause-there : goal.basic_of-requires-clause-there
 basic_of-requires-clause-there g c =
-    let view = seen (g.S.Store.index c.args.store.now) (g.S.Store.kept c.args.store.now) c.args.roots.now.roots in
+    let view = view_in (g.S.Store.storage c.args.store.now) c.args.roots.now.roots in
     field_told c.args.program.now (λ slot basic. going_on c.args.decoded.now (behind_get_field slot basic view)) c.args.decoded.now.named c.requires.there
 
 pub get_field-left-requires-clause-there : goal.get_field-left-requires-clause-there
 get_field-left-requires-clause-there g c =
-    let view = seen (g.S.Store.index c.args.store.now) (g.S.Store.kept c.args.store.now) c.args.roots.now.roots in
+    let view = view_in (g.S.Store.storage c.args.store.now) c.args.roots.now.roots in
     let told = field_on c.args.program.now (λ slot basic. going_on c.args.decoded.now (behind_get_field slot basic view)) c.args.decoded.now.named _ _ c.basic_of.result c.in-Field.is (c.basic_of.ensures.field _ _ c.in-Field.is) in
     going_there c.args.decoded.now (behind_get_field c.in-Field.slot c.basic_of.result view) (ap is_some (sym told) ∙ c.requires.there)
 
@@ -23,8 +23,8 @@ get_field-left-requires-clause-suits g c = c.requires.suits _ _ _ c.in-Field.is 
 
 pub returns-clause-deed : goal.returns-clause-deed
 returns-clause-deed g c =
-    let view = seen (g.S.Store.index c.args.store.now) (g.S.Store.kept c.args.store.now) c.args.roots.now.roots in
-    let later = seen (g.S.Store.index c.args.store.now) (g.S.Store.kept c.args.store.now) c.get_field-left.new.roots.roots in
+    let view = view_in (g.S.Store.storage c.args.store.now) c.args.roots.now.roots in
+    let later = view_in (g.S.Store.storage c.args.store.now) c.get_field-left.new.roots.roots in
     field_on c.args.program.now (λ slot basic. going_on c.args.decoded.now (behind_get_field slot basic view)) c.args.decoded.now.named _ _ c.basic_of.result c.in-Field.is (c.basic_of.ensures.field _ _ c.in-Field.is)
     ∙ ap (going_on c.args.decoded.now) c.get_field-left.ensures.behind
     ∙ ap (λ next. option_and_then (λ pc. option_map (of_left pc) (Some (left_by c.get_field-left.result later))) next) c.in-Some.is

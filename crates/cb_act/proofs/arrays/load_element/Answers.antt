@@ -12,31 +12,31 @@ use Rattle.cb_act.proofs.Taken.{stands}
 use Rattle.cb_act.proofs.arrays.load_element.Goals as goal
 
 pub int_at-index-requires : goal.int_at-index-requires
-int_at-index-requires g c = stands (g.S.Store.index c.args.store.now) c.args.roots.now.roots _ (sorts.Int ∷ sorts.Reference ∷ []) c.requires.there 0 sorts.Int refl
+int_at-index-requires g c = stands (g.S.Store.storage c.args.store.now).index c.args.roots.now.roots _ (sorts.Int ∷ sorts.Reference ∷ []) c.requires.there 0 sorts.Int refl
 
 pub reference_at-at-requires : goal.reference_at-at-requires
-reference_at-at-requires g c = stands (g.S.Store.index c.args.store.now) c.args.roots.now.roots _ (sorts.Int ∷ sorts.Reference ∷ []) c.requires.there 1 sorts.Reference refl
+reference_at-at-requires g c = stands (g.S.Store.storage c.args.store.now).index c.args.roots.now.roots _ (sorts.Int ∷ sorts.Reference ∷ []) c.requires.there 1 sorts.Reference refl
 
 pub returns-then-at-eq0-clause-behind : goal.returns-then-at-eq0-clause-behind
 returns-then-at-eq0-clause-behind g c =
-    let index = g.S.Store.index c.args.store.now in
-    let objects = g.S.Store.kept c.args.store.now in
+    let index = (g.S.Store.storage c.args.store.now).index in
+    let objects = (g.S.Store.storage c.args.store.now).kept in
     let held = c.args.roots.now.roots in
     element_so index objects held c.reference_at-at.result c.int_at-index.result c.args.basic c.int_at-index.ensures c.reference_at-at.ensures
     ∙ of_null (seen index objects held) index c.reference_at-at.result c.int_at-index.result _ c.if-at-eq0.true
 
 pub length-count-requires : goal.length-count-requires
 length-count-requires g c =
-    let index = g.S.Store.index c.args.store.now in
-    let objects = g.S.Store.kept c.args.store.now in
+    let index = (g.S.Store.storage c.args.store.now).index in
+    let objects = (g.S.Store.storage c.args.store.now).kept in
     let held = c.args.roots.now.roots in
     kept_so (seen index objects held) index c.reference_at-at.result c.int_at-index.result _ c.if-at-eq0.false
     (ap is_some (sym (element_so index objects held c.reference_at-at.result c.int_at-index.result c.args.basic c.int_at-index.ensures c.reference_at-at.ensures)) ∙ c.requires.there)
 
 pub returns-in_default-clause-behind : goal.returns-in_default-clause-behind
 returns-in_default-clause-behind g c =
-    let index = g.S.Store.index c.args.store.now in
-    let objects = g.S.Store.kept c.args.store.now in
+    let index = (g.S.Store.storage c.args.store.now).index in
+    let objects = (g.S.Store.storage c.args.store.now).kept in
     let held = c.args.roots.now.roots in
     element_so index objects held c.reference_at-at.result c.int_at-index.result c.args.basic c.int_at-index.ensures c.reference_at-at.ensures
     ∙ index_out (seen index objects held) index c.reference_at-at.result c.length-count.result c.int_at-index.result _ c.if-at-eq0.false c.length-count.ensures
@@ -44,8 +44,8 @@ returns-in_default-clause-behind g c =
 
 pub value_at-value-requires : goal.value_at-value-requires
 value_at-value-requires g c =
-    let index = g.S.Store.index c.args.store.now in
-    let objects = g.S.Store.kept c.args.store.now in
+    let index = (g.S.Store.storage c.args.store.now).index in
+    let objects = (g.S.Store.storage c.args.store.now).kept in
     let held = c.args.roots.now.roots in
     let there : place_of c.int_at-index.result c.length-count.result ≡ Some c.in-Some.place =
     ap (λ i. place_of i c.length-count.result) (sym (to_z-of_z w32 c.int_at-index.result (record { sfits = c.int_at-index.type_inv }))) ∙ sym c.place_of.ensures ∙ c.in-Some.is in
@@ -56,8 +56,8 @@ value_at-value-requires g c =
 
 pub returns-clause-behind : goal.returns-clause-behind
 returns-clause-behind g c =
-    let index = g.S.Store.index c.args.store.now in
-    let objects = g.S.Store.kept c.args.store.now in
+    let index = (g.S.Store.storage c.args.store.now).index in
+    let objects = (g.S.Store.storage c.args.store.now).kept in
     let held = c.args.roots.now.roots in
     let there : place_of c.int_at-index.result c.length-count.result ≡ Some c.in-Some.place =
     ap (λ i. place_of i c.length-count.result) (sym (to_z-of_z w32 c.int_at-index.result (record { sfits = c.int_at-index.type_inv }))) ∙ sym c.place_of.ensures ∙ c.in-Some.is in

@@ -10,15 +10,15 @@ use Rattle.cb_act.proofs.placing.make_array.Goals as goal
 
 pub returns-clause-behind : goal.returns-clause-behind
 returns-clause-behind g c =
-    let before = g.S.Store.index c.args.store.now in
-    let after = g.S.Store.index c.place-at.new.self in
-    let objects = g.S.Store.kept c.args.store.now in
+    let before = (g.S.Store.storage c.args.store.now).index in
+    let after = (g.S.Store.storage c.place-at.new.self).index in
+    let objects = (g.S.Store.storage c.args.store.now).kept in
     let held = c.args.roots.now.roots in
-    ap (λ roots. seen after (g.S.Store.kept c.place-at.new.self) roots.roots) c.give_for_one.ensures
-    ∙ ap (λ roots. record { roots = roots; objects = g.S.Store.kept c.place-at.new.self }) (stacked_read after held (Ref c.place-at.result ∷ drop 1 (top_stack held)))
-    ∙ ap (λ below. record { roots = stacked (read_roots after held) (Ref (serial_of after c.place-at.result) ∷ below); objects = g.S.Store.kept c.place-at.new.self })
+    ap (λ roots. seen after (g.S.Store.storage c.place-at.new.self).kept roots.roots) c.give_for_one.ensures
+    ∙ ap (λ roots. record { roots = roots; objects = (g.S.Store.storage c.place-at.new.self).kept }) (stacked_read after held (Ref c.place-at.result ∷ drop 1 (top_stack held)))
+    ∙ ap (λ below. record { roots = stacked (read_roots after held) (Ref (serial_of after c.place-at.result) ∷ below); objects = (g.S.Store.storage c.place-at.new.self).kept })
     (sym (drop-map (read_value after) 1 (top_stack held)) ∙ ap (drop 1) (sym (reads_stack after held)))
-    ∙ ap (λ roots. record { roots = stacked roots (Ref (serial_of after c.place-at.result) ∷ drop 1 (top_stack roots)); objects = g.S.Store.kept c.place-at.new.self })
+    ∙ ap (λ roots. record { roots = stacked roots (Ref (serial_of after c.place-at.result) ∷ drop 1 (top_stack roots)); objects = (g.S.Store.storage c.place-at.new.self).kept })
     (roots_again objects before after c.place-at.ensures.places held c.requires.closed.roots)
-    ∙ ap (λ serial. record { roots = stacked (read_roots before held) (Ref serial ∷ drop 1 (top_stack (read_roots before held))); objects = g.S.Store.kept c.place-at.new.self }) c.place-at.ensures.serial
+    ∙ ap (λ serial. record { roots = stacked (read_roots before held) (Ref serial ∷ drop 1 (top_stack (read_roots before held))); objects = (g.S.Store.storage c.place-at.new.self).kept }) c.place-at.ensures.serial
     ∙ ap (λ kept. record { roots = stacked (read_roots before held) (Ref (length objects + 1) ∷ drop 1 (top_stack (read_roots before held))); objects = kept }) c.place-at.ensures.kept

@@ -7,13 +7,13 @@ use Rattle.cb_act.proofs.placing.make_object.Goals as goal
 
 pub returns-clause-behind : goal.returns-clause-behind
 returns-clause-behind g c =
-    let before = g.S.Store.index c.args.store.now in
-    let after = g.S.Store.index c.place-at.new.self in
-    let objects = g.S.Store.kept c.args.store.now in
+    let before = (g.S.Store.storage c.args.store.now).index in
+    let after = (g.S.Store.storage c.place-at.new.self).index in
+    let objects = (g.S.Store.storage c.args.store.now).kept in
     let held = c.args.roots.now.roots in
-    ap (λ roots. seen after (g.S.Store.kept c.place-at.new.self) roots.roots) c.push.ensures
-    ∙ ap (λ roots. record { roots = roots; objects = g.S.Store.kept c.place-at.new.self }) (reads_pushed after held (Ref c.place-at.result))
-    ∙ ap (λ roots. record { roots = pushed roots (Ref (serial_of after c.place-at.result)); objects = g.S.Store.kept c.place-at.new.self })
+    ap (λ roots. seen after (g.S.Store.storage c.place-at.new.self).kept roots.roots) c.push.ensures
+    ∙ ap (λ roots. record { roots = roots; objects = (g.S.Store.storage c.place-at.new.self).kept }) (reads_pushed after held (Ref c.place-at.result))
+    ∙ ap (λ roots. record { roots = pushed roots (Ref (serial_of after c.place-at.result)); objects = (g.S.Store.storage c.place-at.new.self).kept })
     (roots_again objects before after c.place-at.ensures.places held c.requires.closed.roots)
-    ∙ ap (λ serial. record { roots = pushed (read_roots before held) (Ref serial); objects = g.S.Store.kept c.place-at.new.self }) c.place-at.ensures.serial
+    ∙ ap (λ serial. record { roots = pushed (read_roots before held) (Ref serial); objects = (g.S.Store.storage c.place-at.new.self).kept }) c.place-at.ensures.serial
     ∙ ap (λ kept. record { roots = pushed (read_roots before held) (Ref (length objects + 1)); objects = kept }) c.place-at.ensures.kept

@@ -8,10 +8,10 @@ use Rattle.cb_heap.proofs.text.place_units.Goals as goal
 
 pub returns-clause-kept : goal.returns-clause-kept
 returns-clause-kept g c =
-    let objects = g.S.Store.kept c.args.store.now in
-    let after = g.S.Store.index c.place-at.new.self in
-    let one : Object = new_object (g.S.Store.shapes c.args.store.now) c.args.site c.args.kind (length c.args.units.now) in
+    let objects = (g.S.Store.storage c.args.store.now).kept in
+    let after = (g.S.Store.storage c.place-at.new.self).index in
+    let one : Object = new_object (g.S.Store.storage c.args.store.now).settings.shapes c.args.site c.args.kind (length c.args.units.now) in
     c.write_units.ensures.kept
-    ∙ ap (λ serial. with_contents_in (g.S.Store.kept c.place-at.new.self) serial (unit_contents c.args.units.now)) c.place-at.ensures.serial
+    ∙ ap (λ serial. with_contents_in (g.S.Store.storage c.place-at.new.self).kept serial (unit_contents c.args.units.now)) c.place-at.ensures.serial
     ∙ ap (λ kept. with_contents_in kept (length objects + 1) (unit_contents c.args.units.now)) c.place-at.ensures.kept
     ∙ with_last objects one (unit_contents c.args.units.now)

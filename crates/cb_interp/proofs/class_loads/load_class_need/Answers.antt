@@ -1,5 +1,5 @@
+use Rattle.cb_heap.specs.Storage.{view_in}
 use Rattle.std.proofs.Common.{◌∙◌, ap, sym}
-use Rattle.cb_heap.specs.Reading.{seen}
 use Rattle.cb_machine.specs.Machine.{or_zero}
 use Rattle.cb_act.specs.Turning.{machine_of, state_of}
 use Rattle.cb_interp.proofs.TurnsNeedClasses.{class_room, class_table, loads_class_so}
@@ -8,13 +8,13 @@ use Rattle.cb_interp.proofs.class_loads.load_class_need.Goals as goal
 
 pub unreachable-requires : goal.unreachable-requires
 unreachable-requires g c =
-    load_goes (machine_of c.args.program.now c.args.roots.now.limit) (state_of (seen (g.S.Store.index c.args.store.now) (g.S.Store.kept c.args.store.now) c.args.roots.now.roots) g.outside)
-    c.args.decoded.now c.requires.1.1.1.0 c.requires.1.0.linked c.requires.1.0.fits c.requires.1.0.typed c.requires.1.1.1.1.0 c.in_default.is
+    load_goes (machine_of c.args.program.now c.args.roots.now.limit) (state_of (view_in (g.S.Store.storage c.args.store.now) c.args.roots.now.roots) g.outside)
+    c.args.decoded.now c.requires.1.1.0 c.requires.1.0.linked c.requires.1.0.fits c.requires.1.0.typed c.requires.1.1.1.0 c.in_default.is
 
 pub table-requires : goal.table-requires
 table-requires g c =
-    class_table c.args.program.now c.args.roots.now.limit (g.S.Store.index c.args.store.now) (g.S.Store.kept c.args.store.now) c.args.roots.now.roots g.outside c.args.decoded.now
-    (record { kind = c.args.kind; next = c.in-Some.next }) (record { loads = c.requires.1.1.1.1.0; names = c.requires.1.1.1.1.1.0; next = c.in-Some.is; low = c.requires.1.1.1.1.1.1 }) c.requires.1.0.typed
+    class_table c.args.program.now c.args.roots.now.limit (g.S.Store.storage c.args.store.now).index (g.S.Store.storage c.args.store.now).kept c.args.roots.now.roots g.outside c.args.decoded.now
+    (record { kind = c.args.kind; next = c.in-Some.next }) (record { loads = c.requires.1.1.1.0; names = c.requires.1.1.1.1.0; next = c.in-Some.is; low = c.requires.1.1.1.1.1 }) c.requires.1.0.typed
 
 pub load_class_known-requires : goal.load_class_known-requires
 load_class_known-requires g c = λ κs lives. (
@@ -22,9 +22,9 @@ load_class_known-requires g c = λ κs lives. (
   (
     c.requires.1.0,
     (
-      c.requires.1.1.1.0,
+      c.requires.1.1.0,
       (
-        record { loads = c.requires.1.1.1.1.0; names = c.requires.1.1.1.1.1.0; next = c.in-Some.is; low = c.requires.1.1.1.1.1.1 },
+        record { loads = c.requires.1.1.1.0; names = c.requires.1.1.1.1.0; next = c.in-Some.is; low = c.requires.1.1.1.1.1 },
         λ new. c.if-table-ne0.true (sym (ap or_zero c.table.ensures) ∙ new),
       ),
     ),
@@ -34,32 +34,29 @@ load_class_known-requires g c = λ κs lives. (
 pub load_class_new-requires : goal.load_class_new-requires
 load_class_new-requires g c = λ κs lives.
     let runs = c.requires.1.0 in
-    let may = c.linked_constants.ensures.classes c.args.program.now (g.S.Store.shapes c.args.store.now) runs.linked runs.fits runs.shaped in (
+    let may = c.linked_constants.ensures.classes c.args.program.now (g.S.Store.storage c.args.store.now).settings.shapes runs.linked runs.fits runs.shaped in (
       lives,
       (
         runs,
         (
-          c.requires.1.1.0,
+          loads_class_so c.args.program.now c.args.roots.now.limit (g.S.Store.storage c.args.store.now).index (g.S.Store.storage c.args.store.now).kept c.args.roots.now.roots g.outside c.args.decoded.now
+              (record { kind = c.args.kind; next = c.in-Some.next })
+              (record { loads = c.requires.1.1.1.0; names = c.requires.1.1.1.1.0; next = c.in-Some.is; low = c.requires.1.1.1.1.1 }) c.requires.1.1.0
+              (ap or_zero c.table.ensures ∙ c.if-table-ne0.false),
           (
-            loads_class_so c.args.program.now c.args.roots.now.limit (g.S.Store.index c.args.store.now) (g.S.Store.kept c.args.store.now) c.args.roots.now.roots g.outside c.args.decoded.now
+            class_table c.args.program.now c.args.roots.now.limit (g.S.Store.storage c.args.store.now).index (g.S.Store.storage c.args.store.now).kept c.args.roots.now.roots g.outside c.args.decoded.now
                 (record { kind = c.args.kind; next = c.in-Some.next })
-                (record { loads = c.requires.1.1.1.1.0; names = c.requires.1.1.1.1.1.0; next = c.in-Some.is; low = c.requires.1.1.1.1.1.1 }) c.requires.1.1.1.0
-                (ap or_zero c.table.ensures ∙ c.if-table-ne0.false),
+                (record { loads = c.requires.1.1.1.0; names = c.requires.1.1.1.1.0; next = c.in-Some.is; low = c.requires.1.1.1.1.1 }) runs.typed,
             (
-              class_table c.args.program.now c.args.roots.now.limit (g.S.Store.index c.args.store.now) (g.S.Store.kept c.args.store.now) c.args.roots.now.roots g.outside c.args.decoded.now
-                  (record { kind = c.args.kind; next = c.in-Some.next })
-                  (record { loads = c.requires.1.1.1.1.0; names = c.requires.1.1.1.1.1.0; next = c.in-Some.is; low = c.requires.1.1.1.1.1.1 }) runs.typed,
+              may.sites,
               (
-                may.sites,
+                may.low,
                 (
-                  may.low,
-                  (
-                    may.field,
-                    class_room c.args.program.now c.args.roots.now.limit (g.S.Store.index c.args.store.now) (g.S.Store.kept c.args.store.now) c.args.roots.now.roots g.outside c.args.decoded.now
-                        (record { kind = c.args.kind; next = c.in-Some.next })
-                        (record { loads = c.requires.1.1.1.1.0; names = c.requires.1.1.1.1.1.0; next = c.in-Some.is; low = c.requires.1.1.1.1.1.1 }) runs.typed c.requires.1.1.1.0 runs.linked
-                        runs.fits (g.S.Store.allows c.args.store.now) runs.pairs,
-                  ),
+                  may.field,
+                  class_room c.args.program.now c.args.roots.now.limit (g.S.Store.storage c.args.store.now).index (g.S.Store.storage c.args.store.now).kept c.args.roots.now.roots g.outside c.args.decoded.now
+                      (record { kind = c.args.kind; next = c.in-Some.next })
+                      (record { loads = c.requires.1.1.1.0; names = c.requires.1.1.1.1.0; next = c.in-Some.is; low = c.requires.1.1.1.1.1 }) runs.typed c.requires.1.1.0 runs.linked
+                      runs.fits,
                 ),
               ),
             ),

@@ -15,10 +15,10 @@ plan_copy-requires-clause-sorts g c =
 
 pub plan_copy-requires-clause-laid : goal.plan_copy-requires-clause-laid
 plan_copy-requires-clause-laid g c =
-    subst (λ (held : List Value). AreLaid c.args.program.now (g.S.Store.kept c.args.store.now) natives.SystemArraycopy (map (read_value (g.S.Store.index c.args.store.now)) held))
+    subst (λ (held : List Value). AreLaid c.args.program.now (g.S.Store.storage c.args.store.now).kept natives.SystemArraycopy (map (read_value (g.S.Store.storage c.args.store.now).index) held))
     (sym (c.arguments_on-arguments.ensures ∙ ap (λ (count : ℕ). reverse (take count (top_stack c.args.roots.now.roots))) c.argument_count-count.ensures)) c.requires.laid
 
 pub returns : goal.returns
 returns g c =
-    subst (λ (held : List Value). PlansCopy c.args.program.now (g.S.Store.kept c.args.store.now) (g.S.Store.index c.args.store.now) (map (read_value (g.S.Store.index c.args.store.now)) held) c.plan_copy.result)
+    subst (λ (held : List Value). PlansCopy c.args.program.now (g.S.Store.storage c.args.store.now).kept (g.S.Store.storage c.args.store.now).index (map (read_value (g.S.Store.storage c.args.store.now).index) held) c.plan_copy.result)
     (c.arguments_on-arguments.ensures ∙ ap (λ (count : ℕ). reverse (take count (top_stack c.args.roots.now.roots))) c.argument_count-count.ensures) c.plan_copy.ensures

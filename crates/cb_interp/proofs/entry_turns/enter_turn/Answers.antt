@@ -13,7 +13,7 @@ set_local-requires g c =
 
 pub returns-in-Ok-clause-made : goal.returns-in-Ok-clause-made
 returns-in-Ok-clause-made g c =
-    entered_turn c.args.program.now (g.S.Store.index c.args.store.now) (g.S.Store.kept c.args.store.now) c.args.roots.now g.outside c.args.method c.args.body.now g.S.Store.rules (g.S.Store.facts c.args.store.now) c.set_argument.new.self.roots
+    entered_turn c.args.program.now (g.S.Store.storage c.args.store.now).index (g.S.Store.storage c.args.store.now).kept c.args.roots.now g.outside c.args.method c.args.body.now g.S.Store.rules (g.S.Store.storage c.args.store.now).facts c.set_argument.new.self.roots
     c.in-Ok.ensures.deep c.requires.1.0 c.requires.1.1.1 c.requires.1.1.0
     (ap (λ (held : Limited). held.roots) c.set_argument.ensures
     ∙ ap (λ (held : Limited). with_argument held.roots 0) c.set_local.ensures
@@ -22,4 +22,4 @@ returns-in-Ok-clause-made g c =
 
 pub returns-in-Err-clause-deep : goal.returns-in-Err-clause-deep
 returns-in-Err-clause-deep g c =
-    too_deep c.args.program.now (g.S.Store.index c.args.store.now) (g.S.Store.kept c.args.store.now) c.args.roots.now g.outside c.args.method c.args.body.now c.in-Err.ensures.deep c.requires.1.0 c.requires.1.1.0
+    too_deep c.args.program.now (g.S.Store.storage c.args.store.now).index (g.S.Store.storage c.args.store.now).kept c.args.roots.now g.outside c.args.method c.args.body.now c.in-Err.ensures.deep c.requires.1.0 c.requires.1.1.0

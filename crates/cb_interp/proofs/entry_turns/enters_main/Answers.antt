@@ -9,15 +9,12 @@ enters_first-requires g c κs within =
       (
         c.requires.1.0,
         (
-          c.requires.1.1.0,
+          c.requires.1.1.1.0,
           (
-            c.requires.1.1.1.1.0,
-            (
-              enters c.args.program.now (g.S.Store.index c.args.store.now) (g.S.Store.kept c.args.store.now) c.args.roots.now.roots g.outside c.requires.1.1.1.0 c.requires.1.1.1.1.0 c.requires.1.1.1.1.1.0 c.requires.1.1.1.1.1.1 c.main_method-method.result c.main_method-method.ensures.begins
-                  c.in-Some.body own c.args.roots.now.limit,
-              main_fits c.args.program.now (g.S.Store.index c.args.store.now) (g.S.Store.kept c.args.store.now) c.args.roots.now.roots g.outside c.requires.1.1.1.0 c.requires.1.1.1.1.0 c.requires.1.1.1.1.1.0 c.requires.1.1.1.1.1.1 c.main_method-method.result c.main_method-method.ensures.begins
-                  c.in-Some.body own c.requires.1.0.linked c.requires.1.0.fits c.requires.1.0.typed,
-            ),
+            enters c.args.program.now (g.S.Store.storage c.args.store.now).index (g.S.Store.storage c.args.store.now).kept c.args.roots.now.roots g.outside c.requires.1.1.0 c.requires.1.1.1.0 c.requires.1.1.1.1.0 c.requires.1.1.1.1.1 c.main_method-method.result c.main_method-method.ensures.begins
+                c.in-Some.body own c.args.roots.now.limit,
+            main_fits c.args.program.now (g.S.Store.storage c.args.store.now).index (g.S.Store.storage c.args.store.now).kept c.args.roots.now.roots g.outside c.requires.1.1.0 c.requires.1.1.1.0 c.requires.1.1.1.1.0 c.requires.1.1.1.1.1 c.main_method-method.result c.main_method-method.ensures.begins
+                c.in-Some.body own c.requires.1.0.linked c.requires.1.0.fits c.requires.1.0.typed,
           ),
         ),
       ),
@@ -25,6 +22,6 @@ enters_first-requires g c κs within =
 
 pub unreachable-requires : goal.unreachable-requires
 unreachable-requires g c =
-    main_coded c.args.program.now (g.S.Store.index c.args.store.now) (g.S.Store.kept c.args.store.now) c.args.roots.now.roots g.outside c.requires.1.1.1.0 c.requires.1.1.1.1.0
-    c.requires.1.1.1.1.1.0 c.requires.1.1.1.1.1.1 c.args.roots.now.limit c.main_method-method.result c.main_method-method.ensures.begins c.method.result.now c.method.ensures c.in-None.is
+    main_coded c.args.program.now (g.S.Store.storage c.args.store.now).index (g.S.Store.storage c.args.store.now).kept c.args.roots.now.roots g.outside c.requires.1.1.0 c.requires.1.1.1.0
+    c.requires.1.1.1.1.0 c.requires.1.1.1.1.1 c.args.roots.now.limit c.main_method-method.result c.main_method-method.ensures.begins c.method.result.now c.method.ensures c.in-None.is
     c.requires.1.0.linked c.requires.1.0.fits c.requires.1.0.typed

@@ -11,12 +11,9 @@ begins_class-requires g c κs within = (
   (
     c.requires.1.0,
     (
-      c.requires.1.1.0,
-      (
-        begins c.args.program.now (g.S.Store.index c.args.store.now) (g.S.Store.kept c.args.store.now) c.args.roots.now.roots g.outside c.requires.1.1.1.0 c.requires.1.1.1.1.0 c.requires.1.1.1.1.1 c.args.roots.now.limit c.main_class-class.result c.main_class-class.ensures.main
-            (c.state.ensures ∙ ap Some c.in-Untouched.is),
-        c.main_class-class.ensures.within,
-      ),
+      begins c.args.program.now (g.S.Store.storage c.args.store.now).index (g.S.Store.storage c.args.store.now).kept c.args.roots.now.roots g.outside c.requires.1.1.0 c.requires.1.1.1.0 c.requires.1.1.1.1 c.args.roots.now.limit c.main_class-class.result c.main_class-class.ensures.main
+          (c.state.ensures ∙ ap Some c.in-Untouched.is),
+      c.main_class-class.ensures.within,
     ),
   ),
 )
@@ -27,12 +24,9 @@ throws_at-requires g c κs within = (
   (
     c.requires.1.0,
     (
-      c.requires.1.1.0,
-      (
-        fails c.args.program.now (g.S.Store.index c.args.store.now) (g.S.Store.kept c.args.store.now) c.args.roots.now.roots g.outside c.requires.1.1.1.0 c.requires.1.1.1.1.0 c.requires.1.1.1.1.1 c.args.roots.now.limit c.main_class-class.result c.main_class-class.ensures.main
-            (c.state.ensures ∙ ap Some c.in-Failed.is),
-        (8, omega arith, refl),
-      ),
+      fails c.args.program.now (g.S.Store.storage c.args.store.now).index (g.S.Store.storage c.args.store.now).kept c.args.roots.now.roots g.outside c.requires.1.1.0 c.requires.1.1.1.0 c.requires.1.1.1.1 c.args.roots.now.limit c.main_class-class.result c.main_class-class.ensures.main
+          (c.state.ensures ∙ ap Some c.in-Failed.is),
+      (8, omega arith, refl),
     ),
   ),
 )

@@ -1,10 +1,10 @@
+use Rattle.cb_heap.specs.Storage.{view_in}
 use Rattle.std.proofs.Common.{rules, ◌≡◌, arith, refl, sym, subst, Some}
 use Rattle.cb_frames.specs.Limited.{Limited}
-use Rattle.cb_heap.specs.Reading.{seen}
 use Rattle.cb_machine.specs.Sites.{stack_overflow}
 use Rattle.cb_machine.specs.Steps.{plan}
 use Rattle.cb_machine.specs.Throwing.{throws}
-use Rattle.cb_interp.specs.Running.{MayRun}
+use Rattle.cb_interp.specs.Running.{Ready}
 use Rattle.cb_act.specs.Turning.{machine_of, state_of}
 use Rattle.cb_interp.proofs.TurnsFrame.{class_below, classes_fit}
 use Rattle.cb_interp.proofs.TurnsFrameFew.{statics_read}
@@ -15,21 +15,21 @@ pub init_turn-requires : goal.init_turn-requires
 init_turn-requires g c κs within = (
   search rules,
   (
-    c.requires.1.1.1.0,
+    c.requires.1.1.0,
     (
-      initial_there c.args.program.now (g.S.Store.index c.args.store.now) (g.S.Store.kept c.args.store.now) c.args.roots.now.roots g.outside c.args.roots.now.limit
-          c.requires.1.0.typed c.requires.1.0.linked c.requires.1.0.fits c.requires.1.1.1.0 c.requires.1.1.1.1.1.1.0.0 c.requires.1.1.1.1.1.1.0.1 c.requires.1.1.1.1.1.1.0.2 c.requires.1.1.1.1.1.1.1,
+      initial_there c.args.program.now (g.S.Store.storage c.args.store.now).index (g.S.Store.storage c.args.store.now).kept c.args.roots.now.roots g.outside c.args.roots.now.limit
+          c.requires.1.0.typed c.requires.1.0.linked c.requires.1.0.fits c.requires.1.1.0 c.requires.1.1.1.1.1.0.0 c.requires.1.1.1.1.1.0.1 c.requires.1.1.1.1.1.0.2 c.requires.1.1.1.1.1.1,
       (
-        c.requires.1.1.1.1.1.0,
+        c.requires.1.1.1.1.0,
         (
-          class_below c.args.program.now (g.S.Store.index c.args.store.now) (g.S.Store.kept c.args.store.now) c.args.roots.now.roots g.outside c.requires.1.0.typed,
+          class_below c.args.program.now (g.S.Store.storage c.args.store.now).index (g.S.Store.storage c.args.store.now).kept c.args.roots.now.roots g.outside c.requires.1.0.typed,
           (
             λ class place top. c.linked_frames.ensures.few c.args.program.now c.requires.1.0.linked class,
             (
-              c.requires.1.1.1.1.1.1.1,
+              c.requires.1.1.1.1.1.1,
               (
-                classes_fit c.args.program.now (g.S.Store.index c.args.store.now) (g.S.Store.kept c.args.store.now) c.args.roots.now.roots g.outside c.requires.1.0.typed,
-                statics_read c.args.program.now (g.S.Store.index c.args.store.now) (g.S.Store.kept c.args.store.now) c.args.roots.now.roots g.outside c.requires.1.0.linked c.requires.1.0.typed,
+                classes_fit c.args.program.now (g.S.Store.storage c.args.store.now).index (g.S.Store.storage c.args.store.now).kept c.args.roots.now.roots g.outside c.requires.1.0.typed,
+                statics_read c.args.program.now (g.S.Store.storage c.args.store.now).index (g.S.Store.storage c.args.store.now).kept c.args.roots.now.roots g.outside c.requires.1.0.linked c.requires.1.0.typed,
               ),
             ),
           ),
@@ -43,16 +43,12 @@ pub throws_at-requires : goal.throws_at-requires
 throws_at-requires g c κs within = (
   search rules,
   (
-    subst (λ (roots : Limited). MayRun c.args.program.now (g.S.Store.shapes c.args.store.now) (g.S.Store.knows c.args.store.now) (g.S.Store.allows c.args.store.now)
-        (state_of (seen (g.S.Store.index c.args.store.now) (g.S.Store.kept c.args.store.now) roots.roots) g.outside)) (sym c.in-Err.ensures.same) c.requires.1.0,
+    subst (λ (roots : Limited). Ready g.S.Store.rules c.args.program.now (g.S.Store.storage c.args.store.now) roots g.outside) (sym c.in-Err.ensures.same) c.requires.1.0,
     (
-      c.requires.1.1.0,
-      (
-        subst (λ (roots : Limited). plan (machine_of c.args.program.now roots.limit) (state_of (seen (g.S.Store.index c.args.store.now) (g.S.Store.kept c.args.store.now) roots.roots) g.outside)
-            ≡ Some (throws (machine_of c.args.program.now roots.limit) (state_of (seen (g.S.Store.index c.args.store.now) (g.S.Store.kept c.args.store.now) roots.roots) g.outside) stack_overflow))
-            (sym c.in-Err.ensures.same) c.in-Err.ensures.deep,
-        (6, omega arith, refl),
-      ),
+      subst (λ (roots : Limited). plan (machine_of c.args.program.now roots.limit) (state_of (view_in (g.S.Store.storage c.args.store.now) roots.roots) g.outside)
+          ≡ Some (throws (machine_of c.args.program.now roots.limit) (state_of (view_in (g.S.Store.storage c.args.store.now) roots.roots) g.outside) stack_overflow))
+          (sym c.in-Err.ensures.same) c.in-Err.ensures.deep,
+      (6, omega arith, refl),
     ),
   ),
 )

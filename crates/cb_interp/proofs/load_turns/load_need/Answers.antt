@@ -1,5 +1,5 @@
+use Rattle.cb_heap.specs.Storage.{view_in}
 use Rattle.std.proofs.Common.{◌∙◌, ap, sym}
-use Rattle.cb_heap.specs.Reading.{seen}
 use Rattle.cb_machine.specs.Machine.{or_zero}
 use Rattle.cb_act.specs.Turning.{machine_of, state_of}
 use Rattle.cb_interp.proofs.TurnsNeedLoads.{load_goes, load_room, loads_new_so, table_there}
@@ -7,13 +7,13 @@ use Rattle.cb_interp.proofs.load_turns.load_need.Goals as goal
 
 pub unreachable-requires : goal.unreachable-requires
 unreachable-requires g c =
-    load_goes (machine_of c.args.program.now c.args.roots.now.limit) (state_of (seen (g.S.Store.index c.args.store.now) (g.S.Store.kept c.args.store.now) c.args.roots.now.roots) g.outside)
-    c.args.decoded.now c.requires.1.1.1.0 c.requires.1.0.linked c.requires.1.0.fits c.requires.1.0.typed c.requires.1.1.1.1.0 c.in_default.is
+    load_goes (machine_of c.args.program.now c.args.roots.now.limit) (state_of (view_in (g.S.Store.storage c.args.store.now) c.args.roots.now.roots) g.outside)
+    c.args.decoded.now c.requires.1.1.0 c.requires.1.0.linked c.requires.1.0.fits c.requires.1.0.typed c.requires.1.1.1.0 c.in_default.is
 
 pub table-requires : goal.table-requires
 table-requires g c =
-    table_there c.args.program.now c.args.roots.now.limit (g.S.Store.index c.args.store.now) (g.S.Store.kept c.args.store.now) c.args.roots.now.roots g.outside c.args.decoded.now
-    (record { text = c.args.text; next = c.in-Some.next }) (record { loads = c.requires.1.1.1.1.0; names = c.requires.1.1.1.1.1.0; next = c.in-Some.is; low = c.requires.1.1.1.1.1.1 }) c.requires.1.0.typed
+    table_there c.args.program.now c.args.roots.now.limit (g.S.Store.storage c.args.store.now).index (g.S.Store.storage c.args.store.now).kept c.args.roots.now.roots g.outside c.args.decoded.now
+    (record { text = c.args.text; next = c.in-Some.next }) (record { loads = c.requires.1.1.1.0; names = c.requires.1.1.1.1.0; next = c.in-Some.is; low = c.requires.1.1.1.1.1 }) c.requires.1.0.typed
 
 pub load_known-requires : goal.load_known-requires
 load_known-requires g c = λ κs lives. (
@@ -21,9 +21,9 @@ load_known-requires g c = λ κs lives. (
   (
     c.requires.1.0,
     (
-      c.requires.1.1.1.0,
+      c.requires.1.1.0,
       (
-        record { loads = c.requires.1.1.1.1.0; names = c.requires.1.1.1.1.1.0; next = c.in-Some.is; low = c.requires.1.1.1.1.1.1 },
+        record { loads = c.requires.1.1.1.0; names = c.requires.1.1.1.1.0; next = c.in-Some.is; low = c.requires.1.1.1.1.1 },
         λ new. c.if-table-ne0.true (sym (ap or_zero c.table.ensures) ∙ new),
       ),
     ),
@@ -38,26 +38,23 @@ load_new-requires g c = λ κs lives.
       (
         runs,
         (
-          c.requires.1.1.0,
+          loads_new_so c.args.program.now c.args.roots.now.limit (g.S.Store.storage c.args.store.now).index (g.S.Store.storage c.args.store.now).kept c.args.roots.now.roots g.outside c.args.decoded.now
+              (record { text = c.args.text; next = c.in-Some.next })
+              (record { loads = c.requires.1.1.1.0; names = c.requires.1.1.1.1.0; next = c.in-Some.is; low = c.requires.1.1.1.1.1 }) c.requires.1.1.0 new,
           (
-            loads_new_so c.args.program.now c.args.roots.now.limit (g.S.Store.index c.args.store.now) (g.S.Store.kept c.args.store.now) c.args.roots.now.roots g.outside c.args.decoded.now
-                (record { text = c.args.text; next = c.in-Some.next })
-                (record { loads = c.requires.1.1.1.1.0; names = c.requires.1.1.1.1.1.0; next = c.in-Some.is; low = c.requires.1.1.1.1.1.1 }) c.requires.1.1.1.0 new,
+            c.requires.1.1.1.1.1,
             (
-              c.requires.1.1.1.1.1.1,
+              table_there c.args.program.now c.args.roots.now.limit (g.S.Store.storage c.args.store.now).index (g.S.Store.storage c.args.store.now).kept c.args.roots.now.roots g.outside c.args.decoded.now
+                  (record { text = c.args.text; next = c.in-Some.next })
+                  (record { loads = c.requires.1.1.1.0; names = c.requires.1.1.1.1.0; next = c.in-Some.is; low = c.requires.1.1.1.1.1 }) runs.typed,
               (
-                table_there c.args.program.now c.args.roots.now.limit (g.S.Store.index c.args.store.now) (g.S.Store.kept c.args.store.now) c.args.roots.now.roots g.outside c.args.decoded.now
-                    (record { text = c.args.text; next = c.in-Some.next })
-                    (record { loads = c.requires.1.1.1.1.0; names = c.requires.1.1.1.1.1.0; next = c.in-Some.is; low = c.requires.1.1.1.1.1.1 }) runs.typed,
+                new,
                 (
-                  new,
-                  (
-                    c.linked_constants.ensures.texts c.args.program.now (g.S.Store.shapes c.args.store.now) runs.linked runs.fits runs.shaped c.args.text,
-                    load_room c.args.program.now c.args.roots.now.limit (g.S.Store.index c.args.store.now) (g.S.Store.kept c.args.store.now) c.args.roots.now.roots g.outside c.args.decoded.now
-                        (record { text = c.args.text; next = c.in-Some.next })
-                        (record { loads = c.requires.1.1.1.1.0; names = c.requires.1.1.1.1.1.0; next = c.in-Some.is; low = c.requires.1.1.1.1.1.1 }) runs.typed c.requires.1.1.1.0 runs.linked
-                        runs.fits (g.S.Store.allows c.args.store.now) runs.pairs,
-                  ),
+                  c.linked_constants.ensures.texts c.args.program.now (g.S.Store.storage c.args.store.now).settings.shapes runs.linked runs.fits runs.shaped c.args.text,
+                  load_room c.args.program.now c.args.roots.now.limit (g.S.Store.storage c.args.store.now).index (g.S.Store.storage c.args.store.now).kept c.args.roots.now.roots g.outside c.args.decoded.now
+                      (record { text = c.args.text; next = c.in-Some.next })
+                      (record { loads = c.requires.1.1.1.0; names = c.requires.1.1.1.1.0; next = c.in-Some.is; low = c.requires.1.1.1.1.1 }) runs.typed c.requires.1.1.0 runs.linked
+                      runs.fits,
                 ),
               ),
             ),

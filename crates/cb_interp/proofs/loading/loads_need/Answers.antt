@@ -1,5 +1,5 @@
+use Rattle.cb_heap.specs.Storage.{view_in}
 use Rattle.std.proofs.Common.{◌∙◌, ap, subst, sym}
-use Rattle.cb_heap.specs.Reading.{seen}
 use Rattle.cb_link.specs.Named.{IsThere}
 use Rattle.cb_interp.proofs.NativesAsked.{loads_constant, names_constant, never_other}
 use Rattle.cb_interp.proofs.loading.loads_need.Goals as goal
@@ -12,15 +12,12 @@ load_need-requires g c = λ κs lives. (
     (
       c.requires.1.1.0,
       (
-        c.requires.1.1.1.0,
+        loads_constant c.args.program.now c.args.roots.now.limit c.args.decoded.now (view_in (g.S.Store.storage c.args.store.now) c.args.roots.now.roots) c.requires.1.1.1,
         (
-          loads_constant c.args.program.now c.args.roots.now.limit c.args.decoded.now (seen (g.S.Store.index c.args.store.now) (g.S.Store.kept c.args.store.now) c.args.roots.now.roots) c.requires.1.1.1.1,
-          (
-            c.in-Text.is,
-            subst (IsThere c.args.program.now)
-                (sym (ap (λ decoded. decoded.named) c.requires.1.1.1.0.is) ∙ c.in-Text.is)
-                (c.linked_constants.ensures.there c.args.program.now c.requires.1.0.linked c.requires.1.1.1.0.frame.method c.requires.1.1.1.0.frame.pc),
-          ),
+          c.in-Text.is,
+          subst (IsThere c.args.program.now)
+              (sym (ap (λ decoded. decoded.named) c.requires.1.1.0.is) ∙ c.in-Text.is)
+              (c.linked_constants.ensures.there c.args.program.now c.requires.1.0.linked c.requires.1.1.0.frame.method c.requires.1.1.0.frame.pc),
         ),
       ),
     ),
@@ -35,15 +32,12 @@ load_class_need-requires g c = λ κs lives. (
     (
       c.requires.1.1.0,
       (
-        c.requires.1.1.1.0,
+        loads_constant c.args.program.now c.args.roots.now.limit c.args.decoded.now (view_in (g.S.Store.storage c.args.store.now) c.args.roots.now.roots) c.requires.1.1.1,
         (
-          loads_constant c.args.program.now c.args.roots.now.limit c.args.decoded.now (seen (g.S.Store.index c.args.store.now) (g.S.Store.kept c.args.store.now) c.args.roots.now.roots) c.requires.1.1.1.1,
-          (
-            c.in-Kind.is,
-            subst (IsThere c.args.program.now)
-                (sym (ap (λ decoded. decoded.named) c.requires.1.1.1.0.is) ∙ c.in-Kind.is)
-                (c.linked_constants.ensures.there c.args.program.now c.requires.1.0.linked c.requires.1.1.1.0.frame.method c.requires.1.1.1.0.frame.pc),
-          ),
+          c.in-Kind.is,
+          subst (IsThere c.args.program.now)
+              (sym (ap (λ decoded. decoded.named) c.requires.1.1.0.is) ∙ c.in-Kind.is)
+              (c.linked_constants.ensures.there c.args.program.now c.requires.1.0.linked c.requires.1.1.0.frame.method c.requires.1.1.0.frame.pc),
         ),
       ),
     ),
@@ -53,5 +47,5 @@ load_class_need-requires g c = λ κs lives. (
 pub unreachable-requires : goal.unreachable-requires
 unreachable-requires g c =
     never_other c.args.decoded.now.named
-    (names_constant c.args.program.now c.args.roots.now.limit c.args.decoded.now (seen (g.S.Store.index c.args.store.now) (g.S.Store.kept c.args.store.now) c.args.roots.now.roots) c.requires.1.1.1.1)
+    (names_constant c.args.program.now c.args.roots.now.limit c.args.decoded.now (view_in (g.S.Store.storage c.args.store.now) c.args.roots.now.roots) c.requires.1.1.1)
     (λ text is. c.in_default.not-Text text is) (λ kind is. c.in_default.not-Kind kind is)

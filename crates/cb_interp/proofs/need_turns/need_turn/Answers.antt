@@ -1,5 +1,5 @@
+use Rattle.cb_heap.specs.Storage.{view_in}
 use Rattle.std.proofs.Common.{◌∙◌, Some, ap}
-use Rattle.cb_heap.specs.Reading.{seen}
 use Rattle.cb_act.specs.Acting.{Asks}
 use Rattle.cb_act.specs.Here.{need_plan}
 use Rattle.cb_act.specs.Turning.{machine_of, state_of}
@@ -13,12 +13,9 @@ throw_need-requires g c = λ κs lives. (
   (
     c.requires.1.0,
     (
-      c.requires.1.1.0,
-      (
-        thrown_site c.args.program.now c.args.roots.now.limit c.args.decoded.now (seen (g.S.Store.index c.args.store.now) (g.S.Store.kept c.args.store.now) c.args.roots.now.roots)
-            c.in-Throws.site (c.requires.1.1.1.1.0 ∙ ap (λ need. Some (Asks need)) c.in-Throws.is),
-        c.requires.1.1.1.1.1.1 ∙ ap (need_plan (machine_of c.args.program.now c.args.roots.now.limit) (state_of (seen (g.S.Store.index c.args.store.now) (g.S.Store.kept c.args.store.now) c.args.roots.now.roots) g.outside)) c.in-Throws.is,
-      ),
+      thrown_site c.args.program.now c.args.roots.now.limit c.args.decoded.now (view_in (g.S.Store.storage c.args.store.now) c.args.roots.now.roots)
+          c.in-Throws.site (c.requires.1.1.1.0 ∙ ap (λ need. Some (Asks need)) c.in-Throws.is),
+      c.requires.1.1.1.1.1 ∙ ap (need_plan (machine_of c.args.program.now c.args.roots.now.limit) (state_of (view_in (g.S.Store.storage c.args.store.now) c.args.roots.now.roots) g.outside)) c.in-Throws.is,
     ),
   ),
 )
@@ -29,39 +26,21 @@ begins_class-requires g c = λ κs lives. (
   (
     c.requires.1.0,
     (
-      c.requires.1.1.0,
-      (
-        c.requires.1.1.1.1.1.1 ∙ ap (need_plan (machine_of c.args.program.now c.args.roots.now.limit) (state_of (seen (g.S.Store.index c.args.store.now) (g.S.Store.kept c.args.store.now) c.args.roots.now.roots) g.outside)) c.in-Begins.is,
-        begins_low c.args.program.now c.args.roots.now.limit c.args.decoded.now (g.S.Store.index c.args.store.now) (g.S.Store.kept c.args.store.now) c.args.roots.now.roots g.outside
-            c.in-Begins.class c.requires.1.0.typed (c.requires.1.1.1.1.0 ∙ ap (λ need. Some (Asks need)) c.in-Begins.is),
-      ),
+      c.requires.1.1.1.1.1 ∙ ap (need_plan (machine_of c.args.program.now c.args.roots.now.limit) (state_of (view_in (g.S.Store.storage c.args.store.now) c.args.roots.now.roots) g.outside)) c.in-Begins.is,
+      begins_low c.args.program.now c.args.roots.now.limit c.args.decoded.now (g.S.Store.storage c.args.store.now).index (g.S.Store.storage c.args.store.now).kept c.args.roots.now.roots g.outside
+          c.in-Begins.class c.requires.1.0.typed (c.requires.1.1.1.0 ∙ ap (λ need. Some (Asks need)) c.in-Begins.is),
     ),
   ),
 )
 
 pub makes_need-requires : goal.makes_need-requires
-makes_need-requires g c = λ κs lives. (
-  lives,
-  (c.requires.1.0, (c.requires.1.1.0, (c.requires.1.1.1.0, c.requires.1.1.1.1.0 ∙ ap (λ need. Some (Asks need)) c.in-Makes.is))),
-)
+makes_need-requires g c = λ κs lives. (lives, (c.requires.1.0, (c.requires.1.1.0, c.requires.1.1.1.0 ∙ ap (λ need. Some (Asks need)) c.in-Makes.is)))
 
 pub divide_need-requires : goal.divide_need-requires
-divide_need-requires g c = λ κs lives. (
-  lives,
-  (
-    c.requires.1.0,
-    (
-      c.requires.1.1.0,
-      c.requires.1.1.1.1.1.1 ∙ ap (need_plan (machine_of c.args.program.now c.args.roots.now.limit) (state_of (seen (g.S.Store.index c.args.store.now) (g.S.Store.kept c.args.store.now) c.args.roots.now.roots) g.outside)) c.in-ByZero.is,
-    ),
-  ),
-)
+divide_need-requires g c = λ κs lives. (lives, (c.requires.1.0, c.requires.1.1.1.1.1 ∙ ap (need_plan (machine_of c.args.program.now c.args.roots.now.limit) (state_of (view_in (g.S.Store.storage c.args.store.now) c.args.roots.now.roots) g.outside)) c.in-ByZero.is))
 
 pub loads_need-requires : goal.loads_need-requires
-loads_need-requires g c = λ κs lives. (
-  lives,
-  (c.requires.1.0, (c.requires.1.1.0, (c.requires.1.1.1.0, c.requires.1.1.1.1.0 ∙ ap (λ need. Some (Asks need)) c.in-Loads.is))),
-)
+loads_need-requires g c = λ κs lives. (lives, (c.requires.1.0, (c.requires.1.1.0, c.requires.1.1.1.0 ∙ ap (λ need. Some (Asks need)) c.in-Loads.is)))
 
 pub switch_need-requires : goal.switch_need-requires
 switch_need-requires g c = λ κs lives. (
@@ -69,11 +48,11 @@ switch_need-requires g c = λ κs lives. (
   (
     c.requires.1.0,
     (
-      c.requires.1.1.1.0,
-      switches_so c.args.program.now c.args.roots.now.limit c.args.decoded.now (seen (g.S.Store.index c.args.store.now) (g.S.Store.kept c.args.store.now) c.args.roots.now.roots) (c.requires.1.1.1.1.0 ∙ ap (λ need. Some (Asks need)) c.in-Switches.is),
+      c.requires.1.1.0,
+      switches_so c.args.program.now c.args.roots.now.limit c.args.decoded.now (view_in (g.S.Store.storage c.args.store.now) c.args.roots.now.roots) (c.requires.1.1.1.0 ∙ ap (λ need. Some (Asks need)) c.in-Switches.is),
     ),
   ),
 )
 
 pub unreachable-requires : goal.unreachable-requires
-unreachable-requires g c = c.requires.1.1.1.1.1.0 c.in-Performs.field-0 c.in-Performs.is
+unreachable-requires g c = c.requires.1.1.1.1.0 c.in-Performs.field-0 c.in-Performs.is

@@ -25,8 +25,8 @@ array_at-above-requires g t c κs within =
               c.requires.sized,
               (
                 subst (λ (words : ℕ). c.args.turn / words < count_of sizes (c.args.dimension - 1)) (sym same)
-                    (above_low (g.S.Store.kept c.args.store.now) sizes (serial_of (g.S.Store.index c.args.store.now) c.args.array) c.args.dimension c.args.turn some c.requires.turn c.requires.leads),
-                leads_up (g.S.Store.kept c.args.store.now) sizes (serial_of (g.S.Store.index c.args.store.now) c.args.array) c.args.dimension c.args.turn some c.requires.turn c.requires.leads,
+                    (above_low (g.S.Store.storage c.args.store.now).kept sizes (serial_of (g.S.Store.storage c.args.store.now).index c.args.array) c.args.dimension c.args.turn some c.requires.turn c.requires.leads),
+                leads_up (g.S.Store.storage c.args.store.now).kept sizes (serial_of (g.S.Store.storage c.args.store.now).index c.args.array) c.args.dimension c.args.turn some c.requires.turn c.requires.leads,
               ),
             ),
           ),
@@ -39,7 +39,7 @@ nonzero_rem-turn g t c =
     let sizes = sizes_on c.args.roots.now.roots (c.args.last + 1) in
     let some : 0 < c.args.dimension = omega arith in
     subst (λ (words : ℕ). 0 < words) (sym (c.from-words.ensures ∙ c.level_size.ensures))
-    (words_some (g.S.Store.kept c.args.store.now) sizes (serial_of (g.S.Store.index c.args.store.now) c.args.array) c.args.dimension c.args.turn some c.requires.turn c.requires.leads)
+    (words_some (g.S.Store.storage c.args.store.now).kept sizes (serial_of (g.S.Store.storage c.args.store.now).index c.args.array) c.args.dimension c.args.turn some c.requires.turn c.requires.leads)
 
 pub overflow_cast-turn : goal.overflow_cast-turn
 overflow_cast-turn g t c =
@@ -47,7 +47,7 @@ overflow_cast-turn g t c =
     let some : 0 < c.args.dimension = omega arith in
     let words : 0 < c.from-words.result =
     subst (λ (words : ℕ). 0 < words) (sym (c.from-words.ensures ∙ c.level_size.ensures))
-    (words_some (g.S.Store.kept c.args.store.now) sizes (serial_of (g.S.Store.index c.args.store.now) c.args.array) c.args.dimension c.args.turn some c.requires.turn c.requires.leads) in
+    (words_some (g.S.Store.storage c.args.store.now).kept sizes (serial_of (g.S.Store.storage c.args.store.now).index c.args.array) c.args.dimension c.args.turn some c.requires.turn c.requires.leads) in
     let rest = mod-lt c.args.turn words in
     let same : c.from-words.result ≡ c.level_size.result = c.from-words.ensures in
     record { fits = omega (arith, rest, same) }
@@ -55,8 +55,8 @@ overflow_cast-turn g t c =
 pub get_ref-requires : goal.get_ref-requires
 get_ref-requires g t c =
     let sizes = sizes_on c.args.roots.now.roots (c.args.last + 1) in
-    let objects = g.S.Store.kept c.args.store.now in
-    let first = serial_of (g.S.Store.index c.args.store.now) c.args.array in
+    let objects = (g.S.Store.storage c.args.store.now).kept in
+    let first = serial_of (g.S.Store.storage c.args.store.now).index c.args.array in
     let some : 0 < c.args.dimension = omega arith in
     let same : c.from-words.result ≡ size_of sizes (c.args.dimension - 1) = c.from-words.ensures ∙ c.level_size.ensures in
     ap (λ (serial : ℕ). is_reference (content_at objects serial (c.args.turn % c.from-words.result))) c.array_at-above.ensures
@@ -66,12 +66,12 @@ get_ref-requires g t c =
 pub returns : goal.returns
 returns g t c =
     let sizes = sizes_on c.args.roots.now.roots (c.args.last + 1) in
-    let objects = g.S.Store.kept c.args.store.now in
-    let first = serial_of (g.S.Store.index c.args.store.now) c.args.array in
+    let objects = (g.S.Store.storage c.args.store.now).kept in
+    let first = serial_of (g.S.Store.storage c.args.store.now).index c.args.array in
     let some : 0 < c.args.dimension = omega arith in
     let same : c.from-words.result ≡ size_of sizes (c.args.dimension - 1) = c.from-words.ensures ∙ c.level_size.ensures in
-    let there : content_at objects (serial_of (g.S.Store.index c.args.store.now) c.array_at-above.result) (c.args.turn % c.from-words.result) ≡ Some (Reference (first_of sizes first c.args.dimension + c.args.turn)) =
+    let there : content_at objects (serial_of (g.S.Store.storage c.args.store.now).index c.array_at-above.result) (c.args.turn % c.from-words.result) ≡ Some (Reference (first_of sizes first c.args.dimension + c.args.turn)) =
     ap (λ (serial : ℕ). content_at objects serial (c.args.turn % c.from-words.result)) c.array_at-above.ensures
     ∙ ap (λ (words : ℕ). content_at objects (first_of sizes first (c.args.dimension - 1) + c.args.turn / words) (c.args.turn % words)) same
     ∙ leads_there objects sizes first c.args.dimension c.args.turn some c.requires.turn c.requires.leads in
-    ap serial_in (same_Some (Reference (serial_of (g.S.Store.index c.args.store.now) c.get_ref.result)) (Reference (first_of sizes first c.args.dimension + c.args.turn)) (sym c.get_ref.ensures ∙ there))
+    ap serial_in (same_Some (Reference (serial_of (g.S.Store.storage c.args.store.now).index c.get_ref.result)) (Reference (first_of sizes first c.args.dimension + c.args.turn)) (sym c.get_ref.ensures ∙ there))

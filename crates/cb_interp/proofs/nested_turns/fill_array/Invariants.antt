@@ -9,15 +9,13 @@ use Rattle.cb_interp.proofs.nested_turns.fill_array.Given as goal
 
 abbrev pub invariant-loop-word : goal.invariant-loop-word
 invariant-loop-word g l = record {
-  kept : g.S.Store.kept l.store ≡ filled_so l.program (g.S.Store.kept l.fn.store) (serial_of (g.S.Store.index l.fn.store) l.array) l.count l.word l.site l.size;
-  array : serial_of (g.S.Store.index l.store) l.array ≡ serial_of (g.S.Store.index l.fn.store) l.array;
-  held : HeldOn (g.S.Store.kept l.fn.store) (g.S.Store.kept l.store);
-  places : ReadsAsBefore (g.S.Store.kept l.fn.store) (g.S.Store.index l.fn.store) (g.S.Store.index l.store);
-  facts : g.S.Store.facts l.store ≡ knows_rows g.S.Store.rules (g.S.Store.facts l.fn.store) l.site l.size l.word;
-  granted : g.S.Store.granted l.store ≡ spent_rows (g.S.Store.granted l.fn.store) l.site (words_of l.size) l.word;
-  serials : length (g.S.Store.kept l.store) + 1 + words_granted (g.S.Store.granted l.store) / 3 < 2 ^ 63;
-  faults : g.S.Store.faults l.store ≡ g.S.Store.faults l.fn.store;
-  knows : g.S.Store.knows l.store ≡ g.S.Store.knows l.fn.store;
-  allows : g.S.Store.allows l.store ≡ g.S.Store.allows l.fn.store;
-  shapes : g.S.Store.shapes l.store ≡ g.S.Store.shapes l.fn.store;
+  kept : (g.S.Store.storage l.store).kept ≡ filled_so l.program (g.S.Store.storage l.fn.store).kept (serial_of (g.S.Store.storage l.fn.store).index l.array) l.count l.word l.site l.size;
+  array : serial_of (g.S.Store.storage l.store).index l.array ≡ serial_of (g.S.Store.storage l.fn.store).index l.array;
+  held : HeldOn (g.S.Store.storage l.fn.store).kept (g.S.Store.storage l.store).kept;
+  places : ReadsAsBefore (g.S.Store.storage l.fn.store).kept (g.S.Store.storage l.fn.store).index (g.S.Store.storage l.store).index;
+  facts : (g.S.Store.storage l.store).facts ≡ knows_rows g.S.Store.rules (g.S.Store.storage l.fn.store).facts l.site l.size l.word;
+  granted : (g.S.Store.storage l.store).granted ≡ spent_rows (g.S.Store.storage l.fn.store).granted l.site (words_of l.size) l.word;
+  serials : length (g.S.Store.storage l.store).kept + 1 + words_granted (g.S.Store.storage l.store).granted / 3 < 2 ^ 63;
+  faults : (g.S.Store.storage l.store).faults ≡ (g.S.Store.storage l.fn.store).faults;
+  settings : (g.S.Store.storage l.store).settings ≡ (g.S.Store.storage l.fn.store).settings;
 }

@@ -1,5 +1,6 @@
-use Rattle.std.proofs.Common.{◌≡◌, ◌≤◌, ◌<◌, ◌∙◌, add-one, ap, arith, refl, subst, sym, ◌+◌, ◌*◌, length, List, replicate, ℕ, suc, Option, IsTrue, Some}
-use Rattle.std.specs.Prelude.{option_map}
+use Rattle.cb_heap.proofs.Laws.{same_shapes, same_allows}
+use Rattle.std.proofs.Common.{◌≡◌, ◌≤◌, ◌<◌, ◌∙◌, add-one, ap, arith, refl, subst, sym, true, ◌+◌, ◌*◌, length, List, replicate, ℕ, suc, Option, IsTrue, Some}
+use Rattle.std.specs.Prelude.{IfSome, option_map}
 use Rattle.cb_heap.specs.Kept.{is_held}
 use Rattle.cb_heap.specs.Reading.{serial_of}
 use Rattle.cb_link.specs.Having.{site_kinds}
@@ -8,9 +9,10 @@ use Rattle.cb_plain.specs.State.{Object, Reference, words_of}
 use Rattle.cb_plain.specs.Updates.{object_in}
 use Rattle.cb_plain.specs.declared.shape.Shape.{Shape}
 use Rattle.cb_plain.specs.declared.want.Want.{Want}
-use Rattle.cb_interp.specs.Nested.{ArrayFits, Grid, LeadsDown, count_of, first_of, grid_on, knows_rows, size_of, spent_rows, with_rows}
+use Rattle.cb_interp.specs.Nested.{ArrayFits, Grid, LeadsDown, count_of, first_of, grid_on, knows_rows, new_array, size_of, spent_rows, with_rows}
+use Rattle.cb_interp.proofs.FollowNested.{rows_some}
 use Rattle.cb_interp.proofs.TurnsNested.{knows_more, reads_on}
-use Rattle.cb_interp.proofs.TurnsNestedLevels.{head_held, level_at_turn, level_begins, level_ends, turn_blank, turn_leads, turn_next}
+use Rattle.cb_interp.proofs.TurnsNestedLevels.{head_held, level_at_turn, level_begins, level_ends, turn_blank, turn_leads, turn_next, turn_there}
 use Rattle.cb_interp.proofs.TurnsNestedRoom.{rows_room, spent_more}
 use Rattle.cb_interp.proofs.TurnsStarting.{still}
 use Rattle.cb_interp.proofs.nested_turns.place_level.Goals as goal
@@ -52,13 +54,11 @@ loop-turn-init g c =
       array = c.requires.1.1.1.1.1.1.0;
       held = λ serial held. held;
       places = λ place held. refl;
-      facts = ap (knows_rows g.S.Store.rules (g.S.Store.facts c.args.store.now) c.level_site-site.result c.level_size-size.result) none;
-      granted = ap (spent_rows (g.S.Store.granted c.args.store.now) c.level_site-site.result (words_of c.level_size-size.result)) none;
+      facts = ap (knows_rows g.S.Store.rules (g.S.Store.storage c.args.store.now).facts c.level_site-site.result c.level_size-size.result) none;
+      granted = ap (spent_rows (g.S.Store.storage c.args.store.now).granted c.level_site-site.result (words_of c.level_size-size.result)) none;
       serials = c.requires.1.1.1.1.1.1.1.1.1.0;
       faults = refl;
-      knows = refl;
-      allows = refl;
-      shapes = refl;
+      settings = refl;
     }
 
 pub array_at-above-requires-clause-low : goal.array_at-above-requires-clause-low
@@ -76,7 +76,7 @@ array_at-above-requires-clause-turn g c = subst (λ (count : ℕ). c.loop-turn.t
 pub array_at-above-requires-clause-leads : goal.array_at-above-requires-clause-leads
 array_at-above-requires-clause-leads g c =
     let grid : Grid = grid_on c.args.program.now c.args.roots.now.roots (c.args.last + 1) in
-    subst (λ (first : ℕ). LeadsDown (g.S.Store.kept c.loop-turn.store) grid.sizes first c.args.dimension) (sym c.loop-turn.invariant.array)
+    subst (λ (first : ℕ). LeadsDown (g.S.Store.storage c.loop-turn.store).kept grid.sizes first c.args.dimension) (sym c.loop-turn.invariant.array)
     (subst (λ (objects : List (Option Object)). LeadsDown objects grid.sizes (length g.before + 1) c.args.dimension) (sym c.loop-turn.invariant.kept)
     (turn_leads c.args.program.now grid g.before c.args.dimension c.loop-turn.turn))
 
@@ -89,9 +89,9 @@ pub fill_array-requires-clause-fits : goal.fill_array-requires-clause-fits
 fill_array-requires-clause-fits g c =
     let low = c.requires.1.0 in
     let grid : Grid = grid_on c.args.program.now c.args.roots.now.roots (c.args.last + 1) in
-    subst (λ (shapes : List Shape). ArrayFits c.args.program.now shapes c.level_site-site.result c.level_size-size.result) (sym c.loop-turn.invariant.shapes)
-    (subst (λ (site : ℕ). ArrayFits c.args.program.now (g.S.Store.shapes c.args.store.now) site c.level_size-size.result) (sym c.level_site-site.ensures)
-    (subst (λ (size : ℕ). ArrayFits c.args.program.now (g.S.Store.shapes c.args.store.now) (grid.site (c.args.dimension + 1)) size) (sym c.level_size-size.ensures)
+    subst (λ (shapes : List Shape). ArrayFits c.args.program.now shapes c.level_site-site.result c.level_size-size.result) (sym (same_shapes c.loop-turn.invariant.settings))
+    (subst (λ (site : ℕ). ArrayFits c.args.program.now (g.S.Store.storage c.args.store.now).settings.shapes site c.level_size-size.result) (sym c.level_site-site.ensures)
+    (subst (λ (size : ℕ). ArrayFits c.args.program.now (g.S.Store.storage c.args.store.now).settings.shapes (grid.site (c.args.dimension + 1)) size) (sym c.level_size-size.ensures)
     (c.requires.1.1.1.1.0.arrays (c.args.dimension + 1) (omega (arith, low)))))
 
 pub fill_array-requires-clause-granted : goal.fill_array-requires-clause-granted
@@ -101,13 +101,13 @@ fill_array-requires-clause-granted g c =
     ap (λ (count : ℕ). count * c.level_size-words.result) c.requires.1.1.1.1.1.0
     ∙ ap (λ (size : ℕ). count_of grid.sizes c.args.dimension * size) c.level_size-words.ensures
     ∙ ap (count_of grid.sizes) (sym (add-one c.args.dimension)) in
-    let enough : c.args.count * c.level_size-words.result * words_of c.level_size-size.result ≤ words_at (g.S.Store.granted c.args.store.now) c.level_site-site.result =
-    subst (λ (site : ℕ). c.args.count * c.level_size-words.result * words_of c.level_size-size.result ≤ words_at (g.S.Store.granted c.args.store.now) site) (sym c.level_site-site.ensures)
-    (subst (λ (size : ℕ). c.args.count * c.level_size-words.result * words_of size ≤ words_at (g.S.Store.granted c.args.store.now) (grid.site (c.args.dimension + 1))) (sym c.level_size-size.ensures)
-    (subst (λ (count : ℕ). count * words_of (size_of grid.sizes (c.args.dimension + 1)) ≤ words_at (g.S.Store.granted c.args.store.now) (grid.site (c.args.dimension + 1))) (sym count)
+    let enough : c.args.count * c.level_size-words.result * words_of c.level_size-size.result ≤ words_at (g.S.Store.storage c.args.store.now).granted c.level_site-site.result =
+    subst (λ (site : ℕ). c.args.count * c.level_size-words.result * words_of c.level_size-size.result ≤ words_at (g.S.Store.storage c.args.store.now).granted site) (sym c.level_site-site.ensures)
+    (subst (λ (size : ℕ). c.args.count * c.level_size-words.result * words_of size ≤ words_at (g.S.Store.storage c.args.store.now).granted (grid.site (c.args.dimension + 1))) (sym c.level_size-size.ensures)
+    (subst (λ (count : ℕ). count * words_of (size_of grid.sizes (c.args.dimension + 1)) ≤ words_at (g.S.Store.storage c.args.store.now).granted (grid.site (c.args.dimension + 1))) (sym count)
     c.requires.1.1.1.1.1.1.1.1.0)) in
     subst (λ (granted : List Want). c.level_size-words.result * words_of c.level_size-size.result ≤ words_at granted c.level_site-site.result) (sym c.loop-turn.invariant.granted)
-    (rows_room (g.S.Store.granted c.args.store.now) c.level_site-site.result (words_of c.level_size-size.result) c.args.count c.level_size-words.result c.loop-turn.turn c.loop-turn-test.true enough)
+    (rows_room (g.S.Store.storage c.args.store.now).granted c.level_site-site.result (words_of c.level_size-size.result) c.args.count c.level_size-words.result c.loop-turn.turn c.loop-turn-test.true enough)
 
 pub fill_array-requires-clause-serials : goal.fill_array-requires-clause-serials
 fill_array-requires-clause-serials g c = c.loop-turn.invariant.serials
@@ -117,15 +117,32 @@ fill_array-requires-clause-blank g c =
     let grid : Grid = grid_on c.args.program.now c.args.roots.now.roots (c.args.last + 1) in
     let low = c.requires.1.0 in
     let turn : c.loop-turn.turn < count_of grid.sizes c.args.dimension = subst (λ (count : ℕ). c.loop-turn.turn < count) c.requires.1.1.1.1.1.0 c.loop-turn-test.true in
-    let at : serial_of (g.S.Store.index c.loop-turn.store) c.array_at-above.result ≡ first_of grid.sizes (length g.before + 1) c.args.dimension + c.loop-turn.turn =
+    let at : serial_of (g.S.Store.storage c.loop-turn.store).index c.array_at-above.result ≡ first_of grid.sizes (length g.before + 1) c.args.dimension + c.loop-turn.turn =
     c.array_at-above.ensures ∙ ap (λ (first : ℕ). first_of grid.sizes first c.args.dimension + c.loop-turn.turn) c.loop-turn.invariant.array in
-    ap (λ (serial : ℕ). option_map (λ object. object.contents) (object_in (g.S.Store.kept c.loop-turn.store) serial)) at
+    ap (λ (serial : ℕ). option_map (λ object. object.contents) (object_in (g.S.Store.storage c.loop-turn.store).kept serial)) at
     ∙ ap (λ (objects : List (Option Object)). option_map (λ object. object.contents) (object_in objects (first_of grid.sizes (length g.before + 1) c.args.dimension + c.loop-turn.turn))) c.loop-turn.invariant.kept
     ∙ turn_blank c.args.program.now grid g.before c.args.dimension c.loop-turn.turn turn (c.requires.1.1.1.1.0.nulls c.args.dimension (omega (arith, low)))
     ∙ ap (λ (size : ℕ). Some (replicate size (Reference 0))) (sym c.level_size-words.ensures)
 
-pub fill_array-requires-clause-pairs : goal.fill_array-requires-clause-pairs
-fill_array-requires-clause-pairs g c = λ one other. ap (λ allows. allows one other) c.loop-turn.invariant.allows ∙ c.requires.1.1.1.1.1.1.1.1.1.1 one other
+pub fill_array-requires-clause-allowed : goal.fill_array-requires-clause-allowed
+fill_array-requires-clause-allowed g c = λ some.
+    let grid : Grid = grid_on c.args.program.now c.args.roots.now.roots (c.args.last + 1) in
+    let now = (g.S.Store.storage c.loop-turn.store).settings.allows in
+    let turn : c.loop-turn.turn < count_of grid.sizes c.args.dimension = subst (λ (count : ℕ). c.loop-turn.turn < count) c.requires.1.1.1.1.1.0 c.loop-turn-test.true in
+    let at : serial_of (g.S.Store.storage c.loop-turn.store).index c.array_at-above.result ≡ first_of grid.sizes (length g.before + 1) c.args.dimension + c.loop-turn.turn =
+    c.array_at-above.ensures ∙ ap (λ (first : ℕ). first_of grid.sizes first c.args.dimension + c.loop-turn.turn) c.loop-turn.invariant.array in
+    let there : object_in (g.S.Store.storage c.loop-turn.store).kept (serial_of (g.S.Store.storage c.loop-turn.store).index c.array_at-above.result)
+    ≡ Some (new_array c.args.program.now (grid.site c.args.dimension) (size_of grid.sizes c.args.dimension)) =
+    ap (λ (serial : ℕ). object_in (g.S.Store.storage c.loop-turn.store).kept serial) at
+    ∙ ap (λ (objects : List (Option Object)). object_in objects (first_of grid.sizes (length g.before + 1) c.args.dimension + c.loop-turn.turn)) c.loop-turn.invariant.kept
+    ∙ turn_there c.args.program.now grid g.before c.args.dimension c.loop-turn.turn turn in
+    let words : 0 < size_of grid.sizes c.args.dimension = subst (λ (size : ℕ). 0 < size) c.level_size-words.ensures some in
+    let rows : 0 < count_of grid.sizes (c.args.dimension + 1) =
+    subst (λ (next : ℕ). 0 < count_of grid.sizes next) (sym (add-one c.args.dimension)) (rows_some (count_of grid.sizes c.args.dimension) (size_of grid.sizes c.args.dimension) (omega (arith, turn)) words) in
+    let allowed : now (grid.site c.args.dimension) c.level_site-site.result ≡ true =
+    ap (λ allows. allows (grid.site c.args.dimension) c.level_site-site.result) (same_allows c.loop-turn.invariant.settings)
+    ∙ ap ((g.S.Store.storage c.args.store.now).settings.allows (grid.site c.args.dimension)) c.level_site-site.ensures ∙ c.requires.1.1.1.1.1.1.1.1.1.1 rows in
+    subst (λ (found : Option Object). IfSome found (λ object. now object.site c.level_site-site.result ≡ true)) (sym there) allowed
 
 pub loop-turn-preserved : goal.loop-turn-preserved
 loop-turn-preserved g c =
@@ -139,35 +156,33 @@ loop-turn-preserved g c =
     let was = c.loop-turn.invariant in
     let did = c.fill_array.ensures in
     let low : turn < count_of grid.sizes dimension = subst (λ (count : ℕ). turn < count) c.requires.1.1.1.1.1.0 c.loop-turn-test.true in
-    let at : serial_of (g.S.Store.index c.loop-turn.store) c.array_at-above.result ≡ first_of grid.sizes (length g.before + 1) dimension + turn =
+    let at : serial_of (g.S.Store.storage c.loop-turn.store).index c.array_at-above.result ≡ first_of grid.sizes (length g.before + 1) dimension + turn =
     c.array_at-above.ensures ∙ ap (λ (first : ℕ). first_of grid.sizes first dimension + turn) was.array in
     let more : turn * words + words ≡ (turn + 1) * words = omega arith in
     let places =
-    reads_on (g.S.Store.kept c.args.store.now) (g.S.Store.kept c.loop-turn.store) (g.S.Store.index c.args.store.now) (g.S.Store.index c.loop-turn.store) (g.S.Store.index c.fill_array.new.store)
+    reads_on (g.S.Store.storage c.args.store.now).kept (g.S.Store.storage c.loop-turn.store).kept (g.S.Store.storage c.args.store.now).index (g.S.Store.storage c.loop-turn.store).index (g.S.Store.storage c.fill_array.new.store).index
     was.held was.places did.places in
     record {
       kept = did.kept
-          ∙ ap (λ (serial : ℕ). with_rows program (g.S.Store.kept c.loop-turn.store) serial words site size) at
+          ∙ ap (λ (serial : ℕ). with_rows program (g.S.Store.storage c.loop-turn.store).kept serial words site size) at
           ∙ ap (λ (objects : List (Option Object)). with_rows program objects (first_of grid.sizes (length g.before + 1) dimension + turn) words site size) was.kept
           ∙ ap (λ (words : ℕ). with_rows program (level_at_turn program grid g.before dimension turn) (first_of grid.sizes (length g.before + 1) dimension + turn) words site size) c.level_size-words.ensures
           ∙ ap (λ (site : ℕ). with_rows program (level_at_turn program grid g.before dimension turn) (first_of grid.sizes (length g.before + 1) dimension + turn) (size_of grid.sizes dimension) site size) c.level_site-site.ensures
           ∙ ap (λ (size : ℕ). with_rows program (level_at_turn program grid g.before dimension turn) (first_of grid.sizes (length g.before + 1) dimension + turn) (size_of grid.sizes dimension) (grid.site (dimension + 1)) size) c.level_size-size.ensures
           ∙ turn_next program grid g.before dimension turn low;
-      array = still (g.S.Store.kept c.args.store.now) (g.S.Store.index c.args.store.now) (g.S.Store.index c.fill_array.new.store) places c.args.array (length g.before + 1) c.requires.1.1.1.1.1.1.0
+      array = still (g.S.Store.storage c.args.store.now).kept (g.S.Store.storage c.args.store.now).index (g.S.Store.storage c.fill_array.new.store).index places c.args.array (length g.before + 1) c.requires.1.1.1.1.1.1.0
           (subst (λ (objects : List (Option Object)). IsTrue (is_held objects (length g.before + 1))) (sym c.requires.1.1.1.1.1.1.1.0) (head_held program grid g.before dimension));
       held = λ own held. did.held own (was.held own held);
       places = places;
       facts = did.facts ∙ ap (λ facts. knows_rows g.S.Store.rules facts site size words) was.facts
-          ∙ knows_more g.S.Store.rules (g.S.Store.facts c.args.store.now) site size (turn * words) words
-          ∙ ap (knows_rows g.S.Store.rules (g.S.Store.facts c.args.store.now) site size) more;
+          ∙ knows_more g.S.Store.rules (g.S.Store.storage c.args.store.now).facts site size (turn * words) words
+          ∙ ap (knows_rows g.S.Store.rules (g.S.Store.storage c.args.store.now).facts site size) more;
       granted = did.granted ∙ ap (λ (granted : List Want). spent_rows granted site (words_of size) words) was.granted
-          ∙ spent_more (g.S.Store.granted c.args.store.now) site (words_of size) (turn * words) words
-          ∙ ap (spent_rows (g.S.Store.granted c.args.store.now) site (words_of size)) more;
+          ∙ spent_more (g.S.Store.storage c.args.store.now).granted site (words_of size) (turn * words) words
+          ∙ ap (spent_rows (g.S.Store.storage c.args.store.now).granted site (words_of size)) more;
       serials = did.serials;
       faults = did.faults ∙ was.faults;
-      knows = did.knows ∙ was.knows;
-      allows = did.allows ∙ was.allows;
-      shapes = did.shapes ∙ was.shapes;
+      settings = did.settings ∙ was.settings;
     }
 
 pub returns-clause-kept : goal.returns-clause-kept
@@ -184,7 +199,7 @@ pub returns-clause-facts : goal.returns-clause-facts
 returns-clause-facts g c =
     let grid : Grid = grid_on c.args.program.now c.args.roots.now.roots (c.args.last + 1) in
     let end : c.loop-turn.turn ≡ c.args.count = omega arith in
-    let facts = g.S.Store.facts c.args.store.now in
+    let facts = (g.S.Store.storage c.args.store.now).facts in
     c.loop-turn.invariant.facts
     ∙ ap (λ (turn : ℕ). knows_rows g.S.Store.rules facts c.level_site-site.result c.level_size-size.result (turn * c.level_size-words.result)) (end ∙ c.requires.1.1.1.1.1.0)
     ∙ ap (λ (words : ℕ). knows_rows g.S.Store.rules facts c.level_site-site.result c.level_size-size.result (count_of grid.sizes c.args.dimension * words)) c.level_size-words.ensures
@@ -196,7 +211,7 @@ pub returns-clause-granted : goal.returns-clause-granted
 returns-clause-granted g c =
     let grid : Grid = grid_on c.args.program.now c.args.roots.now.roots (c.args.last + 1) in
     let end : c.loop-turn.turn ≡ c.args.count = omega arith in
-    let granted = g.S.Store.granted c.args.store.now in
+    let granted = (g.S.Store.storage c.args.store.now).granted in
     c.loop-turn.invariant.granted
     ∙ ap (λ (turn : ℕ). spent_rows granted c.level_site-site.result (words_of c.level_size-size.result) (turn * c.level_size-words.result)) (end ∙ c.requires.1.1.1.1.1.0)
     ∙ ap (λ (words : ℕ). spent_rows granted c.level_site-site.result (words_of c.level_size-size.result) (count_of grid.sizes c.args.dimension * words)) c.level_size-words.ensures

@@ -5,4 +5,4 @@ abbrev pub ghost-room_for : goal.ghost-room_for
 ghost-room_for g a = g.given.0
 
 abbrev pub ghost-perform : goal.ghost-perform
-ghost-perform g a = (read_roots (g.S.Store.index a.store.now) a.roots.now.roots, g.given.1)
+ghost-perform g a = (read_roots (g.S.Store.storage a.store.now).index a.roots.now.roots, g.given.1)

@@ -1,7 +1,7 @@
-use Rattle.std.proofs.Common.{◌≡◌, ◌≤◌, ◌-◌}
-use Rattle.cb_heap.specs.Reading.{seen}
+use Rattle.cb_heap.specs.Storage.{view_in}
+use Rattle.std.proofs.Common.{◌≡◌, ◌≤◌, ◌-◌, ◌+◌, ◌*◌, length, true}
 use Rattle.cb_interp.specs.Running.{outside_of}
-use Rattle.cb_act.specs.Turning.{machine_of, moment_of}
+use Rattle.cb_act.specs.Turning.{machine_of, moment_of, most_at_once}
 use Rattle.cb_io.specs.Faults.{CountsFaults}
 use Rattle.cb_machine.specs.Runs.{after}
 use Rattle.cb_interp.proofs.RunStrays.{Gone}
@@ -13,15 +13,14 @@ ghost-turns g a = outside_of (after (machine_of a.program.now a.roots.now.limit)
 abbrev pub invariant-loop-made : goal.invariant-loop-made
 invariant-loop-made g l = record {
   ran : Gone g.S.Store.rules (machine_of l.program l.fn.roots.limit) g.full l.made
-      (moment_of (seen (g.S.Store.index l.fn.store) (g.S.Store.kept l.fn.store) l.fn.roots.roots) (outside_of g.full) (g.S.Store.facts l.fn.store))
-      (seen (g.S.Store.index l.store) (g.S.Store.kept l.store) l.roots.roots) (g.S.Store.facts l.store) (g.O.Sink.taken l.fn.out) (g.O.Sink.taken l.out)
+      (moment_of (view_in (g.S.Store.storage l.fn.store) l.fn.roots.roots) (outside_of g.full) (g.S.Store.storage l.fn.store).facts)
+      (view_in (g.S.Store.storage l.store) l.roots.roots) (g.S.Store.storage l.store).facts (g.O.Sink.taken l.fn.out) (g.O.Sink.taken l.out)
       (g.I.Source.left l.fn.input) (g.I.Source.left l.input);
   low : l.made ≤ l.steps;
+  few : g.S.Store.rules.fixed ≡ true → length (g.S.Store.storage l.store).kept ≤ length (g.S.Store.storage l.fn.store).kept + l.made * most_at_once;
   limit : l.roots.limit ≡ l.fn.roots.limit;
-  knows : g.S.Store.knows l.store ≡ g.S.Store.knows l.fn.store;
-  allows : g.S.Store.allows l.store ≡ g.S.Store.allows l.fn.store;
-  shapes : g.S.Store.shapes l.store ≡ g.S.Store.shapes l.fn.store;
-  faults : CountsFaults (g.S.Store.faults l.fn.store) (g.S.Store.faults l.store) ⊥;
+  settings : (g.S.Store.storage l.store).settings ≡ (g.S.Store.storage l.fn.store).settings;
+  faults : CountsFaults (g.S.Store.storage l.fn.store).faults (g.S.Store.storage l.store).faults ⊥;
   output : CountsFaults (g.O.Sink.faults l.fn.out) (g.O.Sink.faults l.out) ⊥;
   read : CountsFaults (g.I.Source.faults l.fn.input) (g.I.Source.faults l.input) ⊥;
 }

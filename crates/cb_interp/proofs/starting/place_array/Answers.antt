@@ -12,7 +12,7 @@ site_kind-requires g c = c.requires.fits.sites arguments (omega arith)
 pub place-requires-clause-shaped : goal.place-requires-clause-shaped
 place-requires-clause-shaped g c =
     let kind : kind_of_site c.args.program.now arguments ≡ c.site_kind.result = ap or_zero c.site_kind.ensures.kind in
-    ap (λ (kind : ℕ). has_size (g.S.Store.shapes c.args.store.now) kind c.args.size) (sym kind) ∙ (c.requires.fits.array c.args.size).sized
+    ap (λ (kind : ℕ). has_size (g.S.Store.storage c.args.store.now).settings.shapes kind c.args.size) (sym kind) ∙ (c.requires.fits.array c.args.size).sized
 
 pub place-requires-clause-serials : goal.place-requires-clause-serials
 place-requires-clause-serials g c =
@@ -21,7 +21,7 @@ place-requires-clause-serials g c =
 
 pub returns-clause-kept : goal.returns-clause-kept
 returns-clause-kept g c =
-    let shapes = g.S.Store.shapes c.args.store.now in
+    let shapes = (g.S.Store.storage c.args.store.now).settings.shapes in
     let kind : kind_of_site c.args.program.now arguments ≡ c.site_kind.result = ap or_zero c.site_kind.ensures.kind in
     c.place.ensures.kept
     ∙ ap (λ (objects : List (Option Object)). objects ++ Some (new_object shapes arguments c.site_kind.result c.args.size) ∷ []) c.requires.empty
@@ -33,5 +33,5 @@ returns-clause-serial g c = c.place.ensures.serial ∙ ap (λ (objects : List (O
 
 pub returns-clause-places : goal.returns-clause-places
 returns-clause-places g c =
-    subst (λ (objects : List (Option Object)). ReadsAsBefore objects (g.S.Store.index c.args.store.now) (g.S.Store.index c.place.new.self)) c.requires.empty
+    subst (λ (objects : List (Option Object)). ReadsAsBefore objects (g.S.Store.storage c.args.store.now).index (g.S.Store.storage c.place.new.self).index) c.requires.empty
     c.place.ensures.places

@@ -1,15 +1,19 @@
+use Rattle.cb_heap.proofs.Laws.{same_shapes, same_allows}
 use Rattle.std.proofs.Common.{◌≡◌, ◌∙◌, ap, arith, subst, sym, ◌+◌, ◌*◌, ◌∷◌, ◌++◌, [], length, List, Option, Some}
 use Rattle.std.proofs.lemmas.List.{length-append}
 use Rattle.std.specs.List.{flat_map}
+use Rattle.std.specs.Prelude.{option_map}
 use Rattle.cb_heap.specs.Reading.{serial_of}
 use Rattle.cb_machine.specs.Machine.{kind_of_site}
-use Rattle.cb_machine.specs.Sites.{system_in, system_out}
+use Rattle.cb_machine.specs.Sites.{argument_characters, argument_strings, arguments, system_in, system_out}
 use Rattle.cb_plain.specs.State.{Object}
+use Rattle.cb_plain.specs.Updates.{object_in}
 use Rattle.cb_plain.specs.declared.shape.Shape.{Shape}
 use Rattle.cb_plain.specs.declared.want.Want.{Want}
 use Rattle.cb_interp.specs.Arguments.{Covers, HasArray, MayHold, array_want, bare_want, knows_texts, stream_wants, text_wants, with_texts}
 use Rattle.cb_interp.specs.Fit.{IsPlacedAs}
 use Rattle.cb_interp.specs.Starting.{bare}
+use Rattle.cb_interp.proofs.FollowStarting.{first_pairs}
 use Rattle.cb_interp.proofs.TurnsStarting.{nulls_then, still}
 use Rattle.cb_interp.proofs.TurnsStartingRoom.{covers_first, covers_rest}
 use Rattle.cb_interp.proofs.TurnsStartingTexts.{array_held, blank_has, has_behind, last_held}
@@ -17,16 +21,16 @@ use Rattle.cb_interp.proofs.starting.place_first.Goals as goal
 
 pub place_array-array-requires-clause-granted : goal.place_array-array-requires-clause-granted
 place_array-array-requires-clause-granted g c =
-    covers_first (g.S.Store.granted c.args.store.now) (array_want (length c.args.given.now)) (flat_map text_wants c.args.given.now ++ stream_wants) c.requires.granted
+    covers_first (g.S.Store.storage c.args.store.now).granted (array_want (length c.args.given.now)) (flat_map text_wants c.args.given.now ++ stream_wants) c.requires.granted
 
 pub place_texts-requires-clause-fits : goal.place_texts-requires-clause-fits
-place_texts-requires-clause-fits g c = subst (MayHold c.args.program.now) (sym c.place_array-array.ensures.shapes) c.requires.fits.strings
+place_texts-requires-clause-fits g c = subst (MayHold c.args.program.now) (sym (same_shapes c.place_array-array.ensures.settings)) c.requires.fits.strings
 
 pub place_texts-requires-clause-granted : goal.place_texts-requires-clause-granted
 place_texts-requires-clause-granted g c =
     let rest : List Want = flat_map text_wants c.args.given.now ++ stream_wants in
     subst (λ (granted : List Want). Covers granted rest) (sym c.place_array-array.ensures.granted)
-    (covers_rest (g.S.Store.granted c.args.store.now) (array_want (length c.args.given.now)) rest c.requires.granted)
+    (covers_rest (g.S.Store.storage c.args.store.now).granted (array_want (length c.args.given.now)) rest c.requires.granted)
 
 pub place_texts-requires-clause-there : goal.place_texts-requires-clause-there
 place_texts-requires-clause-there g c =
@@ -36,20 +40,30 @@ place_texts-requires-clause-there g c =
 pub place_texts-requires-clause-alone : goal.place_texts-requires-clause-alone
 place_texts-requires-clause-alone g c = ap (λ (objects : List (Option Object)). length objects) c.place_array-array.ensures.kept
 
-pub place_texts-requires-clause-pairs : goal.place_texts-requires-clause-pairs
-place_texts-requires-clause-pairs g c = λ one other. ap (λ allows. allows one other) c.place_array-array.ensures.allows ∙ c.requires.pairs one other
+pub place_texts-requires-clause-sited : goal.place_texts-requires-clause-sited
+place_texts-requires-clause-sited g c = ap (λ (objects : List (Option Object)). option_map (λ (object : Object). object.site) (object_in objects 1)) c.place_array-array.ensures.kept
+
+pub place_texts-requires-clause-refers : goal.place_texts-requires-clause-refers
+place_texts-requires-clause-refers g c = λ some.
+    ap (λ allows. allows arguments argument_strings) (same_allows c.place_array-array.ensures.settings)
+    ∙ (first_pairs (g.S.Store.storage c.args.store.now).settings.allows c.args.program.now c.args.given.now some c.requires.follows).refers
+
+pub place_texts-requires-clause-holds : goal.place_texts-requires-clause-holds
+place_texts-requires-clause-holds g c = λ some.
+    ap (λ allows. allows argument_strings argument_characters) (same_allows c.place_array-array.ensures.settings)
+    ∙ (first_pairs (g.S.Store.storage c.args.store.now).settings.allows c.args.program.now c.args.given.now some c.requires.follows).holds
 
 pub place_bare-out-requires-clause-site : goal.place_bare-out-requires-clause-site
 place_bare-out-requires-clause-site g c = c.requires.fits.sites system_out (omega arith)
 
 pub place_bare-out-requires-clause-granted : goal.place_bare-out-requires-clause-granted
 place_bare-out-requires-clause-granted g c =
-    covers_first (g.S.Store.granted c.place_texts.new.store) (bare_want system_out) (bare_want system_in ∷ []) c.place_texts.ensures.granted
+    covers_first (g.S.Store.storage c.place_texts.new.store).granted (bare_want system_out) (bare_want system_in ∷ []) c.place_texts.ensures.granted
 
 pub place_bare-out-requires-clause-fits : goal.place_bare-out-requires-clause-fits
 place_bare-out-requires-clause-fits g c =
     subst (λ (shapes : List Shape). IsPlacedAs shapes system_out (kind_of_site c.args.program.now system_out) 0 [])
-    (sym (c.place_texts.ensures.shapes ∙ c.place_array-array.ensures.shapes)) c.requires.fits.out
+    (sym ((same_shapes c.place_texts.ensures.settings) ∙ (same_shapes c.place_array-array.ensures.settings))) c.requires.fits.out
 
 pub place_bare-out-requires-clause-serials : goal.place_bare-out-requires-clause-serials
 place_bare-out-requires-clause-serials g c =
@@ -62,21 +76,21 @@ place_bare-input-requires-clause-site g c = c.requires.fits.sites system_in (ome
 
 pub place_bare-input-requires-clause-granted : goal.place_bare-input-requires-clause-granted
 place_bare-input-requires-clause-granted g c =
-    covers_first (g.S.Store.granted c.place_bare-out.new.store) (bare_want system_in) []
+    covers_first (g.S.Store.storage c.place_bare-out.new.store).granted (bare_want system_in) []
     (subst (λ (granted : List Want). Covers granted (bare_want system_in ∷ [])) (sym c.place_bare-out.ensures.granted)
-    (covers_rest (g.S.Store.granted c.place_texts.new.store) (bare_want system_out) (bare_want system_in ∷ []) c.place_texts.ensures.granted))
+    (covers_rest (g.S.Store.storage c.place_texts.new.store).granted (bare_want system_out) (bare_want system_in ∷ []) c.place_texts.ensures.granted))
 
 pub place_bare-input-requires-clause-fits : goal.place_bare-input-requires-clause-fits
 place_bare-input-requires-clause-fits g c =
     subst (λ (shapes : List Shape). IsPlacedAs shapes system_in (kind_of_site c.args.program.now system_in) 0 [])
-    (sym (c.place_bare-out.ensures.shapes ∙ c.place_texts.ensures.shapes ∙ c.place_array-array.ensures.shapes)) c.requires.fits.input
+    (sym ((same_shapes c.place_bare-out.ensures.settings) ∙ (same_shapes c.place_texts.ensures.settings) ∙ (same_shapes c.place_array-array.ensures.settings))) c.requires.fits.input
 
 pub place_bare-input-requires-clause-serials : goal.place_bare-input-requires-clause-serials
 place_bare-input-requires-clause-serials g c =
     let long = c.place_texts.ensures.long in
     let few = c.requires.few in
     let longer = ap (λ (objects : List (Option Object)). length objects) c.place_bare-out.ensures.kept in
-    let more = length-append (g.S.Store.kept c.place_texts.new.store) (Some (bare c.args.program.now system_out) ∷ []) in
+    let more = length-append (g.S.Store.storage c.place_texts.new.store).kept (Some (bare c.args.program.now system_out) ∷ []) in
     omega (arith, long, few, longer, more)
 
 pub returns-clause-kept : goal.returns-clause-kept
@@ -92,11 +106,11 @@ pub returns-clause-array : goal.returns-clause-array
 returns-clause-array g c =
     let count = length c.args.given.now in
     let array = c.place_array-array.result in
-    let texts = g.S.Store.kept c.place_texts.new.store in
-    let both = g.S.Store.kept c.place_bare-out.new.store in
-    let second = g.S.Store.index c.place_texts.new.store in
-    let third = g.S.Store.index c.place_bare-out.new.store in
-    let fourth = g.S.Store.index c.place_bare-input.new.store in
+    let texts = (g.S.Store.storage c.place_texts.new.store).kept in
+    let both = (g.S.Store.storage c.place_bare-out.new.store).kept in
+    let second = (g.S.Store.storage c.place_texts.new.store).index in
+    let third = (g.S.Store.storage c.place_bare-out.new.store).index in
+    let fourth = (g.S.Store.storage c.place_bare-input.new.store).index in
     let has : HasArray both count =
     subst (λ (objects : List (Option Object)). HasArray objects count) (sym c.place_bare-out.ensures.kept)
     (has_behind texts (Some (bare c.args.program.now system_out) ∷ []) count c.place_texts.ensures.there) in
@@ -108,10 +122,10 @@ pub returns-clause-out : goal.returns-clause-out
 returns-clause-out g c =
     let count = length c.args.given.now in
     let out = c.place_bare-out.result in
-    let texts = g.S.Store.kept c.place_texts.new.store in
-    let both = g.S.Store.kept c.place_bare-out.new.store in
-    let third = g.S.Store.index c.place_bare-out.new.store in
-    let fourth = g.S.Store.index c.place_bare-input.new.store in
+    let texts = (g.S.Store.storage c.place_texts.new.store).kept in
+    let both = (g.S.Store.storage c.place_bare-out.new.store).kept in
+    let third = (g.S.Store.storage c.place_bare-out.new.store).index in
+    let fourth = (g.S.Store.storage c.place_bare-input.new.store).index in
     let long = c.place_texts.ensures.long in
     let serial : 2 * count + 2 ≡ length texts + 1 = omega (arith, long) in
     still both third fourth c.place_bare-input.ensures.places out (2 * count + 2) (c.place_bare-out.ensures.serial ∙ sym serial)
@@ -122,18 +136,18 @@ returns-clause-input g c =
     let long = c.place_texts.ensures.long in
     let serial = c.place_bare-input.ensures.serial in
     let longer = ap (λ (objects : List (Option Object)). length objects) c.place_bare-out.ensures.kept in
-    let more = length-append (g.S.Store.kept c.place_texts.new.store) (Some (bare c.args.program.now system_out) ∷ []) in
+    let more = length-append (g.S.Store.storage c.place_texts.new.store).kept (Some (bare c.args.program.now system_out) ∷ []) in
     omega (arith, long, serial, longer, more)
 
 pub returns-clause-places : goal.returns-clause-places
 returns-clause-places g c =
-    let start = g.S.Store.index c.args.store.now in
-    let first = g.S.Store.index c.place_array-array.new.store in
-    let second = g.S.Store.index c.place_texts.new.store in
-    let third = g.S.Store.index c.place_bare-out.new.store in
-    let fourth = g.S.Store.index c.place_bare-input.new.store in
-    nulls_then (g.S.Store.kept c.place_bare-out.new.store) start third fourth
-    (nulls_then (g.S.Store.kept c.place_texts.new.store) start second third
+    let start = (g.S.Store.storage c.args.store.now).index in
+    let first = (g.S.Store.storage c.place_array-array.new.store).index in
+    let second = (g.S.Store.storage c.place_texts.new.store).index in
+    let third = (g.S.Store.storage c.place_bare-out.new.store).index in
+    let fourth = (g.S.Store.storage c.place_bare-input.new.store).index in
+    nulls_then (g.S.Store.storage c.place_bare-out.new.store).kept start third fourth
+    (nulls_then (g.S.Store.storage c.place_texts.new.store).kept start second third
     (nulls_then [] start first second c.place_array-array.ensures.places c.place_texts.ensures.places) c.place_bare-out.ensures.places)
     c.place_bare-input.ensures.places
 

@@ -5,4 +5,4 @@ use Rattle.cb_interp.proofs.string_text.copy_units.Given as goal
 
 abbrev pub invariant-loop-index : goal.invariant-loop-index
 invariant-loop-index g l =
-    take l.index l.piece ≡ take l.index (drop l.from (as_line l.line (units_at (g.S.Store.kept l.store) (serial_of (g.S.Store.index l.store) l.array))))
+    take l.index l.piece ≡ take l.index (drop l.from (as_line l.line (units_at (g.S.Store.storage l.store).kept (serial_of (g.S.Store.storage l.store).index l.array))))

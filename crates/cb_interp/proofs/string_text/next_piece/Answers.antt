@@ -9,7 +9,7 @@ use Rattle.cb_interp.proofs.string_text.next_piece.Goals.{then-left-lt-PIECE, el
 
 pub returns-clause-read : goal.returns-clause-read
 returns-clause-read g c =
-    let all = as_line c.args.line (units_at (g.S.Store.kept c.args.store.now) (serial_of (g.S.Store.index c.args.store.now) c.args.array)) in
+    let all = as_line c.args.line (units_at (g.S.Store.storage c.args.store.now).kept (serial_of (g.S.Store.storage c.args.store.now).index c.args.array)) in
     let fits : c.if-left-lt-PIECE.copied ≤ length c.copy_units.new.piece =
     elim c.if-left-lt-PIECE.branch [ then-left-lt-PIECE w ↦ omega arith | else-left-lt-PIECE w ↦ omega arith ] in
     let within : c.args.from + c.if-left-lt-PIECE.copied ≤ length all =

@@ -22,6 +22,6 @@ loop-from-preserved g c =
 
 pub returns-clause-all : goal.returns-clause-all
 returns-clause-all g c =
-    let all = as_line c.args.line (units_at (g.S.Store.kept c.args.store.now) (serial_of (g.S.Store.index c.args.store.now) c.args.array)) in
+    let all = as_line c.args.line (units_at (g.S.Store.storage c.args.store.now).kept (serial_of (g.S.Store.storage c.args.store.now).index c.args.array)) in
     let past : length all ≤ c.loop-from.from = omega (arith, c.loop-from.invariant.total) in
     written_all _ _ _ _ _ _ c.loop-from.invariant.written (nothing_left all c.loop-from.from past)

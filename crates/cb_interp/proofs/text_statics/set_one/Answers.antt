@@ -1,6 +1,6 @@
+use Rattle.cb_heap.specs.Storage.{view_in}
 use Rattle.std.proofs.Common.{◌∙◌, ap, sym}
 use Rattle.cb_frames.specs.Limited.{Limited}
-use Rattle.cb_heap.specs.Reading.{seen}
 use Rattle.cb_link.specs.Named.{static_initial}
 use Rattle.cb_interp.specs.TextStatics.{seen_to}
 use Rattle.cb_interp.proofs.TurnsTextSet.{number_set}
@@ -14,10 +14,10 @@ set_text-requires-clause-may g c =
 pub returns-in-Some-clause-set : goal.returns-in-Some-clause-set
 returns-in-Some-clause-set g c =
     c.set_text.ensures.set
-    ∙ ap (seen_to c.args.program.now c.args.slot (seen (g.S.Store.index c.args.store.now) (g.S.Store.kept c.args.store.now) c.args.roots.now.roots))
+    ∙ ap (seen_to c.args.program.now c.args.slot (view_in (g.S.Store.storage c.args.store.now) c.args.roots.now.roots))
     (sym (text_so (static_initial c.args.program.now c.args.slot) c.in-Some.text (sym c.text_at.ensures ∙ c.in-Some.is)))
 
 pub returns-in-None-clause-set : goal.returns-in-None-clause-set
 returns-in-None-clause-set g c =
-    number_set c.args.program.now (g.S.Store.index c.args.store.now) (g.S.Store.kept c.args.store.now) c.args.roots.now.roots c.set_number.new.roots.roots c.args.slot
+    number_set c.args.program.now (g.S.Store.storage c.args.store.now).index (g.S.Store.storage c.args.store.now).kept c.args.roots.now.roots c.set_number.new.roots.roots c.args.slot
     (sym c.text_at.ensures ∙ c.in-None.is) (ap (λ (held : Limited). held.roots) c.set_number.ensures)

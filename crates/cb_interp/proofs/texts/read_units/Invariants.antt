@@ -5,4 +5,4 @@ use Rattle.cb_interp.specs.Texts.{unit_in}
 use Rattle.cb_interp.proofs.texts.read_units.Given as goal
 
 abbrev pub invariant-loop-i : goal.invariant-loop-i
-invariant-loop-i g l = l.units.items ≡ l.fn.units.items ++ map unit_in (take l.i (contents_at (g.S.Store.kept l.store) (serial_of (g.S.Store.index l.store) l.at)))
+invariant-loop-i g l = l.units.items ≡ l.fn.units.items ++ map unit_in (take l.i (contents_at (g.S.Store.storage l.store).kept (serial_of (g.S.Store.storage l.store).index l.at)))

@@ -4,13 +4,13 @@ use Rattle.cb_interp.proofs.TextReading.{unit_number, unit_so}
 use Rattle.cb_interp.proofs.texts.unit_at.Goals as goal
 
 pub get-requires : goal.get-requires
-get-requires g c = unit_number (content_at (g.S.Store.kept c.args.store.now) (serial_of (g.S.Store.index c.args.store.now) c.args.at) c.args.i) c.requires
+get-requires g c = unit_number (content_at (g.S.Store.storage c.args.store.now).kept (serial_of (g.S.Store.storage c.args.store.now).index c.args.at) c.args.i) c.requires
 
 pub overflow_cast-result : goal.overflow_cast-result
 overflow_cast-result g c = record {
-  fits = (unit_so (content_at (g.S.Store.kept c.args.store.now) (serial_of (g.S.Store.index c.args.store.now) c.args.at) c.args.i) c.get.result c.requires c.get.type_inv c.get.ensures).0;
+  fits = (unit_so (content_at (g.S.Store.storage c.args.store.now).kept (serial_of (g.S.Store.storage c.args.store.now).index c.args.at) c.args.i) c.get.result c.requires c.get.type_inv c.get.ensures).0;
 }
 
 pub returns : goal.returns
 returns g c =
-    (unit_so (content_at (g.S.Store.kept c.args.store.now) (serial_of (g.S.Store.index c.args.store.now) c.args.at) c.args.i) c.get.result c.requires c.get.type_inv c.get.ensures).1
+    (unit_so (content_at (g.S.Store.storage c.args.store.now).kept (serial_of (g.S.Store.storage c.args.store.now).index c.args.at) c.args.i) c.get.result c.requires c.get.type_inv c.get.ensures).1

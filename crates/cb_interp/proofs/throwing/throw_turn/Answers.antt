@@ -1,7 +1,9 @@
-use Rattle.std.proofs.Common.{◌^◌, arith, length, ◌≡◌, ◌∙◌, ap, sym, subst, [], ◌∷◌, List}
+use Rattle.cb_heap.proofs.Laws.{same_shapes}
+use Rattle.cb_heap.specs.Storage.{view_in}
+use Rattle.std.proofs.Common.{◌^◌, arith, length, ◌≡◌, ◌∙◌, ap, sym, subst, [], ◌∷◌, List, rules}
 use Rattle.std.specs.declared.result.Result.TheVariants.{Ok}
 use Rattle.cb_heap.specs.Kept.{residents}
-use Rattle.cb_heap.specs.Reading.{View, seen}
+use Rattle.cb_heap.specs.Reading.{View}
 use Rattle.cb_machine.specs.Machine.{kind_of_site, or_zero}
 use Rattle.cb_plain.specs.Requests.{add_want}
 use Rattle.cb_plain.specs.declared.want.Want.{Want}
@@ -9,28 +11,55 @@ use Rattle.cb_act.specs.Placing.{thrown}
 use Rattle.cb_act.specs.Turning.{machine_of, moment_of, state_of}
 use Rattle.cb_interp.proofs.TurnsThrown.{exception_want, thrown_turn}
 use Rattle.cb_interp.proofs.TurnsNeedSerials.{serial_left}
+use Rattle.cb_act.specs.Turning.{TurnRefused}
+use Rattle.cb_heap.specs.declared.no_room.NoRoom.{NoRoom}
+use Rattle.cb_plain.specs.State.{Roots}
+use Rattle.cb_interp.proofs.TurnsMade.{asked_refused}
+use Rattle.cb_interp.proofs.TurnsMaking.{handed_on}
+use Rattle.cb_machine.specs.Throwing.{throws}
 use Rattle.cb_interp.proofs.throwing.throw_turn.Goals as goal
 
 pub throw-requires-clause-serials : goal.throw-requires-clause-serials
 throw-requires-clause-serials g c =
-    serial_left g.S.Store.FIXED (length (g.S.Store.kept c.args.store.now)) (length (g.S.Store.kept c.make_room.new.self)) (2 ^ 28) _ c.make_room.ensures.collected.count
+    serial_left g.S.Store.rules.fixed (length (g.S.Store.storage c.args.store.now).kept) (length (g.S.Store.storage c.make_room.new.self).kept) (2 ^ 28) _ c.make_room.ensures.collected.count
     (omega arith) c.requires.1.1.1.1.1.1.0 c.in_ok-make_room.ensures.bounded
 
-pub returns-clause-made : goal.returns-clause-made
-returns-clause-made g c =
-    let before = seen (g.S.Store.index c.args.store.now) (g.S.Store.kept c.args.store.now) c.args.roots.now.roots in
-    let middle = seen (g.S.Store.index c.make_room.new.self) (g.S.Store.kept c.make_room.new.self) c.make_room.new.roots.roots in
-    let after = seen (g.S.Store.index c.throw.new.store) (g.S.Store.kept c.throw.new.store) c.throw.new.roots.roots in
-    let wants : c.add.new.self ≡ exception_want c.args.site ∷ [] = c.add.ensures ∙ ap (λ wants. add_want wants (record { site = c.args.site; words = 6 })) c.clear.ensures in
-    let kind : kind_of_site c.args.program.now c.args.site ≡ c.site_kind.result = ap or_zero c.site_kind.ensures.kind in
-    thrown_turn g.S.Store.rules (machine_of c.args.program.now c.args.roots.now.limit) (moment_of before g.outside (g.S.Store.facts c.args.store.now))
-    (moment_of middle g.outside (g.S.Store.facts c.make_room.new.self)) (moment_of after g.outside (g.S.Store.facts c.throw.new.store)) c.args.site (g.S.Store.shapes c.args.store.now)
-    c.requires.1.0 c.requires.1.1.1.0
-    (subst (λ (wants : List Want). g.S.Store.rules.makes_room (g.S.Store.facts c.args.store.now) before wants (Ok tt)
-    (record { facts = g.S.Store.facts c.make_room.new.self; residents = residents (g.S.Store.kept c.make_room.new.self) })) wants c.in_ok-make_room.ensures.ruled)
-    c.make_room.ensures.collected
-    (ap (λ roots. state_of (record { roots = roots; objects = g.S.Store.kept c.make_room.new.self }) g.outside) c.make_room.ensures.collected.roots)
-    (ap (λ (view : View). state_of view g.outside)
-    (c.throw.ensures.behind ∙ ap (λ shapes. thrown shapes c.args.site c.site_kind.result middle) c.make_room.ensures.shapes
-    ∙ ap (λ kind. thrown (g.S.Store.shapes c.args.store.now) c.args.site kind middle) (sym kind)))
-    c.throw.ensures.facts
+pub returns : goal.returns
+returns g c = record {
+  made = let before = view_in (g.S.Store.storage c.args.store.now) c.args.roots.now.roots in
+      let middle = view_in (g.S.Store.storage c.make_room.new.self) c.make_room.new.roots.roots in
+      let after = view_in (g.S.Store.storage c.throw.new.store) c.throw.new.roots.roots in
+      let wants : c.add.new.self ≡ exception_want c.args.site ∷ [] = c.add.ensures ∙ ap (λ wants. add_want wants (record { site = c.args.site; words = 6 })) c.clear.ensures in
+      let kind : kind_of_site c.args.program.now c.args.site ≡ c.site_kind.result = ap or_zero c.site_kind.ensures.kind in
+      thrown_turn g.S.Store.rules (machine_of c.args.program.now c.args.roots.now.limit) (moment_of before g.outside (g.S.Store.storage c.args.store.now).facts)
+      (moment_of middle g.outside (g.S.Store.storage c.make_room.new.self).facts) (moment_of after g.outside (g.S.Store.storage c.throw.new.store).facts) c.args.site (g.S.Store.storage c.args.store.now).settings.shapes
+      c.requires.1.0 c.requires.1.1.1.0
+      (subst (λ (wants : List Want). g.S.Store.rules.makes_room (g.S.Store.storage c.args.store.now).facts before wants (Ok tt)
+      (record { facts = (g.S.Store.storage c.make_room.new.self).facts; residents = residents (g.S.Store.storage c.make_room.new.self).kept })) wants c.in_ok-make_room.ensures.ruled)
+      c.make_room.ensures.collected
+      (ap (λ roots. state_of (record { roots = roots; objects = (g.S.Store.storage c.make_room.new.self).kept }) g.outside) c.make_room.ensures.collected.roots)
+      (ap (λ (view : View). state_of view g.outside)
+      (c.throw.ensures.behind ∙ ap (λ shapes. thrown shapes c.args.site c.site_kind.result middle) (same_shapes c.make_room.ensures.settings)
+      ∙ ap (λ kind. thrown (g.S.Store.storage c.args.store.now).settings.shapes c.args.site kind middle) (sym kind)))
+      c.throw.ensures.facts;
+  refused = search rules;
+  counted = search rules;
+  limit = search rules;
+  settings = search rules;
+}
+
+pub returns-in_err-make_room : goal.returns-in_err-make_room
+returns-in_err-make_room g c = record {
+  made = search rules;
+  refused = let before = moment_of (view_in (g.S.Store.storage c.args.store.now) c.args.roots.now.roots) g.outside (g.S.Store.storage c.args.store.now).facts in
+      let after = moment_of (view_in (g.S.Store.storage c.make_room.new.self) c.make_room.new.roots.roots) g.outside (g.S.Store.storage c.make_room.new.self).facts in
+      let wants : c.add.new.self ≡ exception_want c.args.site ∷ [] = c.add.ensures ∙ ap (λ wants. add_want wants (record { site = c.args.site; words = 6 })) c.clear.ensures in
+      handed_on (λ (reason : NoRoom). TurnRefused g.S.Store.rules (machine_of c.args.program.now c.args.roots.now.limit) before reason after)
+      c.from_residual.result c.in_err-make_room.field-0.0 c.from_residual.ensures
+      (asked_refused g.S.Store.rules (machine_of c.args.program.now c.args.roots.now.limit) before after c.in_err-make_room.field-0.0 (throws (machine_of c.args.program.now c.args.roots.now.limit) (state_of (view_in (g.S.Store.storage c.args.store.now) c.args.roots.now.roots) g.outside) c.args.site) c.add.new.self
+      c.requires.1.0 wants (λ none. let both : exception_want c.args.site ∷ [] ≡ [] = sym wants ∙ none in cc both) c.in_err-make_room.ensures.ruled c.make_room.ensures.collected
+      (ap (λ (roots : Roots). state_of (record { roots = roots; objects = (g.S.Store.storage c.make_room.new.self).kept }) g.outside) c.make_room.ensures.collected.roots));
+  counted = search rules;
+  limit = search rules;
+  settings = search rules;
+}

@@ -1,6 +1,6 @@
-use Rattle.std.proofs.Common.{◌≡◌, ◌∙◌, ap, ap₂, rules, sym, subst, length, Some}
+use Rattle.cb_heap.specs.Storage.{view_in}
+use Rattle.std.proofs.Common.{◌≡◌, ◌∙◌, ◌+◌, ◌^◌, ◌<◌, ap, ap₂, rules, sym, subst, length, true, ℕ, Some}
 use Rattle.std.specs.Prelude.{IfErr, IsErrOf, OnOk}
-use Rattle.std.specs.declared.result.Result.TheVariants.{Ok}
 use Rattle.cb_frames.specs.Limited.{Limited}
 use Rattle.cb_heap.specs.Reading.{View, seen}
 use Rattle.cb_io.specs.Faults.{CountsFaults}
@@ -9,15 +9,17 @@ use Rattle.cb_link.specs.Decoding.{decoded}
 use Rattle.cb_machine.specs.Steps.{plan}
 use Rattle.cb_safety.specs.States.{IsTypedState}
 use Rattle.cb_act.specs.Acting.{Asks, acted}
+use Rattle.cb_act.specs.Coming.{MayCome}
 use Rattle.cb_act.specs.Here.{Here, need_plan}
-use Rattle.cb_interp.specs.Running.{Advanced, SaysBy, TurnStops}
-use Rattle.cb_act.specs.Turning.{Moment, machine_of, moment_of, state_of}
+use Rattle.cb_interp.specs.Reading.{LosesBy}
+use Rattle.cb_interp.specs.Running.{Advanced, MayRun, SaysBy, TurnStops}
+use Rattle.cb_act.specs.Turning.{Moment, machine_of, moment_of, most_at_once, state_of}
 use Rattle.cb_heap.specs.declared.no_room.NoRoom.TheVariants as rooms
 use Rattle.cb_interp.specs.declared.stop.Stop.TheVariants as stops
 use Rattle.cb_interp.proofs.LinkedFew.{few_parameters}
 use Rattle.cb_interp.proofs.LinkedMarks.{marks_natives}
 use Rattle.cb_interp.proofs.RunHere.{decoded_here, here_at, runs_special}
-use Rattle.cb_interp.proofs.RunTurns.{silent_advance}
+use Rattle.cb_interp.proofs.RunTurns.{whole_advance}
 use Rattle.cb_interp.proofs.RunTyped.{may_run_on}
 use Rattle.cb_interp.proofs.turn.method_turn.Goals as goal
 
@@ -26,9 +28,9 @@ act_turn-requires g c κs within =
     let program = c.args.program.now in
     let limit = c.args.roots.now.limit in
     let found : Some c.in-Some.decoded.now ≡ decoded program c.args.method c.args.pc = c.in-Some.ensures.found in
-    let here = here_at program limit (g.S.Store.index c.args.store.now) (g.S.Store.kept c.args.store.now) c.args.roots.now.roots g.outside c.args.method c.args.pc c.in-Some.decoded.now
-    c.requires.1.1.1.1.1.0 c.requires.1.1.1.1.1.1 found in
-    let selected = subst (IsOneOf (length program.methods)) (sym (runs_special program limit (g.S.Store.index c.args.store.now) (g.S.Store.kept c.args.store.now) c.args.roots.now.roots g.outside
+    let here = here_at program limit (g.S.Store.storage c.args.store.now).index (g.S.Store.storage c.args.store.now).kept c.args.roots.now.roots g.outside c.args.method c.args.pc c.in-Some.decoded.now
+    c.requires.1.1.1.1.0 c.requires.1.1.1.1.1 found in
+    let selected = subst (IsOneOf (length program.methods)) (sym (runs_special program limit (g.S.Store.storage c.args.store.now).index (g.S.Store.storage c.args.store.now).kept c.args.roots.now.roots g.outside
     c.args.method c.args.pc c.in-Some.decoded.now found)) (c.linked_selects.ensures program c.args.method c.args.pc c.requires.1.1.1.0.linked) in (
       search rules,
       (
@@ -40,7 +42,7 @@ act_turn-requires g c κs within =
             (
               c.requires.1.1.1.0.typed,
               (
-                c.requires.1.1.1.0.pairs,
+                c.requires.1.1.1.0.follows,
                 (
                   c.in-Some.ensures.within,
                   (selected, (marks_natives program c.requires.1.1.1.0.linked, few_parameters program c.requires.1.1.1.0.linked)),
@@ -56,34 +58,34 @@ pub needed_turn-requires : goal.needed_turn-requires
 needed_turn-requires g c κs within =
     let program = c.args.program.now in
     let limit = c.args.roots.now.limit in
-    let view = seen (g.S.Store.index c.args.store.now) (g.S.Store.kept c.args.store.now) c.args.roots.now.roots in
-    let later = seen (g.S.Store.index c.act_turn.new.store) (g.S.Store.kept c.act_turn.new.store) c.act_turn.new.roots.roots in
+    let view = view_in (g.S.Store.storage c.args.store.now) c.args.roots.now.roots in
+    let later = view_in (g.S.Store.storage c.act_turn.new.store) c.act_turn.new.roots.roots in
     let same : later ≡ view =
-    ap (λ index. seen index (g.S.Store.kept c.act_turn.new.store) c.act_turn.new.roots.roots) c.in-Err.ensures.places
-    ∙ ap (λ kept. seen (g.S.Store.index c.args.store.now) kept c.act_turn.new.roots.roots) c.in-Err.ensures.held
-    ∙ ap (λ (limited : Limited). seen (g.S.Store.index c.args.store.now) (g.S.Store.kept c.args.store.now) limited.roots) c.in-Err.ensures.same in
+    ap (λ index. seen index (g.S.Store.storage c.act_turn.new.store).kept c.act_turn.new.roots.roots) c.in-Err.ensures.places
+    ∙ ap (λ kept. seen (g.S.Store.storage c.args.store.now).index kept c.act_turn.new.roots.roots) c.in-Err.ensures.held
+    ∙ ap (λ (limited : Limited). view_in (g.S.Store.storage c.args.store.now) limited.roots) c.in-Err.ensures.same in
     let found : Some c.in-Some.decoded.now ≡ decoded program c.args.method c.args.pc = c.in-Some.ensures.found in
-    let here = here_at program limit (g.S.Store.index c.args.store.now) (g.S.Store.kept c.args.store.now) c.args.roots.now.roots g.outside c.args.method c.args.pc c.in-Some.decoded.now
-    c.requires.1.1.1.1.1.0 c.requires.1.1.1.1.1.1 found in (
+    let here = here_at program limit (g.S.Store.storage c.args.store.now).index (g.S.Store.storage c.args.store.now).kept c.args.roots.now.roots g.outside c.args.method c.args.pc c.in-Some.decoded.now
+    c.requires.1.1.1.1.0 c.requires.1.1.1.1.1 found in (
       search rules,
       (
         search rules,
         (
           search rules,
           (
-            (may_run_on program c.requires.1.1.1.0 c.act_turn.ensures.shapes c.act_turn.ensures.knows c.act_turn.ensures.allows
-                (subst (λ view. IsTypedState program (state_of view g.outside)) (sym same) c.requires.1.1.1.0.typed)),
+            subst (λ (limit : ℕ). MayRun g.S.Store.rules.fixed (machine_of program limit) (g.S.Store.storage c.act_turn.new.store).settings (state_of later g.outside)) (sym c.act_turn.ensures.limit)
+                (may_run_on g.S.Store.rules.fixed (machine_of program limit) c.requires.1.1.1.0 c.act_turn.ensures.settings
+                (subst (λ (view : View). MayCome (machine_of program limit) (state_of (view_in (g.S.Store.storage c.args.store.now) c.args.roots.now.roots) g.outside) (state_of view g.outside)) (sym same) MayCome.Here)
+                (subst (λ (view : View). IsTypedState program (state_of view g.outside)) (sym same) c.requires.1.1.1.0.typed)
+                (subst (λ (view : View). g.S.Store.rules.fixed ≡ true → length view.objects + most_at_once < 2 ^ 63) (sym same) c.requires.1.1.1.0.few)),
             (
-              c.requires.1.1.1.1.0,
+              (subst (λ limit. Here (machine_of program limit) (state_of later g.outside) c.in-Some.decoded.now) (sym c.act_turn.ensures.limit)
+                  (subst (λ view. Here (machine_of program limit) (state_of view g.outside) c.in-Some.decoded.now) (sym same) here)),
               (
-                (subst (λ limit. Here (machine_of program limit) (state_of later g.outside) c.in-Some.decoded.now) (sym c.act_turn.ensures.limit)
-                    (subst (λ view. Here (machine_of program limit) (state_of view g.outside) c.in-Some.decoded.now) (sym same) here)),
-                (
-                  (subst (λ limit. acted program limit c.in-Some.decoded.now later ≡ Some (Asks c.in-Err.need)) (sym c.act_turn.ensures.limit)
-                      (subst (λ view. acted program limit c.in-Some.decoded.now view ≡ Some (Asks c.in-Err.need)) (sym same) c.in-Err.ensures.asked)),
-                  (subst (λ limit. plan (machine_of program limit) (state_of later g.outside) ≡ need_plan (machine_of program limit) (state_of later g.outside) c.in-Err.need) (sym c.act_turn.ensures.limit)
-                      (subst (λ view. plan (machine_of program limit) (state_of view g.outside) ≡ need_plan (machine_of program limit) (state_of view g.outside) c.in-Err.need) (sym same) c.in-Err.ensures.needs)),
-                ),
+                (subst (λ limit. acted program limit c.in-Some.decoded.now later ≡ Some (Asks c.in-Err.need)) (sym c.act_turn.ensures.limit)
+                    (subst (λ view. acted program limit c.in-Some.decoded.now view ≡ Some (Asks c.in-Err.need)) (sym same) c.in-Err.ensures.asked)),
+                (subst (λ limit. plan (machine_of program limit) (state_of later g.outside) ≡ need_plan (machine_of program limit) (state_of later g.outside) c.in-Err.need) (sym c.act_turn.ensures.limit)
+                    (subst (λ view. plan (machine_of program limit) (state_of view g.outside) ≡ need_plan (machine_of program limit) (state_of view g.outside) c.in-Err.need) (sym same) c.in-Err.ensures.needs)),
               ),
             ),
           ),
@@ -93,52 +95,51 @@ needed_turn-requires g c κs within =
 
 pub returns-in-Ok-clause-made : goal.returns-in-Ok-clause-made
 returns-in-Ok-clause-made g c =
-    silent_advance g.S.Store.rules (machine_of c.args.program.now c.args.roots.now.limit) g.outside
-    (seen (g.S.Store.index c.args.store.now) (g.S.Store.kept c.args.store.now) c.args.roots.now.roots)
-    (seen (g.S.Store.index c.act_turn.new.store) (g.S.Store.kept c.act_turn.new.store) c.act_turn.new.roots.roots)
-    (g.S.Store.facts c.args.store.now) (g.S.Store.facts c.act_turn.new.store) (g.O.Sink.taken c.args.out.now) (g.I.Source.left c.args.input.now) (Ok tt) c.in-Ok.ensures.made
+    whole_advance g.S.Store.rules (machine_of c.args.program.now c.args.roots.now.limit) g.outside
+    (view_in (g.S.Store.storage c.args.store.now) c.args.roots.now.roots)
+    (view_in (g.S.Store.storage c.act_turn.new.store) c.act_turn.new.roots.roots)
+    (g.S.Store.storage c.args.store.now).facts (g.S.Store.storage c.act_turn.new.store).facts (g.O.Sink.taken c.args.out.now) (g.I.Source.left c.args.input.now) c.in-Ok.ensures.made
 
 pub returns-in-Err : goal.returns-in-Err
 returns-in-Err g c =
     let program = c.args.program.now in
     let limit = c.args.roots.now.limit in
-    let view = seen (g.S.Store.index c.args.store.now) (g.S.Store.kept c.args.store.now) c.args.roots.now.roots in
-    let later = seen (g.S.Store.index c.act_turn.new.store) (g.S.Store.kept c.act_turn.new.store) c.act_turn.new.roots.roots in
+    let view = view_in (g.S.Store.storage c.args.store.now) c.args.roots.now.roots in
+    let later = view_in (g.S.Store.storage c.act_turn.new.store) c.act_turn.new.roots.roots in
     let same : later ≡ view =
-    ap (λ index. seen index (g.S.Store.kept c.act_turn.new.store) c.act_turn.new.roots.roots) c.in-Err.ensures.places
-    ∙ ap (λ kept. seen (g.S.Store.index c.args.store.now) kept c.act_turn.new.roots.roots) c.in-Err.ensures.held
-    ∙ ap (λ (limited : Limited). seen (g.S.Store.index c.args.store.now) (g.S.Store.kept c.args.store.now) limited.roots) c.in-Err.ensures.same in
-    let behind = seen (g.S.Store.index c.needed_turn.new.store) (g.S.Store.kept c.needed_turn.new.store) c.needed_turn.new.roots.roots in
-    let after = moment_of behind g.outside (g.S.Store.facts c.needed_turn.new.store) in
-    let facts = g.S.Store.facts c.needed_turn.new.store in
+    ap (λ index. seen index (g.S.Store.storage c.act_turn.new.store).kept c.act_turn.new.roots.roots) c.in-Err.ensures.places
+    ∙ ap (λ kept. seen (g.S.Store.storage c.args.store.now).index kept c.act_turn.new.roots.roots) c.in-Err.ensures.held
+    ∙ ap (λ (limited : Limited). view_in (g.S.Store.storage c.args.store.now) limited.roots) c.in-Err.ensures.same in
+    let behind = view_in (g.S.Store.storage c.needed_turn.new.store) c.needed_turn.new.roots.roots in
+    let after = moment_of behind g.outside (g.S.Store.storage c.needed_turn.new.store).facts in
+    let facts = (g.S.Store.storage c.needed_turn.new.store).facts in
     let taken = g.O.Sink.taken c.args.out.now in
     let takes = g.O.Sink.taken c.needed_turn.new.out in
     let left = g.I.Source.left c.args.input.now in
     let leaves = g.I.Source.left c.needed_turn.new.input in
     record {
       made = subst (λ facts_before. OnOk c.needed_turn.result (Advanced g.S.Store.rules (machine_of program limit) g.outside view behind facts_before facts taken takes left leaves)) c.in-Err.ensures.facts
-          (subst (λ view. OnOk c.needed_turn.result (Advanced g.S.Store.rules (machine_of program limit) g.outside view behind (g.S.Store.facts c.act_turn.new.store) facts taken takes left leaves)) same
-          (subst (λ limit. OnOk c.needed_turn.result (Advanced g.S.Store.rules (machine_of program limit) g.outside later behind (g.S.Store.facts c.act_turn.new.store) facts taken takes left leaves))
+          (subst (λ view. OnOk c.needed_turn.result (Advanced g.S.Store.rules (machine_of program limit) g.outside view behind (g.S.Store.storage c.act_turn.new.store).facts facts taken takes left leaves)) same
+          (subst (λ limit. OnOk c.needed_turn.result (Advanced g.S.Store.rules (machine_of program limit) g.outside later behind (g.S.Store.storage c.act_turn.new.store).facts facts taken takes left leaves))
           c.act_turn.ensures.limit c.needed_turn.ensures.made));
       stopped = subst (λ (moment : Moment g.S.Store.Facts). IfErr c.needed_turn.result (λ stop. TurnStops g.S.Store.rules (machine_of program limit) stop moment after))
           (ap₂ (λ (view : View) facts. moment_of view g.outside facts) same c.in-Err.ensures.facts)
-          (subst (λ limit. IfErr c.needed_turn.result (λ stop. TurnStops g.S.Store.rules (machine_of program limit) stop (moment_of later g.outside (g.S.Store.facts c.act_turn.new.store)) after))
+          (subst (λ limit. IfErr c.needed_turn.result (λ stop. TurnStops g.S.Store.rules (machine_of program limit) stop (moment_of later g.outside (g.S.Store.storage c.act_turn.new.store).facts) after))
           c.act_turn.ensures.limit c.needed_turn.ensures.stopped);
       left = subst (λ view. IfErr c.needed_turn.result (λ stop. SaysBy (machine_of program limit) (state_of view g.outside) stop taken takes)) same
           (subst (λ limit. IfErr c.needed_turn.result (λ stop. SaysBy (machine_of program limit) (state_of later g.outside) stop taken takes)) c.act_turn.ensures.limit c.needed_turn.ensures.left);
-      lost = c.needed_turn.ensures.lost;
-      counted = subst (λ count. CountsFaults count (g.S.Store.faults c.needed_turn.new.store) (IsErrOf c.needed_turn.result (stops.NoRoom rooms.ReportFault))) c.act_turn.ensures.faults
+      lost = subst (λ view. IfErr c.needed_turn.result (λ stop. LosesBy (machine_of program limit) (state_of view g.outside) stop left leaves)) same
+          (subst (λ limit. IfErr c.needed_turn.result (λ stop. LosesBy (machine_of program limit) (state_of later g.outside) stop left leaves)) c.act_turn.ensures.limit c.needed_turn.ensures.lost);
+      counted = subst (λ count. CountsFaults count (g.S.Store.storage c.needed_turn.new.store).faults (IsErrOf c.needed_turn.result (stops.NoRoom rooms.ReportFault))) c.act_turn.ensures.faults
           c.needed_turn.ensures.counted;
       output = c.needed_turn.ensures.output;
       read = c.needed_turn.ensures.read;
       limit = c.needed_turn.ensures.limit ∙ c.act_turn.ensures.limit;
-      knows = c.needed_turn.ensures.knows ∙ c.act_turn.ensures.knows;
-      allows = c.needed_turn.ensures.allows ∙ c.act_turn.ensures.allows;
-      shapes = c.needed_turn.ensures.shapes ∙ c.act_turn.ensures.shapes;
+      settings = c.needed_turn.ensures.settings ∙ c.act_turn.ensures.settings;
     }
 
 pub unreachable-requires : goal.unreachable-requires
 unreachable-requires g c =
     let program = c.args.program.now in
-    decoded_here program c.args.roots.now.limit (g.S.Store.index c.args.store.now) (g.S.Store.kept c.args.store.now) c.args.roots.now.roots g.outside c.args.method c.args.pc
-    c.requires.1.1.1.0.linked c.requires.1.1.1.0.fits c.requires.1.1.1.0.typed c.requires.1.1.1.1.1.0 c.requires.1.1.1.1.1.1 c.in_default.ensures.found
+    decoded_here program c.args.roots.now.limit (g.S.Store.storage c.args.store.now).index (g.S.Store.storage c.args.store.now).kept c.args.roots.now.roots g.outside c.args.method c.args.pc
+    c.requires.1.1.1.0.linked c.requires.1.1.1.0.fits c.requires.1.1.1.0.typed c.requires.1.1.1.1.0 c.requires.1.1.1.1.1 c.in_default.ensures.found

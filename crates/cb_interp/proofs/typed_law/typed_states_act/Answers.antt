@@ -4,5 +4,5 @@ use Rattle.cb_interp.proofs.typed_law.typed_states_act.Goals as goal
 pub returns : goal.returns
 returns c = record {
   there = λ machine state decoded at linked fits typed. typed_acts machine state decoded at linked fits typed;
-  suited = λ allows machine state decoded at all linked fits typed. typed_suits machine state decoded at linked fits typed allows all;
+  suited = λ machine state decoded at linked fits typed. typed_suits machine state decoded at linked fits typed;
 }

@@ -9,8 +9,8 @@ use mir.Val.{SFits}
 pub returns-in_default-range_in : goal.returns-in_default-range_in
 returns-in_default-range_in g c =
     let program = c.args.program.now in
-    let objects = g.S.Store.kept c.args.store.now in
-    let index = g.S.Store.index c.args.store.now in
+    let objects = (g.S.Store.storage c.args.store.now).kept in
+    let index = (g.S.Store.storage c.args.store.now).index in
     let from : SFits w32 c.args.from = c.ranges.from in
     let at : SFits w32 c.args.at = c.ranges.at in
     let count : SFits w32 c.args.count = c.ranges.count in
@@ -28,8 +28,8 @@ returns-in_default-range_in g c =
 pub returns-in_default-range_in-2 : goal.returns-in_default-range_in-2
 returns-in_default-range_in-2 g c =
     let program = c.args.program.now in
-    let objects = g.S.Store.kept c.args.store.now in
-    let index = g.S.Store.index c.args.store.now in
+    let objects = (g.S.Store.storage c.args.store.now).kept in
+    let index = (g.S.Store.storage c.args.store.now).index in
     let from : SFits w32 c.args.from = c.ranges.from in
     let at : SFits w32 c.args.at = c.ranges.at in
     let count : SFits w32 c.args.count = c.ranges.count in
@@ -47,8 +47,8 @@ returns-in_default-range_in-2 g c =
 pub returns : goal.returns
 returns g c =
     let program = c.args.program.now in
-    let objects = g.S.Store.kept c.args.store.now in
-    let index = g.S.Store.index c.args.store.now in
+    let objects = (g.S.Store.storage c.args.store.now).kept in
+    let index = (g.S.Store.storage c.args.store.now).index in
     let from : SFits w32 c.args.from = c.ranges.from in
     let at : SFits w32 c.args.at = c.ranges.at in
     let count : SFits w32 c.args.count = c.ranges.count in

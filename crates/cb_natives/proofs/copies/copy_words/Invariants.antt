@@ -5,16 +5,14 @@ use Rattle.cb_natives.proofs.copies.copy_words.Given as goal
 
 abbrev pub invariant-loop-left : goal.invariant-loop-left
 invariant-loop-left g l = record {
-  kept : g.S.Store.kept l.store
-      ≡ copied_back (g.S.Store.kept l.fn.store) (serial_of (g.S.Store.index l.fn.store) l.source) l.start (serial_of (g.S.Store.index l.fn.store) l.to) l.at l.count l.left;
+  kept : (g.S.Store.storage l.store).kept
+      ≡ copied_back (g.S.Store.storage l.fn.store).kept (serial_of (g.S.Store.storage l.fn.store).index l.source) l.start (serial_of (g.S.Store.storage l.fn.store).index l.to) l.at l.count l.left;
   low : l.left ≤ l.count;
-  places : g.S.Store.index l.store ≡ g.S.Store.index l.fn.store;
-  facts : g.S.Store.facts l.store ≡ g.S.Store.facts l.fn.store;
-  granted : g.S.Store.granted l.store ≡ g.S.Store.granted l.fn.store;
-  faults : g.S.Store.faults l.store ≡ g.S.Store.faults l.fn.store;
-  knows : g.S.Store.knows l.store ≡ g.S.Store.knows l.fn.store;
-  allows : g.S.Store.allows l.store ≡ g.S.Store.allows l.fn.store;
-  shapes : g.S.Store.shapes l.store ≡ g.S.Store.shapes l.fn.store;
+  places : (g.S.Store.storage l.store).index ≡ (g.S.Store.storage l.fn.store).index;
+  facts : (g.S.Store.storage l.store).facts ≡ (g.S.Store.storage l.fn.store).facts;
+  granted : (g.S.Store.storage l.store).granted ≡ (g.S.Store.storage l.fn.store).granted;
+  faults : (g.S.Store.storage l.store).faults ≡ (g.S.Store.storage l.fn.store).faults;
+  settings : (g.S.Store.storage l.store).settings ≡ (g.S.Store.storage l.fn.store).settings;
 }
 
 abbrev pub decreases-loop-left : goal.decreases-loop-left

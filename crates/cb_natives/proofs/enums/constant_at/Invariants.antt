@@ -8,5 +8,5 @@ use Rattle.cb_natives.proofs.enums.constant_at.Given as goal
 
 abbrev pub invariant-loop-place : goal.invariant-loop-place
 invariant-loop-place g l =
-    let units = units_in (g.S.Store.kept l.store) (serial_of (g.S.Store.index l.store) l.array) in
+    let units = units_in (g.S.Store.storage l.store).kept (serial_of (g.S.Store.storage l.store).index l.array) in
     constant_named l.program l.class units ≡ find (λ slot. has_name units (static_at l.program slot)) (drop l.place (enum_statics l.program.classes l.class))

@@ -14,10 +14,10 @@ use Rattle.cb_natives.proofs.enums.find_constant.Goals as goal
 pub returns-in-Some-clause-found : goal.returns-in-Some-clause-found
 returns-in-Some-clause-found g c =
     λ frames input printed.
-    let index = g.S.Store.index c.args.store.now in
-    let call = call_in c.args.program.now (seen index (g.S.Store.kept c.args.store.now) c.args.roots.now.roots) frames input printed in
+    let index = (g.S.Store.storage c.args.store.now).index in
+    let call = call_in c.args.program.now (seen index (g.S.Store.storage c.args.store.now).kept c.args.roots.now.roots) frames input printed in
     let given =
-    subst (λ (arguments : List Value). AreGiven (g.S.Store.kept c.args.store.now) (roles natives.EnumValueOf) (map (read_value index) arguments)) c.references-at.ensures c.requires.given in
+    subst (λ (arguments : List Value). AreGiven (g.S.Store.storage c.args.store.now).kept (roles natives.EnumValueOf) (map (read_value index) arguments)) c.references-at.ensures c.requires.given in
     let holds = given.0.there (serial_not index c.references-at.result.0 c.if-at-eq0.false) in
     ap (λ (arguments : List Value). finds_constant call (map (read_value index) arguments)) c.references-at.ensures
     ∙ class_object call index c.references-at.result.0 (serial_of index c.references-at.result.1) (Number holds.number) (Some c.in-Some.class) c.if-at-eq0.false holds.is c.in-Some.ensures.class
@@ -26,10 +26,10 @@ returns-in-Some-clause-found g c =
 pub returns-in-None-clause-found : goal.returns-in-None-clause-found
 returns-in-None-clause-found g c =
     λ frames input printed.
-    let index = g.S.Store.index c.args.store.now in
-    let call = call_in c.args.program.now (seen index (g.S.Store.kept c.args.store.now) c.args.roots.now.roots) frames input printed in
+    let index = (g.S.Store.storage c.args.store.now).index in
+    let call = call_in c.args.program.now (seen index (g.S.Store.storage c.args.store.now).kept c.args.roots.now.roots) frames input printed in
     let given =
-    subst (λ (arguments : List Value). AreGiven (g.S.Store.kept c.args.store.now) (roles natives.EnumValueOf) (map (read_value index) arguments)) c.references-at.ensures c.requires.given in
+    subst (λ (arguments : List Value). AreGiven (g.S.Store.storage c.args.store.now).kept (roles natives.EnumValueOf) (map (read_value index) arguments)) c.references-at.ensures c.requires.given in
     let holds = given.0.there (serial_not index c.references-at.result.0 c.if-at-eq0.false) in
     ap (λ (arguments : List Value). finds_constant call (map (read_value index) arguments)) c.references-at.ensures
     ∙ class_object call index c.references-at.result.0 (serial_of index c.references-at.result.1) (Number holds.number) None c.if-at-eq0.false holds.is c.in-None.ensures.class

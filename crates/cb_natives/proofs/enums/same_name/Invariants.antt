@@ -6,5 +6,5 @@ use Rattle.cb_natives.proofs.enums.same_name.Given as goal
 
 abbrev pub invariant-loop-place : goal.invariant-loop-place
 invariant-loop-place g l =
-    same_text l.name (units_in (g.S.Store.kept l.store) (serial_of (g.S.Store.index l.store) l.array))
-    ≡ same_text (drop l.place l.name) (drop l.place (units_in (g.S.Store.kept l.store) (serial_of (g.S.Store.index l.store) l.array)))
+    same_text l.name (units_in (g.S.Store.storage l.store).kept (serial_of (g.S.Store.storage l.store).index l.array))
+    ≡ same_text (drop l.place l.name) (drop l.place (units_in (g.S.Store.storage l.store).kept (serial_of (g.S.Store.storage l.store).index l.array)))

@@ -1,4 +1,4 @@
-use Rattle.std.proofs.Common.{◌≡◌, ◌<◌, ◌≤◌, ◌^◌, ℕ, arith, get_or, length}
+use Rattle.std.proofs.Common.{◌≡◌, ◌<◌, ◌^◌, ℕ, arith, get_or, length}
 use Rattle.cb_natives.proofs.Inputs.{front_read}
 use Rattle.cb_natives.proofs.input.read_front.Goals as goal
 

@@ -5,15 +5,13 @@ use Rattle.cb_natives.proofs.input.write_bytes.Given as goal
 
 abbrev pub invariant-loop-left : goal.invariant-loop-left
 invariant-loop-left g l = record {
-  kept : g.S.Store.kept l.store ≡ bytes_back (g.S.Store.kept l.fn.store) (serial_of (g.S.Store.index l.fn.store) l.at) l.from l.bytes l.left;
+  kept : (g.S.Store.storage l.store).kept ≡ bytes_back (g.S.Store.storage l.fn.store).kept (serial_of (g.S.Store.storage l.fn.store).index l.at) l.from l.bytes l.left;
   low : l.left ≤ length l.bytes;
-  places : g.S.Store.index l.store ≡ g.S.Store.index l.fn.store;
-  facts : g.S.Store.facts l.store ≡ g.S.Store.facts l.fn.store;
-  granted : g.S.Store.granted l.store ≡ g.S.Store.granted l.fn.store;
-  faults : g.S.Store.faults l.store ≡ g.S.Store.faults l.fn.store;
-  knows : g.S.Store.knows l.store ≡ g.S.Store.knows l.fn.store;
-  allows : g.S.Store.allows l.store ≡ g.S.Store.allows l.fn.store;
-  shapes : g.S.Store.shapes l.store ≡ g.S.Store.shapes l.fn.store;
+  places : (g.S.Store.storage l.store).index ≡ (g.S.Store.storage l.fn.store).index;
+  facts : (g.S.Store.storage l.store).facts ≡ (g.S.Store.storage l.fn.store).facts;
+  granted : (g.S.Store.storage l.store).granted ≡ (g.S.Store.storage l.fn.store).granted;
+  faults : (g.S.Store.storage l.store).faults ≡ (g.S.Store.storage l.fn.store).faults;
+  settings : (g.S.Store.storage l.store).settings ≡ (g.S.Store.storage l.fn.store).settings;
 }
 
 abbrev pub decreases-loop-left : goal.decreases-loop-left

@@ -1,4 +1,4 @@
-use Rattle.std.proofs.Common.{◌≡◌, ◌∙◌, ap, length, refl, rules, sym, w32, ℕ, None, Some}
+use Rattle.std.proofs.Common.{◌≡◌, ◌∙◌, ap, length, refl, rules, sym, w32, None, Some}
 use Rattle.std.proofs.lemmas.Int.{to_z-of_z}
 use Rattle.cb_heap.specs.Kept.{contents_at}
 use Rattle.cb_heap.specs.Reading.{serial_of}
@@ -10,12 +10,12 @@ use mir.Val.{SFits}
 pub returns-then-at-eq0 : goal.returns-then-at-eq0
 returns-then-at-eq0 g c =
     let asked = c.references_ints-at.result in
-    null_stops (g.S.Store.kept c.args.store.now) (g.S.Store.index c.args.store.now) c.args.arguments.now asked.0 asked.1 asked.2 asked.3 c.references_ints-at.ensures c.if-at-eq0.true
+    null_stops (g.S.Store.storage c.args.store.now).kept (g.S.Store.storage c.args.store.now).index c.args.arguments.now asked.0 asked.1 asked.2 asked.3 c.references_ints-at.ensures c.if-at-eq0.true
 
 pub returns-in-Some : goal.returns-in-Some
 returns-in-Some g c =
-    let objects = g.S.Store.kept c.args.store.now in
-    let index = g.S.Store.index c.args.store.now in
+    let objects = (g.S.Store.storage c.args.store.now).kept in
+    let index = (g.S.Store.storage c.args.store.now).index in
     let asked = c.references_ints-at.result in
     let holds = range_holds objects index c.args.arguments.now asked.0 asked.1 asked.2 asked.3 c.references_ints-at.ensures c.requires.given c.if-at-eq0.false in
     let from : SFits w32 asked.2 = search rules in
@@ -27,8 +27,8 @@ returns-in-Some g c =
 
 pub returns-in-None : goal.returns-in-None
 returns-in-None g c =
-    let objects = g.S.Store.kept c.args.store.now in
-    let index = g.S.Store.index c.args.store.now in
+    let objects = (g.S.Store.storage c.args.store.now).kept in
+    let index = (g.S.Store.storage c.args.store.now).index in
     let asked = c.references_ints-at.result in
     let holds = range_holds objects index c.args.arguments.now asked.0 asked.1 asked.2 asked.3 c.references_ints-at.ensures c.requires.given c.if-at-eq0.false in
     let from : SFits w32 asked.2 = search rules in

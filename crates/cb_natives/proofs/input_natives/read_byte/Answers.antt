@@ -1,4 +1,4 @@
-use Rattle.std.proofs.Common.{◌≡◌, refl, take}
+use Rattle.std.proofs.Common.{refl, take}
 use Rattle.cb_natives.proofs.Inputs.{took_front}
 use Rattle.cb_natives.proofs.input_natives.read_byte.Goals as goal
 

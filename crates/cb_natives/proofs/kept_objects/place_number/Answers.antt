@@ -9,7 +9,7 @@ use Rattle.cb_natives.proofs.kept_objects.place_number.Goals as goal
 pub returns-clause-kept : goal.returns-clause-kept
 returns-clause-kept g c =
     c.put.ensures.kept
-    ∙ ap (λ (number : ℤ). with_content (g.S.Store.kept c.place-at.new.self) (serial_of (g.S.Store.index c.place-at.new.self) c.place-at.result) 0 (Number number))
+    ∙ ap (λ (number : ℤ). with_content (g.S.Store.storage c.place-at.new.self).kept (serial_of (g.S.Store.storage c.place-at.new.self).index c.place-at.result) 0 (Number number))
     (c.word_of.ensures ∙ to_z-of_z w64 c.args.number c.ranges.number)
-    ∙ number_put (g.S.Store.kept c.args.store.now) (g.S.Store.kept c.place-at.new.self) (g.S.Store.index c.place-at.new.self) c.place-at.result c.args.site c.args.kind
-    (g.S.Store.shapes c.args.store.now) c.requires.shape c.place-at.ensures.kept c.place-at.ensures.serial (Number c.args.number)
+    ∙ number_put (g.S.Store.storage c.args.store.now).kept (g.S.Store.storage c.place-at.new.self).kept (g.S.Store.storage c.place-at.new.self).index c.place-at.result c.args.site c.args.kind
+    (g.S.Store.storage c.args.store.now).settings.shapes c.requires.shape c.place-at.ensures.kept c.place-at.ensures.serial (Number c.args.number)

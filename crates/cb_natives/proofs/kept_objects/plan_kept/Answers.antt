@@ -1,3 +1,4 @@
+use Rattle.cb_heap.specs.Storage.{view_in}
 use Rattle.std.proofs.Common.{◌∙◌, List, ap, map, subst, sym}
 use Rattle.cb_heap.specs.Reading.{read_value, seen}
 use Rattle.cb_plain.specs.Requests.{add_want}
@@ -8,8 +9,8 @@ use Rattle.cb_natives.proofs.kept_objects.plan_kept.Goals as goal
 
 pub returns-then-found-eq0-clause-planned : goal.returns-then-found-eq0-clause-planned
 returns-then-found-eq0-clause-planned g c =
-    let objects = g.S.Store.kept c.args.store.now in
-    let index = g.S.Store.index c.args.store.now in
+    let objects = (g.S.Store.storage c.args.store.now).kept in
+    let index = (g.S.Store.storage c.args.store.now).index in
     let view = seen index objects c.args.roots.now.roots in
     let arguments = map (read_value index) c.args.arguments.now in
     subst (λ (wants : List Want). Asks c.args.program.now view c.args.native arguments wants)
@@ -19,8 +20,8 @@ returns-then-found-eq0-clause-planned g c =
 
 pub returns-else-found-eq0-clause-planned : goal.returns-else-found-eq0-clause-planned
 returns-else-found-eq0-clause-planned g c =
-    let objects = g.S.Store.kept c.args.store.now in
-    let index = g.S.Store.index c.args.store.now in
+    let objects = (g.S.Store.storage c.args.store.now).kept in
+    let index = (g.S.Store.storage c.args.store.now).index in
     let view = seen index objects c.args.roots.now.roots in
     let arguments = map (read_value index) c.args.arguments.now in
     subst (λ (wants : List Want). Asks c.args.program.now view c.args.native arguments wants) (sym c.clear.ensures)
@@ -28,5 +29,5 @@ returns-else-found-eq0-clause-planned g c =
 
 pub returns-in-Err-clause-planned : goal.returns-in-Err-clause-planned
 returns-in-Err-clause-planned g c =
-    throws_so c.args.program.now (seen (g.S.Store.index c.args.store.now) (g.S.Store.kept c.args.store.now) c.args.roots.now.roots) c.args.native
-    (map (read_value (g.S.Store.index c.args.store.now)) c.args.arguments.now) c.in-Err.exception c.in-Err.ensures
+    throws_so c.args.program.now (view_in (g.S.Store.storage c.args.store.now) c.args.roots.now.roots) c.args.native
+    (map (read_value (g.S.Store.storage c.args.store.now).index) c.args.arguments.now) c.in-Err.exception c.in-Err.ensures

@@ -7,7 +7,7 @@ use Rattle.cb_natives.proofs.number_boxes.plan_number.Goals as goal
 
 pub returns-else-setting_of-eq0-clause-planned : goal.returns-else-setting_of-eq0-clause-planned
 returns-else-setting_of-eq0-clause-planned g c = λ roots.
-    let objects = g.S.Store.kept c.args.store.now in
-    let arguments = map (read_value (g.S.Store.index c.args.store.now)) c.args.arguments.now in
+    let objects = (g.S.Store.storage c.args.store.now).kept in
+    let arguments = map (read_value (g.S.Store.storage c.args.store.now).index) c.args.arguments.now in
     subst (λ (wants : List Want). Asks c.args.program.now (record { roots = roots; objects = objects }) c.args.native arguments wants) (sym c.clear.ensures)
-    (some_asks objects (g.S.Store.index c.args.store.now) c.args.native arguments c.setting_of.result c.setting_of.ensures c.args.program.now c.if-setting_of-eq0.false roots)
+    (some_asks objects (g.S.Store.storage c.args.store.now).index c.args.native arguments c.setting_of.result c.setting_of.ensures c.args.program.now c.if-setting_of-eq0.false roots)

@@ -12,13 +12,13 @@ use Rattle.cb_natives.proofs.own_appending.append_string.Goals as goal
 
 pub append-requires-clause-may : goal.append-requires-clause-may
 append-requires-clause-may g c =
-    record { is = c.ascii_text.ensures.is c.args.program.now (g.S.Store.kept c.args.store.now) (g.S.Store.index c.args.store.now); may = c.ascii_text.ensures.may (g.S.Store.index c.args.store.now) }
+    record { is = c.ascii_text.ensures.is c.args.program.now (g.S.Store.storage c.args.store.now).kept (g.S.Store.storage c.args.store.now).index; may = c.ascii_text.ensures.may (g.S.Store.storage c.args.store.now).index }
 
 pub returns-in-Some : goal.returns-in-Some
 returns-in-Some g c =
     let program = c.args.program.now in
-    let objects = g.S.Store.kept c.args.store.now in
-    let index = g.S.Store.index c.args.store.now in
+    let objects = (g.S.Store.storage c.args.store.now).kept in
+    let index = (g.S.Store.storage c.args.store.now).index in
     let serial = serial_of index c.args.at in
     decided_as c.append-in-Some.ensures
     (λ frames beside.
@@ -30,8 +30,8 @@ returns-in-Some g c =
 pub returns-in-None : goal.returns-in-None
 returns-in-None g c =
     let program = c.args.program.now in
-    let objects = g.S.Store.kept c.args.store.now in
-    let index = g.S.Store.index c.args.store.now in
+    let objects = (g.S.Store.storage c.args.store.now).kept in
+    let index = (g.S.Store.storage c.args.store.now).index in
     let serial = serial_of index c.args.at in
     decided_err program objects index (λ call. own_native call natives.StringBuilderAppendString (values.Ref serial ∷ values.Ref (serial_of index c.args.string) ∷ [])) exceptions.NullPointer
     (λ frames beside.

@@ -14,8 +14,8 @@ use Rattle.cb_natives.proofs.own_building.new_builder_sized.Goals as goal
 pub returns-in-Some : goal.returns-in-Some
 returns-in-Some g c =
     let program = c.args.program.now in
-    let objects = g.S.Store.kept c.args.store.now in
-    let index = g.S.Store.index c.args.store.now in
+    let objects = (g.S.Store.storage c.args.store.now).kept in
+    let index = (g.S.Store.storage c.args.store.now).index in
     let serial = serial_of index c.args.at in
     decided_as c.build.ensures
     (λ frames beside.
@@ -26,8 +26,8 @@ returns-in-Some g c =
 pub returns-in-None : goal.returns-in-None
 returns-in-None g c =
     let program = c.args.program.now in
-    let objects = g.S.Store.kept c.args.store.now in
-    let index = g.S.Store.index c.args.store.now in
+    let objects = (g.S.Store.storage c.args.store.now).kept in
+    let index = (g.S.Store.storage c.args.store.now).index in
     let serial = serial_of index c.args.at in
     decided_err program objects index (λ call. own_native call natives.StringBuilderNewCapacity (values.Ref serial ∷ values.Int c.args.room ∷ [])) exceptions.NegativeArraySize
     (λ frames beside. sized_not (call_of program objects frames beside) serial c.args.room (c.requires.there (serial_not index c.args.at c.if-at-eq0.false)) (ap natural_in (sym (to_z-of_z w32 c.args.room c.ranges.room)) ∙ sym c.natural_in.ensures.is ∙ c.in-None.is))

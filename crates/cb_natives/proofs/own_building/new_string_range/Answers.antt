@@ -13,8 +13,8 @@ use mir.Val.{SFits}
 pub returns-in-Some : goal.returns-in-Some
 returns-in-Some g c =
     let program = c.args.program.now in
-    let objects = g.S.Store.kept c.args.store.now in
-    let index = g.S.Store.index c.args.store.now in
+    let objects = (g.S.Store.storage c.args.store.now).kept in
+    let index = (g.S.Store.storage c.args.store.now).index in
     let serial = serial_of index c.args.at in
     let array = serial_of index c.args.array in
     let from : SFits w32 c.args.from = c.ranges.from in

@@ -14,8 +14,8 @@ use Rattle.cb_natives.proofs.own_editing.set_length.Goals as goal
 pub returns-in-Some : goal.returns-in-Some
 returns-in-Some g c =
     let program = c.args.program.now in
-    let objects = g.S.Store.kept c.args.store.now in
-    let index = g.S.Store.index c.args.store.now in
+    let objects = (g.S.Store.storage c.args.store.now).kept in
+    let index = (g.S.Store.storage c.args.store.now).index in
     let serial = serial_of index c.args.at in
     let built = c.built_at-built.result in
     decided_as c.hold.ensures
@@ -28,8 +28,8 @@ returns-in-Some g c =
 pub returns-in-None : goal.returns-in-None
 returns-in-None g c =
     let program = c.args.program.now in
-    let objects = g.S.Store.kept c.args.store.now in
-    let index = g.S.Store.index c.args.store.now in
+    let objects = (g.S.Store.storage c.args.store.now).kept in
+    let index = (g.S.Store.storage c.args.store.now).index in
     let serial = serial_of index c.args.at in
     decided_err program objects index (λ call. own_native call natives.StringBuilderSetLength (values.Ref serial ∷ values.Int c.args.length ∷ [])) exceptions.StringIndexOutOfBounds
     (λ frames beside. cut_not (call_of program objects frames beside) index serial c.built_at-built.result c.args.length c.built_at-built.ensures (ap natural_in (sym (to_z-of_z w32 c.args.length c.ranges.length)) ∙ sym c.natural_in.ensures.is ∙ c.in-None.is))

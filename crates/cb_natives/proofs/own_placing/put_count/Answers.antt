@@ -12,4 +12,4 @@ returns-clause-kept g c =
     let word : int_wrap w64 (pos c.from.result) ≡ pos c.args.count =
     ap (λ word. int_wrap w64 (pos word)) c.from.ensures ∙ int_wrap_fits w64 (pos c.args.count) (record { sfits = omega (arith, fits) }) in
     c.put.ensures.kept
-    ∙ ap (λ content. with_content (g.S.Store.kept c.args.store.now) (serial_of (g.S.Store.index c.args.store.now) c.args.at) 1 (Number content)) word
+    ∙ ap (λ content. with_content (g.S.Store.storage c.args.store.now).kept (serial_of (g.S.Store.storage c.args.store.now).index c.args.at) 1 (Number content)) word

@@ -1,4 +1,5 @@
-use Rattle.std.proofs.Common.{◌∙◌, ap, Bool, IsTrue, ℕ}
+use Rattle.cb_heap.proofs.Laws.{same_allows}
+use Rattle.std.proofs.Common.{◌∙◌, ap, IsTrue, ℕ}
 use Rattle.cb_heap.specs.Kept.{is_held}
 use Rattle.cb_heap.specs.Reading.{serial_of}
 use Rattle.cb_machine.specs.Machine.{kind_of_site}
@@ -12,48 +13,48 @@ use Rattle.cb_natives.proofs.own_placing.refer.Goals as goal
 
 pub put_ref-requires-clause-there : goal.put_ref-requires-clause-there
 put_ref-requires-clause-there g c =
-    let objects = g.S.Store.kept c.args.store.now in
-    let index = g.S.Store.index c.args.store.now in
+    let objects = (g.S.Store.storage c.args.store.now).kept in
+    let index = (g.S.Store.storage c.args.store.now).index in
     let array : Object = object_of c.args.site (kind_of_site c.args.program.now c.args.site) (roomy (text_units c.args.program.now objects index c.args.text.now) c.args.room) in
-    let after = g.S.Store.index c.place_chars-array.new.store in
+    let after = (g.S.Store.storage c.place_chars-array.new.store).index in
     let held : IsTrue (is_held objects (serial_of index c.args.at)) =
-    held_so objects (serial_of index c.args.at) (own_kept objects array (serial_of index c.args.at) c.requires.may.refers (g.S.Store.kept c.place_chars-array.new.store) c.place_chars-array.ensures.kept) in
-    refers_there objects array (serial_of index c.args.at) c.requires.may.refers (g.S.Store.kept c.place_chars-array.new.store) c.place_chars-array.ensures.kept
+    held_so objects (serial_of index c.args.at) (own_kept objects array (serial_of index c.args.at) c.requires.may.refers (g.S.Store.storage c.place_chars-array.new.store).kept c.place_chars-array.ensures.kept) in
+    refers_there objects array (serial_of index c.args.at) c.requires.may.refers (g.S.Store.storage c.place_chars-array.new.store).kept c.place_chars-array.ensures.kept
     (serial_of after c.args.at) (c.place_chars-array.ensures.places c.args.at held) (serial_of after c.place_chars-array.result) c.place_chars-array.ensures.serial
 
 pub put_ref-requires-clause-held : goal.put_ref-requires-clause-held
 put_ref-requires-clause-held g c =
-    let objects = g.S.Store.kept c.args.store.now in
-    let index = g.S.Store.index c.args.store.now in
+    let objects = (g.S.Store.storage c.args.store.now).kept in
+    let index = (g.S.Store.storage c.args.store.now).index in
     let array : Object = object_of c.args.site (kind_of_site c.args.program.now c.args.site) (roomy (text_units c.args.program.now objects index c.args.text.now) c.args.room) in
-    let after = g.S.Store.index c.place_chars-array.new.store in
+    let after = (g.S.Store.storage c.place_chars-array.new.store).index in
     let held : IsTrue (is_held objects (serial_of index c.args.at)) =
-    held_so objects (serial_of index c.args.at) (own_kept objects array (serial_of index c.args.at) c.requires.may.refers (g.S.Store.kept c.place_chars-array.new.store) c.place_chars-array.ensures.kept) in
-    array_held objects array (serial_of index c.args.at) c.requires.may.refers (g.S.Store.kept c.place_chars-array.new.store) c.place_chars-array.ensures.kept
+    held_so objects (serial_of index c.args.at) (own_kept objects array (serial_of index c.args.at) c.requires.may.refers (g.S.Store.storage c.place_chars-array.new.store).kept c.place_chars-array.ensures.kept) in
+    array_held objects array (serial_of index c.args.at) c.requires.may.refers (g.S.Store.storage c.place_chars-array.new.store).kept c.place_chars-array.ensures.kept
     (serial_of after c.args.at) (c.place_chars-array.ensures.places c.args.at held) (serial_of after c.place_chars-array.result) c.place_chars-array.ensures.serial
 
 pub put_ref-requires-clause-allowed : goal.put_ref-requires-clause-allowed
 put_ref-requires-clause-allowed g c =
-    let objects = g.S.Store.kept c.args.store.now in
-    let index = g.S.Store.index c.args.store.now in
+    let objects = (g.S.Store.storage c.args.store.now).kept in
+    let index = (g.S.Store.storage c.args.store.now).index in
     let array : Object = object_of c.args.site (kind_of_site c.args.program.now c.args.site) (roomy (text_units c.args.program.now objects index c.args.text.now) c.args.room) in
-    let after = g.S.Store.index c.place_chars-array.new.store in
+    let after = (g.S.Store.storage c.place_chars-array.new.store).index in
     let held : IsTrue (is_held objects (serial_of index c.args.at)) =
-    held_so objects (serial_of index c.args.at) (own_kept objects array (serial_of index c.args.at) c.requires.may.refers (g.S.Store.kept c.place_chars-array.new.store) c.place_chars-array.ensures.kept) in
-    may_refer objects array (serial_of index c.args.at) c.requires.may.refers (g.S.Store.kept c.place_chars-array.new.store) c.place_chars-array.ensures.kept
+    held_so objects (serial_of index c.args.at) (own_kept objects array (serial_of index c.args.at) c.requires.may.refers (g.S.Store.storage c.place_chars-array.new.store).kept c.place_chars-array.ensures.kept) in
+    may_refer objects array (serial_of index c.args.at) c.requires.may.refers (g.S.Store.storage c.place_chars-array.new.store).kept c.place_chars-array.ensures.kept
     (serial_of after c.args.at) (c.place_chars-array.ensures.places c.args.at held) (serial_of after c.place_chars-array.result) c.place_chars-array.ensures.serial
-    (g.S.Store.allows c.place_chars-array.new.store) (λ one other. ap (λ (allows : ℕ → ℕ → Bool). allows one other) c.place_chars-array.ensures.allows ∙ c.requires.allowed one other)
+    (g.S.Store.storage c.args.store.now).settings.allows (g.S.Store.storage c.place_chars-array.new.store).settings.allows (same_allows c.place_chars-array.ensures.settings) c.requires.follows
 
 pub returns-clause-kept : goal.returns-clause-kept
 returns-clause-kept g c =
-    let objects = g.S.Store.kept c.args.store.now in
-    let index = g.S.Store.index c.args.store.now in
+    let objects = (g.S.Store.storage c.args.store.now).kept in
+    let index = (g.S.Store.storage c.args.store.now).index in
     let array : Object = object_of c.args.site (kind_of_site c.args.program.now c.args.site) (roomy (text_units c.args.program.now objects index c.args.text.now) c.args.room) in
-    let after = g.S.Store.index c.place_chars-array.new.store in
+    let after = (g.S.Store.storage c.place_chars-array.new.store).index in
     let held : IsTrue (is_held objects (serial_of index c.args.at)) =
-    held_so objects (serial_of index c.args.at) (own_kept objects array (serial_of index c.args.at) c.requires.may.refers (g.S.Store.kept c.place_chars-array.new.store) c.place_chars-array.ensures.kept) in
+    held_so objects (serial_of index c.args.at) (own_kept objects array (serial_of index c.args.at) c.requires.may.refers (g.S.Store.storage c.place_chars-array.new.store).kept c.place_chars-array.ensures.kept) in
     c.put_ref.ensures.kept
-    ∙ referred objects array (serial_of index c.args.at) c.requires.may.refers (g.S.Store.kept c.place_chars-array.new.store) c.place_chars-array.ensures.kept
+    ∙ referred objects array (serial_of index c.args.at) c.requires.may.refers (g.S.Store.storage c.place_chars-array.new.store).kept c.place_chars-array.ensures.kept
     (serial_of after c.args.at) (c.place_chars-array.ensures.places c.args.at held) (serial_of after c.place_chars-array.result) c.place_chars-array.ensures.serial
 
 pub returns-clause-places : goal.returns-clause-places

@@ -11,18 +11,18 @@ use Rattle.cb_plain.specs.State.{Object}
 use Rattle.cb_natives.proofs.own_placing.write_chars.Goals as goal
 
 pub write_piece-requires-clause-numbers : goal.write_piece-requires-clause-numbers
-write_piece-requires-clause-numbers g c = holds_numbers (g.S.Store.kept c.args.store.now) (serial_of (g.S.Store.index c.args.store.now) c.args.array) c.requires.own.units
+write_piece-requires-clause-numbers g c = holds_numbers (g.S.Store.storage c.args.store.now).kept (serial_of (g.S.Store.storage c.args.store.now).index c.args.array) c.requires.own.units
 
 pub write_piece-requires-clause-few : goal.write_piece-requires-clause-few
 write_piece-requires-clause-few g c = c.requires.own.units.few
 
 pub put_count-requires : goal.put_count-requires
 put_count-requires g c =
-    let objects = g.S.Store.kept c.args.store.now in
-    let index = g.S.Store.index c.args.store.now in
+    let objects = (g.S.Store.storage c.args.store.now).kept in
+    let index = (g.S.Store.storage c.args.store.now).index in
     let array = serial_of index c.args.array in
     let serial = serial_of index c.args.at in
-    ap (λ (index : ℕ → ℕ). is_number (content_at (g.S.Store.kept c.write_piece.new.store) (serial_of index c.args.at) 1)) c.write_piece.ensures.places
+    ap (λ (index : ℕ → ℕ). is_number (content_at (g.S.Store.storage c.write_piece.new.store).kept (serial_of index c.args.at) 1)) c.write_piece.ensures.places
     ∙ ap (λ (kept : List (Option Object)). is_number (content_at kept serial 1)) c.write_piece.ensures.kept
     ∙ ap is_number (other_content objects array serial 1
     (overwritten (contents_at objects array) c.args.from (unit_contents (piece_units c.args.program.now objects index c.args.piece.now))) c.requires.own.apart)
@@ -31,5 +31,5 @@ put_count-requires g c =
 pub returns-clause-kept : goal.returns-clause-kept
 returns-clause-kept g c =
     c.put_count.ensures.kept
-    ∙ ap (λ (index : ℕ → ℕ). counting (g.S.Store.kept c.write_piece.new.store) (serial_of index c.args.at) c.args.count) c.write_piece.ensures.places
-    ∙ ap (λ (kept : List (Option Object)). counting kept (serial_of (g.S.Store.index c.args.store.now) c.args.at) c.args.count) c.write_piece.ensures.kept
+    ∙ ap (λ (index : ℕ → ℕ). counting (g.S.Store.storage c.write_piece.new.store).kept (serial_of index c.args.at) c.args.count) c.write_piece.ensures.places
+    ∙ ap (λ (kept : List (Option Object)). counting kept (serial_of (g.S.Store.storage c.args.store.now).index c.args.at) c.args.count) c.write_piece.ensures.kept

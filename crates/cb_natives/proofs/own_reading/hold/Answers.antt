@@ -6,8 +6,8 @@ use Rattle.cb_natives.proofs.own_reading.hold.Goals as goal
 pub returns-then-count-from : goal.returns-then-count-from
 returns-then-count-from g c =
     let program = c.args.program.now in
-    let objects = g.S.Store.kept c.args.store.now in
-    let index = g.S.Store.index c.args.store.now in
+    let objects = (g.S.Store.storage c.args.store.now).kept in
+    let index = (g.S.Store.storage c.args.store.now).index in
     let count = c.from.result + c.piece_size.result in
     let from = c.from.ensures in
     let size = c.piece_size.ensures.is in
@@ -18,8 +18,8 @@ returns-then-count-from g c =
 pub returns : goal.returns
 returns g c =
     let program = c.args.program.now in
-    let objects = g.S.Store.kept c.args.store.now in
-    let index = g.S.Store.index c.args.store.now in
+    let objects = (g.S.Store.storage c.args.store.now).kept in
+    let index = (g.S.Store.storage c.args.store.now).index in
     let count = c.from.result + c.piece_size.result in
     let from = c.from.ensures in
     let size = c.piece_size.ensures.is in

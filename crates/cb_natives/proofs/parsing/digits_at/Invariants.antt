@@ -6,4 +6,4 @@ use Rattle.cb_natives.specs.Parsing.{at_most}
 use Rattle.cb_natives.proofs.parsing.digits_at.Given as goal
 
 abbrev pub invariant-loop-place : goal.invariant-loop-place
-invariant-loop-place g l = (l.sum ≤ 2 ^ 63) × (at_most (read_some (drop l.start (units_in (g.S.Store.kept l.store) (serial_of (g.S.Store.index l.store) l.array)))) ≡ at_most (read_digits l.sum (drop l.place (units_in (g.S.Store.kept l.store) (serial_of (g.S.Store.index l.store) l.array)))))
+invariant-loop-place g l = (l.sum ≤ 2 ^ 63) × (at_most (read_some (drop l.start (units_in (g.S.Store.storage l.store).kept (serial_of (g.S.Store.storage l.store).index l.array)))) ≡ at_most (read_digits l.sum (drop l.place (units_in (g.S.Store.storage l.store).kept (serial_of (g.S.Store.storage l.store).index l.array)))))

@@ -7,8 +7,8 @@ use Rattle.cb_natives.proofs.range_copies.fitting_count.Goals as goal
 
 pub returns-in_default : goal.returns-in_default
 returns-in_default g c =
-    let objects = g.S.Store.kept c.args.store.now in
-    let source = serial_of (g.S.Store.index c.args.store.now) c.args.source in
+    let objects = (g.S.Store.storage c.args.store.now).kept in
+    let source = serial_of (g.S.Store.storage c.args.store.now).index c.args.source in
     record {
       fit = λ frames beside.
           numbers_fit (call_of c.args.program.now objects frames beside) c.args.element (words_from objects source c.args.start c.args.count) c.in_default.not-Reference

@@ -9,8 +9,8 @@ use Rattle.cb_natives.proofs.range_copies.instances.Goals as goal
 
 pub returns-then-not-fits-clause-fit : goal.returns-then-not-fits-clause-fit
 returns-then-not-fits-clause-fit g c = λ frames beside.
-    let objects = g.S.Store.kept c.args.store.now in
-    let source = serial_of (g.S.Store.index c.args.store.now) c.args.source in
+    let objects = (g.S.Store.storage c.args.store.now).kept in
+    let source = serial_of (g.S.Store.storage c.args.store.now).index c.args.source in
     let words = words_from objects source c.args.start c.args.count in
     let low : c.loop-i.i < c.args.count = omega (arith, c.loop-i-test.true) in
     let under : c.loop-i.i < length words = omega (arith, low, range_length objects source c.args.start c.args.count c.requires.may.within) in
@@ -20,8 +20,8 @@ returns-then-not-fits-clause-fit g c = λ frames beside.
 
 pub loop-i-preserved : goal.loop-i-preserved
 loop-i-preserved g c = λ frames beside.
-    let objects = g.S.Store.kept c.args.store.now in
-    let source = serial_of (g.S.Store.index c.args.store.now) c.args.source in
+    let objects = (g.S.Store.storage c.args.store.now).kept in
+    let source = serial_of (g.S.Store.storage c.args.store.now).index c.args.source in
     let words = words_from objects source c.args.start c.args.count in
     let low : c.loop-i.i < c.args.count = omega (arith, c.loop-i-test.true) in
     let under : c.loop-i.i < length words = omega (arith, low, range_length objects source c.args.start c.args.count c.requires.may.within) in

@@ -9,7 +9,7 @@ use Rattle.cb_natives.proofs.range_copies.instances.Given as goal
 
 abbrev pub invariant-loop-i : goal.invariant-loop-i
 invariant-loop-i g l = (frames : ℕ) (beside : Beside) →
-    let objects = g.S.Store.kept l.store in
-    let words = words_from objects (serial_of (g.S.Store.index l.store) l.source) l.start l.count in
+    let objects = (g.S.Store.storage l.store).kept in
+    let words = words_from objects (serial_of (g.S.Store.storage l.store).index l.source) l.start l.count in
     let call = call_of l.program objects frames beside in
     fitting call (Some (basics.Reference l.kind)) words ≡ take l.i words ++ fitting call (Some (basics.Reference l.kind)) (drop l.i words)

@@ -5,4 +5,4 @@ use Rattle.cb_natives.specs.Given.{units_in}
 use Rattle.cb_natives.proofs.scanning.begins_at.Given as goal
 
 abbrev pub invariant-loop-place : goal.invariant-loop-place
-invariant-loop-place g l = begins (drop l.start (units_in (g.S.Store.kept l.store) (serial_of (g.S.Store.index l.store) l.array))) (units_in (g.S.Store.kept l.store) (serial_of (g.S.Store.index l.store) l.part)) ≡ begins (drop (l.start + l.place) (units_in (g.S.Store.kept l.store) (serial_of (g.S.Store.index l.store) l.array))) (drop l.place (units_in (g.S.Store.kept l.store) (serial_of (g.S.Store.index l.store) l.part)))
+invariant-loop-place g l = begins (drop l.start (units_in (g.S.Store.storage l.store).kept (serial_of (g.S.Store.storage l.store).index l.array))) (units_in (g.S.Store.storage l.store).kept (serial_of (g.S.Store.storage l.store).index l.part)) ≡ begins (drop (l.start + l.place) (units_in (g.S.Store.storage l.store).kept (serial_of (g.S.Store.storage l.store).index l.array))) (drop l.place (units_in (g.S.Store.storage l.store).kept (serial_of (g.S.Store.storage l.store).index l.part)))

@@ -8,8 +8,8 @@ use mir.Val.{of_z, to_z}
 
 pub returns : goal.returns
 returns g c =
-    let units = (units_in (g.S.Store.kept c.args.store.now) (serial_of (g.S.Store.index c.args.store.now) c.args.one)) in
-    let others = (units_in (g.S.Store.kept c.args.store.now) (serial_of (g.S.Store.index c.args.store.now) c.args.other)) in
+    let units = (units_in (g.S.Store.storage c.args.store.now).kept (serial_of (g.S.Store.storage c.args.store.now).index c.args.one)) in
+    let others = (units_in (g.S.Store.storage c.args.store.now).kept (serial_of (g.S.Store.storage c.args.store.now).index c.args.other)) in
     let one = c.count-units.ensures.count in
     let other = c.count-others.ensures.count in
     let end = compared_end c.loop-place.place units others (omega (arith, one, other)) in

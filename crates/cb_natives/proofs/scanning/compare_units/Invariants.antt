@@ -5,4 +5,4 @@ use Rattle.cb_natives.specs.Given.{units_in}
 use Rattle.cb_natives.proofs.scanning.compare_units.Given as goal
 
 abbrev pub invariant-loop-place : goal.invariant-loop-place
-invariant-loop-place g l = compared (units_in (g.S.Store.kept l.store) (serial_of (g.S.Store.index l.store) l.one)) (units_in (g.S.Store.kept l.store) (serial_of (g.S.Store.index l.store) l.other)) ≡ compared (drop l.place (units_in (g.S.Store.kept l.store) (serial_of (g.S.Store.index l.store) l.one))) (drop l.place (units_in (g.S.Store.kept l.store) (serial_of (g.S.Store.index l.store) l.other)))
+invariant-loop-place g l = compared (units_in (g.S.Store.storage l.store).kept (serial_of (g.S.Store.storage l.store).index l.one)) (units_in (g.S.Store.storage l.store).kept (serial_of (g.S.Store.storage l.store).index l.other)) ≡ compared (drop l.place (units_in (g.S.Store.storage l.store).kept (serial_of (g.S.Store.storage l.store).index l.one))) (drop l.place (units_in (g.S.Store.storage l.store).kept (serial_of (g.S.Store.storage l.store).index l.other)))

@@ -12,14 +12,14 @@ returns-then-from-wanted g c =
     let few = c.count-place-end.ensures.few in
     let count = c.count-place-end.ensures.count in
     let same = to_z-of_z w32 c.args.wanted c.ranges.wanted in
-    let read = ap pos (get_or_from_slice_get (units_in (g.S.Store.kept c.args.store.now) (serial_of (g.S.Store.index c.args.store.now) c.args.array)) c.loop-place.place c.unit.result 0 c.unit.ensures) in
+    let read = ap pos (get_or_from_slice_get (units_in (g.S.Store.storage c.args.store.now).kept (serial_of (g.S.Store.storage c.args.store.now).index c.args.array)) c.loop-place.place c.unit.result 0 c.unit.ensures) in
     let is : pos c.unit.result ≡ c.args.wanted = sym c.from.ensures ∙ sym (to_z-of_z w32 c.from.result (record { sfits = c.from.type_inv })) ∙ ap (to_z w32) c.if-from-wanted.true ∙ same in
     to_z_pos w32 c.loop-place.place (omega (arith, few))
-    ∙ sym (unit_found (units_in (g.S.Store.kept c.args.store.now) (serial_of (g.S.Store.index c.args.store.now) c.args.array)) c.args.wanted c.loop-place.place (omega (arith, count)) (λ k low at. c.loop-place.invariant k low (at ∙ sym same)) (read ∙ is))
+    ∙ sym (unit_found (units_in (g.S.Store.storage c.args.store.now).kept (serial_of (g.S.Store.storage c.args.store.now).index c.args.array)) c.args.wanted c.loop-place.place (omega (arith, count)) (λ k low at. c.loop-place.invariant k low (at ∙ sym same)) (read ∙ is))
 
 pub loop-place-preserved : goal.loop-place-preserved
 loop-place-preserved g c =
-    let read = ap pos (get_or_from_slice_get (units_in (g.S.Store.kept c.args.store.now) (serial_of (g.S.Store.index c.args.store.now) c.args.array)) c.loop-place.place c.unit.result 0 c.unit.ensures) in
+    let read = ap pos (get_or_from_slice_get (units_in (g.S.Store.storage c.args.store.now).kept (serial_of (g.S.Store.storage c.args.store.now).index c.args.array)) c.loop-place.place c.unit.result 0 c.unit.ensures) in
     let same = to_z-of_z w32 c.args.wanted c.ranges.wanted in
     below_more _ _ c.loop-place.invariant (λ at. c.if-from-wanted.false (ap (of_z w32) (c.from.ensures ∙ sym read ∙ at ∙ same)))
 
@@ -27,4 +27,4 @@ pub returns : goal.returns
 returns g c =
     let count = c.count-place-end.ensures.count in
     let same = to_z-of_z w32 c.args.wanted c.ranges.wanted in
-    sym (unit_missing (units_in (g.S.Store.kept c.args.store.now) (serial_of (g.S.Store.index c.args.store.now) c.args.array)) c.args.wanted (λ k low at. c.loop-place.invariant k (omega (arith, count, low)) (at ∙ sym same)))
+    sym (unit_missing (units_in (g.S.Store.storage c.args.store.now).kept (serial_of (g.S.Store.storage c.args.store.now).index c.args.array)) c.args.wanted (λ k low at. c.loop-place.invariant k (omega (arith, count, low)) (at ∙ sym same)))

@@ -21,5 +21,5 @@ loop-place-preserved g c =
 pub returns : goal.returns
 returns g c =
     let before = c.loop-place.invariant.0 in
-    let all = drop_all c.loop-place.place (units_in (g.S.Store.kept c.args.store.now) (serial_of (g.S.Store.index c.args.store.now) c.args.array)) (omega (arith, c.count-place-end.ensures.count)) in
+    let all = drop_all c.loop-place.place (units_in (g.S.Store.storage c.args.store.now).kept (serial_of (g.S.Store.storage c.args.store.now).index c.args.array)) (omega (arith, c.count-place-end.ensures.count)) in
     c.loop-place.invariant.1 ∙ ap (int_wrap w32) (sym (c.loop-place.invariant.2 ∙ ap (hash_from before) all))

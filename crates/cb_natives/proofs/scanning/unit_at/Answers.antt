@@ -4,4 +4,4 @@ use Rattle.cb_natives.proofs.UnitLaws.{rest_of}
 use Rattle.cb_natives.proofs.scanning.unit_at.Goals as goal
 
 pub returns : goal.returns
-returns g c = rest_of (units_in (g.S.Store.kept c.args.store.now) (serial_of (g.S.Store.index c.args.store.now) c.args.array)) c.args.place c.unit.result c.unit.ensures
+returns g c = rest_of (units_in (g.S.Store.storage c.args.store.now).kept (serial_of (g.S.Store.storage c.args.store.now).index c.args.array)) c.args.place c.unit.result c.unit.ensures

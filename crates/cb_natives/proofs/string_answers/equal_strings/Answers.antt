@@ -8,8 +8,8 @@ use Rattle.cb_natives.proofs.string_answers.equal_strings.Goals as goal
 
 pub returns : goal.returns
 returns g c =
-    let objects = g.S.Store.kept c.args.store.now in
-    let index = g.S.Store.index c.args.store.now in
+    let objects = (g.S.Store.storage c.args.store.now).kept in
+    let index = (g.S.Store.storage c.args.store.now).index in
     λ machine beside.
     let call = call_on machine objects beside in
     let go = λ (units : List ℕ). gives call (int_of (equal_texts call.state units (of_kind objects 8 (serial_of index c.args.other))) ∷ []) in

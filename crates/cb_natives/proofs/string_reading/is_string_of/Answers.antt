@@ -6,10 +6,10 @@ use Rattle.cb_natives.proofs.string_reading.is_string_of.Goals as goal
 
 pub returns-in-Some : goal.returns-in-Some
 returns-in-Some g c =
-    let units = (units_in (g.S.Store.kept c.args.store.now) (serial_of (g.S.Store.index c.args.store.now) c.args.array)) in
-    λ machine beside. c.string_at.ensures.text machine beside units ∙ ap (equal_units (g.S.Store.kept c.args.store.now) (g.S.Store.index c.args.store.now) units) c.in-Some.is ∙ sym c.same_units.ensures
+    let units = (units_in (g.S.Store.storage c.args.store.now).kept (serial_of (g.S.Store.storage c.args.store.now).index c.args.array)) in
+    λ machine beside. c.string_at.ensures.text machine beside units ∙ ap (equal_units (g.S.Store.storage c.args.store.now).kept (g.S.Store.storage c.args.store.now).index units) c.in-Some.is ∙ sym c.same_units.ensures
 
 pub returns-in-None : goal.returns-in-None
 returns-in-None g c =
-    let units = (units_in (g.S.Store.kept c.args.store.now) (serial_of (g.S.Store.index c.args.store.now) c.args.array)) in
-    λ machine beside. c.string_at.ensures.text machine beside units ∙ ap (equal_units (g.S.Store.kept c.args.store.now) (g.S.Store.index c.args.store.now) units) c.in-None.is
+    let units = (units_in (g.S.Store.storage c.args.store.now).kept (serial_of (g.S.Store.storage c.args.store.now).index c.args.array)) in
+    λ machine beside. c.string_at.ensures.text machine beside units ∙ ap (equal_units (g.S.Store.storage c.args.store.now).kept (g.S.Store.storage c.args.store.now).index units) c.in-None.is

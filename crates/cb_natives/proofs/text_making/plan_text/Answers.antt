@@ -10,8 +10,8 @@ use Rattle.cb_natives.proofs.text_making.plan_text.Goals as goal
 
 pub returns-in_err-text-clause-planned : goal.returns-in_err-text-clause-planned
 returns-in_err-text-clause-planned g c =
-    let objects = g.S.Store.kept c.args.store.now in
-    let index = g.S.Store.index c.args.store.now in
+    let objects = (g.S.Store.storage c.args.store.now).kept in
+    let index = (g.S.Store.storage c.args.store.now).index in
     let held = map (read_value index) c.args.arguments.now in
     λ roots.
     handed_plan c.args.program.now (record { roots = roots; objects = objects }) c.args.native held c.clear.new.self c.from_residual.result c.in_err-text.field-0.0 c.from_residual.ensures
@@ -22,16 +22,16 @@ text_size-size-requires g c = c.in_ok-text.ensures.is c.args.program.now
 
 pub returns-then-size-gt-MOST_UNITS-clause-planned : goal.returns-then-size-gt-MOST_UNITS-clause-planned
 returns-then-size-gt-MOST_UNITS-clause-planned g c =
-    let objects = g.S.Store.kept c.args.store.now in
-    let index = g.S.Store.index c.args.store.now in
+    let objects = (g.S.Store.storage c.args.store.now).kept in
+    let index = (g.S.Store.storage c.args.store.now).index in
     let held = map (read_value index) c.args.arguments.now in
     let long : most_elements < length (text_units c.args.program.now objects index c.in_ok-text.text) = omega (arith, c.text_size-size.ensures, c.if-size-gt-MOST_UNITS.true) in
     λ roots. planned_long c.args.program.now objects index c.args.native held c.requires.makes roots c.clear.new.self c.in_ok-text.text c.in_ok-text.ensures.text long
 
 pub returns-clause-planned : goal.returns-clause-planned
 returns-clause-planned g c =
-    let objects = g.S.Store.kept c.args.store.now in
-    let index = g.S.Store.index c.args.store.now in
+    let objects = (g.S.Store.storage c.args.store.now).kept in
+    let index = (g.S.Store.storage c.args.store.now).index in
     let held = map (read_value index) c.args.arguments.now in
     let units = text_units c.args.program.now objects index c.in_ok-text.text in
     let short : length units ≤ most_elements = omega (arith, c.text_size-size.ensures, c.if-size-gt-MOST_UNITS.false) in

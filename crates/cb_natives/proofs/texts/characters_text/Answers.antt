@@ -1,4 +1,4 @@
 use Rattle.cb_natives.proofs.texts.characters_text.Goals as goal
 
 pub returns-clause-is : goal.returns-clause-is
-returns-clause-is g c = λ program. c.one_piece.ensures.is program (g.S.Store.kept c.args.store.now) (g.S.Store.index c.args.store.now) (c.all_units.ensures.is program)
+returns-clause-is g c = λ program. c.one_piece.ensures.is program (g.S.Store.storage c.args.store.now).kept (g.S.Store.storage c.args.store.now).index (c.all_units.ensures.is program)

@@ -8,8 +8,8 @@ use Rattle.cb_natives.proofs.texts.throwable_text.Goals as goal
 
 pub returns-then-message-eq0-clause-text : goal.returns-then-message-eq0-clause-text
 returns-then-message-eq0-clause-text g c =
-    let objects = g.S.Store.kept c.args.store.now in
-    let index = g.S.Store.index c.args.store.now in
+    let objects = (g.S.Store.storage c.args.store.now).kept in
+    let index = (g.S.Store.storage c.args.store.now).index in
     λ machine beside.
     let call = call_on machine objects beside in
     let there = there_so machine beside objects index c.args.at c.kind-kind.result c.if-at-eq0.false c.kind-kind.ensures in
@@ -19,12 +19,12 @@ returns-then-message-eq0-clause-text g c =
     ∙ sym (ap (gives_text call) (c.one_piece.ensures.units machine.program objects index))
 
 pub returns-then-message-eq0-clause-is : goal.returns-then-message-eq0-clause-is
-returns-then-message-eq0-clause-is g c = λ program. c.one_piece.ensures.is program (g.S.Store.kept c.args.store.now) (g.S.Store.index c.args.store.now) tt
+returns-then-message-eq0-clause-is g c = λ program. c.one_piece.ensures.is program (g.S.Store.storage c.args.store.now).kept (g.S.Store.storage c.args.store.now).index tt
 
 pub returns-clause-text : goal.returns-clause-text
 returns-clause-text g c =
-    let objects = g.S.Store.kept c.args.store.now in
-    let index = g.S.Store.index c.args.store.now in
+    let objects = (g.S.Store.storage c.args.store.now).kept in
+    let index = (g.S.Store.storage c.args.store.now).index in
     λ machine beside.
     let call = call_on machine objects beside in
     let there = there_so machine beside objects index c.args.at c.kind-kind.result c.if-at-eq0.false c.kind-kind.ensures in

@@ -1,4 +1,4 @@
 use Rattle.cb_natives.proofs.value_texts.integer_text.Goals as goal
 
 pub returns-in-Some-clause-is : goal.returns-in-Some-clause-is
-returns-in-Some-clause-is g c = λ program. c.in_decimal.ensures.is program (g.S.Store.kept c.args.store.now) (g.S.Store.index c.args.store.now)
+returns-in-Some-clause-is g c = λ program. c.in_decimal.ensures.is program (g.S.Store.storage c.args.store.now).kept (g.S.Store.storage c.args.store.now).index

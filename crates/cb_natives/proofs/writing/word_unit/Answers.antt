@@ -7,10 +7,10 @@ use Rattle.cb_natives.proofs.writing.word_unit.Goals as goal
 
 pub overflow_cast-result : goal.overflow_cast-result
 overflow_cast-result g c =
-    let content = content_at (g.S.Store.kept c.args.store.now) (serial_of (g.S.Store.index c.args.store.now) c.args.array) c.args.word in
+    let content = content_at (g.S.Store.storage c.args.store.now).kept (serial_of (g.S.Store.storage c.args.store.now).index c.args.array) c.args.word in
     record { fits = (unit_so content c.get.result c.requires c.get.type_inv c.get.ensures).0 }
 
 pub returns : goal.returns
 returns g c =
-    let content = content_at (g.S.Store.kept c.args.store.now) (serial_of (g.S.Store.index c.args.store.now) c.args.array) c.args.word in
+    let content = content_at (g.S.Store.storage c.args.store.now).kept (serial_of (g.S.Store.storage c.args.store.now).index c.args.array) c.args.word in
     sym (word_so content c.get.result (unit_so content c.get.result c.requires c.get.type_inv c.get.ensures).1)

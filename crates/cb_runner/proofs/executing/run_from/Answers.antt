@@ -1,8 +1,24 @@
+use Rattle.std.proofs.Common.{◌≤◌, [], length, subst, sym, List, ℕ}
+use Rattle.std.specs.List.{AllByRecursion}
+use Rattle.cb_act.specs.Coming.{MayCome}
+use Rattle.cb_act.specs.Turning.{machine_of as limited}
+use Rattle.cb_interp.proofs.Laws.{all_allowed}
+use Rattle.cb_machine.specs.Performing.{most_elements}
+use Rattle.cb_machine.specs.Starting.{start as begins}
+use Rattle.cb_safety.proofs.Laws.{start_is_typed}
+use Rattle.cb_safety.specs.Strings.{IsText}
 use Rattle.cb_runner.specs.Inner.{run_of}
 use Rattle.cb_runner.proofs.Begun.{begun_so, refused_by}
 use Rattle.cb_runner.proofs.Endings.{Appends-nothing, unchanged_count}
 use Rattle.cb_runner.proofs.Executed.{refused_quietly, unbegun_so}
 use Rattle.cb_runner.proofs.executing.run_from.Goals as goal
+
+pub start-requires-clause-follows : goal.start-requires-clause-follows
+start-requires-clause-follows g c =
+    let machine = limited c.args.program.now c.args.roots.now.limit in
+    let first = begins machine c.args.given.now [] in
+    (all_allowed machine c.requires.linked c.requires.fits first
+    (start_is_typed machine c.args.given.now [] (c.linked_has_start.ensures c.args.program.now c.requires.linked) (subst (AllByRecursion IsText) (sym c.requires.given) c.requires.texts.0) (subst (λ (given : List (List ℕ)). length given ≤ most_elements) (sym c.requires.given) c.requires.texts.1) tt)).each first MayCome.Here
 
 pub run_on-requires-clause-begun : goal.run_on-requires-clause-begun
 run_on-requires-clause-begun g c =

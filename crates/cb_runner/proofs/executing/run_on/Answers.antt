@@ -27,8 +27,8 @@ run-end-requires g c κs within =
         (
           search rules,
           (
-            begun_runs asks program input objects roots c.requires.begun c.args.store.now.shapes c.requires.linked c.requires.fits c.requires.shaped typed,
-            (typed, (begun_stands asks program input objects roots c.requires.begun stands, (refl, given_told left))),
+            begun_runs asks program input objects roots c.requires.begun c.args.roots.now.limit c.args.store.now.shapes c.requires.linked c.requires.fits c.requires.shaped typed,
+            (typed, (begun_stands asks program input objects roots c.requires.begun stands, (λ fixed. absurd (cc fixed), given_told left))),
           ),
         ),
       ),

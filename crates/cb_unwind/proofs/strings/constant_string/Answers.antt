@@ -8,11 +8,11 @@ use Rattle.cb_unwind.proofs.strings.constant_string.Goals as goal
 pub returns-clause-behind : goal.returns-clause-behind
 returns-clause-behind g c =
     let program = c.args.program.now in
-    let objects = g.S.Store.kept c.args.store.now in
-    let after = g.S.Store.index c.place_text-at.new.store in
-    let kept = g.S.Store.kept c.place_text-at.new.store in
+    let objects = (g.S.Store.storage c.args.store.now).kept in
+    let after = (g.S.Store.storage c.place_text-at.new.store).index in
+    let kept = (g.S.Store.storage c.place_text-at.new.store).kept in
     let none : c.table-known.result ≡ 0 = c.if-known-ne0.false in
-    new_so program (g.S.Store.index c.args.store.now) objects c.args.roots.now.roots c.args.text c.table-known.result c.table-known.ensures none
+    new_so program (g.S.Store.storage c.args.store.now).index objects c.args.roots.now.roots c.args.text c.table-known.result c.table-known.ensures none
     (c.requires.may (listed_so c.args.roots.now.roots.tables.constants c.args.text c.table-known.result c.table-known.ensures ∙ none)).closed
     after kept c.place_text-at.result c.place_text-at.ensures.places c.place_text-at.ensures.serial
     (c.place_text-at.ensures.kept

@@ -1,0 +1,90 @@
+-- Steps that don't call `System.gc`.
+use Rattle.std.proofs.Common.{◌≡◌, ◌∙◌, ap, refl, sym, ℕ, Bool, true, false, List, [], ◌∷◌, map, Option, Some, None, zero, suc, if◌then◌else◌, ◌==◌}
+use Rattle.std.proofs.lemmas.Bool.{false≢true}
+use Rattle.cb_act.proofs.Laws.{NotGc, no_gc}
+use Rattle.cb_act.specs.Acting.{Asks, acted}
+use Rattle.cb_act.specs.Here.{Here}
+use Rattle.cb_act.specs.Steps.{view_of}
+use Rattle.cb_act.specs.Sweeping.{calls_gc, gc_by_frames, is_gc}
+use Rattle.cb_act.specs.Turning.{Outside, state_of}
+use Rattle.cb_act.specs.declared.need.Need.{Need}
+use Rattle.cb_act.specs.declared.need.Need.TheVariants as needs
+use Rattle.cb_frames.specs.Tops.{topmost}
+use Rattle.cb_frames.specs.declared.frame.Frame.TheVariants as shown
+use Rattle.cb_heap.specs.Reading.{read_frame, seen, serial_of}
+use Rattle.cb_library.specs.declared.native.Native.{Native}
+use Rattle.cb_library.specs.declared.native.Native.TheVariants as natives
+use Rattle.cb_link.specs.Program.{Linked}
+use Rattle.cb_link.specs.declared.decoded.Decoded.{Decoded}
+use Rattle.cb_machine.specs.Machine.{Machine}
+use Rattle.cb_machine.specs.Natives.{native_of}
+use Rattle.cb_plain.specs.State.{Frame, Initialising, Object, OfMethod, Roots, State}
+use Rattle.cb_interp.specs.Performed.{collects}
+use Rattle.cb_interp.specs.Printing.{IsNoneOf}
+use Rattle.cb_interp.proofs.RunTyped.{not_zero}
+
+-- where an exception is pending, a class is initialised, or no frame stands
+module _ (program : Linked) (index : ℕ → ℕ) (objects : List (Option Object)) (roots : Roots) (outside : Outside) where
+  abbrev state : State
+  state = state_of (seen index objects roots) outside
+
+  pub pending_still : (roots.pending ≡ 0 → ⊥) → calls_gc program state ≡ false
+  pending_still waits = go roots.pending refl where
+    by : Bool
+    by = gc_by_frames program state.roots state.roots.frames
+
+    go : (pending : ℕ) → roots.pending ≡ pending → calls_gc program state ≡ false
+    go zero same = absurd (waits same)
+    go (suc place) same =
+        ap (λ (pending : ℕ). if serial_of index pending == 0 then gc_by_frames program state.roots state.roots.frames else false) same
+        ∙ ap (λ (test : Bool). if test then gc_by_frames program state.roots state.roots.frames else false) (not_zero (index (suc place)))
+
+  either : (test by : Bool) → by ≡ false → (if test then by else false) ≡ false
+  either true by is = is
+  either false by is = refl
+
+  still_by : gc_by_frames program state.roots state.roots.frames ≡ false → calls_gc program state ≡ false
+  still_by is = either (state.roots.pending == 0) (gc_by_frames program state.roots state.roots.frames) is
+
+  pub initial_still : (class place : ℕ) → Some (shown.Initialising class place) ≡ topmost roots.frames → calls_gc program state ≡ false
+  initial_still class place is = still_by (go roots.frames is) where
+    go : (frames : List Frame) → Some (shown.Initialising class place) ≡ topmost frames → gc_by_frames program state.roots (map (read_frame index) frames) ≡ false
+    go [] is = refl
+    go (OfMethod frame ∷ below) is = absurd (cc is)
+    go (Initialising class place ∷ below) is = refl
+
+  pub idle_still : None ≡ topmost roots.frames → calls_gc program state ≡ false
+  idle_still is = still_by (go roots.frames is) where
+    go : (frames : List Frame) → None ≡ topmost frames → gc_by_frames program state.roots (map (read_frame index) frames) ≡ false
+    go [] is = refl
+    go (OfMethod frame ∷ below) is = absurd (cc is)
+    go (Initialising class place ∷ below) is = refl
+
+-- another native
+pub other_native : (test : Native → Bool) → test natives.SystemGc ≡ false → (native : Native) → test native ≡ true → is_gc (Some native) ≡ false
+other_native test never natives.SystemGc is = absurd (false≢true (sym never ∙ is))
+other_native test never other is = refl
+
+none_collects : (native : Native) → collects native ≡ false → is_gc (Some native) ≡ false
+none_collects natives.SystemGc is = absurd (false≢true (sym is))
+none_collects other is = refl
+
+pub uncollected : (program : Linked) (method : ℕ) → IsNoneOf collects program method → is_gc (native_of program method) ≡ false
+uncollected program method none = go (native_of program method) refl where
+  go : (found : Option Native) → native_of program method ≡ found → is_gc found ≡ false
+  go None there = refl
+  go (Some native) there = none_collects native (none native there)
+
+-- an instruction that asks for something else
+need_not : (program : Linked) (need : Need) → ((method : ℕ) → need ≡ needs.Performs method → ⊥) → NotGc program (Asks need)
+need_not program (needs.Performs method) never = absurd (never method refl)
+need_not program other never = tt
+
+module _ (machine : Machine) (state : State) (decoded : Decoded) (at : Here machine state decoded) where
+  pub need_still : (need : Need) → acted machine.program machine.frames decoded (view_of state) ≡ Some (Asks need) → ((method : ℕ) → need ≡ needs.Performs method → ⊥)
+      → calls_gc machine.program state ≡ false
+  need_still need asks never = no_gc machine state decoded at (Asks need) asks (need_not machine.program need never)
+
+  pub native_still : (method : ℕ) → acted machine.program machine.frames decoded (view_of state) ≡ Some (Asks (needs.Performs method))
+      → is_gc (native_of machine.program method) ≡ false → calls_gc machine.program state ≡ false
+  native_still method asks other = no_gc machine state decoded at (Asks (needs.Performs method)) asks other

@@ -1,0 +1,23 @@
+mod Adds
+mod Agree
+mod Alike
+mod Calls
+mod Edges
+mod Follows
+mod Found
+mod Granted
+mod Inner
+pub mod Laws
+mod MadeHeap
+mod Marked
+mod Missing
+mod Occupied
+mod PlaceCalls
+mod Placed
+mod PlacedHeap
+mod PlacedObjects
+mod PutCalls
+mod Reading
+mod Rooms
+mod Tells
+mod Written

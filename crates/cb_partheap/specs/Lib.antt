@@ -1,0 +1,9 @@
+pub mod Added
+pub mod Headers
+pub mod Heaps
+pub mod Laws
+pub mod Made
+pub mod Spots
+pub mod Stacks
+pub mod Whole
+pub mod Words
