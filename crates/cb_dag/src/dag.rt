@@ -64,7 +64,6 @@ impl Dag {
         ensures parts { result ≡ self.now.parts }
         ensures graph { IsGraph self.now }
     {
-        let _ = &self.edges;
         self.parts
     }
 

@@ -59,6 +59,10 @@ pub record IsExplored (gains : List ℤ) (edges : List (ℕ × ℕ)) (flow : Amo
   pub given_back : (i : ℕ) → i < length edges → (slice_index_or edges i (0, 0)).0 ≡ part → 0 < slice_index flow.arcs i → marked seen (slice_index_or edges i (0, 0)).1 ≡ true
   pub full : slice_index flow.sinks part ≡ negative (gain_at gains part)
 
+-- from the parts of the visits from one to another as much flows to the sink as may
+abbrev pub AreFull : List ℤ → Amounts → List Visit → (from to : ℕ) → Type 0
+AreFull gains flow visits from to = (x : ℕ) → from ≤ x → x < to → negative (gain_at gains (part_at visits x)) ≤ slice_index flow.sinks (part_at visits x)
+
 -- what more flows along the way of a visit, and from which visit it comes, if it isn't straight from the source
 abbrev pub carried : Way → Visit → ℕ → Amounts → Amounts
 carried FromSource visit amount flow = flow

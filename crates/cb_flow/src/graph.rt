@@ -55,7 +55,6 @@ impl Graph {
         ensures few_edges { length self.now.edges ≤ most_edges }
         ensures within { AreWithin self.now.parts self.now.edges }
     {
-        let _ = &self.edges;
         self.parts
     }
 

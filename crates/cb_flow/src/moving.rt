@@ -11,9 +11,15 @@ use cb_dag::negative_part;
 use cb_plain::Flow;
 
 /// Makes a flow the greatest: as long as a walk leads from the source to the sink along which more could flow, as much as may flows along it. Tells
-/// in the search to which parts more could flow then. Walks are found by way of one part after the other, in short searches; the last search, from all
-/// parts at once, shows that none was missed.
-pub(crate) fn flow_most(graph: &Graph, gains: &[i64], flow: &mut Flow, search: &mut Search)
+/// in the search to which parts more could flow then. Walks are found by way of one part after the other, in short searches, in this order; the last
+/// search, from all parts at once, shows that none was missed, whatever the order is.
+pub(crate) fn flow_most(
+    graph: &Graph,
+    order: &[u32],
+    gains: &[i64],
+    flow: &mut Flow,
+    search: &mut Search,
+)
     requires gains { AreGains graph.now.parts gains.now }
     requires held { IsHeld gains.now graph.now.edges flow.old }
     requires visit_each { length search.old.visits.items ≡ length gains.now }
@@ -24,14 +30,14 @@ pub(crate) fn flow_most(graph: &Graph, gains: &[i64], flow: &mut Flow, search: &
     ensures visit_each { length search.new.visits.items ≡ length gains.now }
     ensures seen_each { length search.new.seen.items ≡ length gains.now }
 {
-    flow_from_each(graph, gains, flow, search);
+    flow_from_each(graph, order, gains, flow, search);
     while let Some(at) = search.run(graph, gains, flow) {
         flow_along(graph, gains, flow, search, at);
     }
 }
 
-/// Lets more flow by way of each part to which it could straight from the source.
-fn flow_from_each(graph: &Graph, gains: &[i64], flow: &mut Flow, search: &mut Search)
+/// Lets more flow by way of each part to which it could straight from the source, in this order.
+fn flow_from_each(graph: &Graph, order: &[u32], gains: &[i64], flow: &mut Flow, search: &mut Search)
     requires gains { AreGains graph.now.parts gains.now }
     requires held { IsHeld gains.now graph.now.edges flow.old }
     requires visit_each { length search.old.visits.items ≡ length gains.now }
@@ -42,8 +48,10 @@ fn flow_from_each(graph: &Graph, gains: &[i64], flow: &mut Flow, search: &mut Se
 {
     let parts = graph.parts();
     unmark(&mut search.seen);
-    for part in 0..parts {
-        flow_from(graph, gains, flow, search, part);
+    for part in order {
+        if *part < parts {
+            flow_from(graph, gains, flow, search, *part);
+        }
     }
 }
 

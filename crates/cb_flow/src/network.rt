@@ -7,6 +7,7 @@ ghost use Rattle.cb_flow.specs.Networks.{AreGains, IsHeld};
 
 use crate::graph::Graph;
 use crate::moving::flow_most;
+use crate::order::downwards;
 use crate::search::{Search, make_search};
 use cb_plain::{Flow, OutOfMemory, Steps};
 use std::alloc::Global;
@@ -19,6 +20,7 @@ use std::sync::ledger::Ledger;
 #[derive(Drop)]
 pub struct Network {
     graph: Graph,
+    order: Vec<u32>,
     gains: Vec<i64>,
     flow: Flow,
     search: Search,
@@ -52,11 +54,13 @@ impl Network {
         ensures edges { IfOk result (λ network. network.edges ≡ edges.now) }
     {
         let graph = Graph::make(alloc, parts, edges)?;
+        let order = downwards(alloc, &graph)?;
         let gains = no_gains(alloc, parts)?;
         let flow = Flow::make(alloc, parts, edges.len() as u32)?;
         let search = make_search(alloc, parts)?;
         Ok(Network {
             graph,
+            order,
             gains,
             flow,
             search,
@@ -93,6 +97,7 @@ impl Network {
         let _parts = self.graph.parts();
         flow_most(
             &self.graph,
+            self.order.as_slice(),
             self.gains.as_slice(),
             &mut self.flow,
             &mut self.search,

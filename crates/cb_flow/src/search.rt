@@ -5,7 +5,7 @@ ghost use Rattle.std.specs.List.{All};
 ghost use Rattle.cb_plain.specs.Amounts.{Amounts};
 ghost use Rattle.cb_dag.specs.Flows.{IsCutOff, IsFlow, IsReachedSet, gain_at, negative, positive};
 ghost use Rattle.cb_dag.specs.Marks.{marked};
-ghost use Rattle.cb_flow.specs.Visits.{AreVisited, Grows, IsExplored, IsOpenVisit, IsSearch, IsVisit, part_at, visit_at};
+ghost use Rattle.cb_flow.specs.Visits.{AreFull, AreVisited, Grows, IsExplored, IsOpenVisit, IsSearch, IsVisit, part_at, visit_at};
 
 use crate::graph::Graph;
 use crate::visit::{Visit, Way};
@@ -151,6 +151,23 @@ impl Search {
         }
     }
 
+    /// The first visit, from one on, from whose part more may flow to the sink, if there is any.
+    fn first_open(&self, gains: &[i64], flow: &Flow, from: usize) -> Option<usize>
+        requires count { self.now.count ≤ length self.now.visits.items }
+        requires within { (x : ℕ) → x < self.now.count → part_at self.now.visits.items x < length gains.now }
+        requires sink_each { length flow.now.sinks ≡ length gains.now }
+        ensures low { IfSome result (λ at. at < self.now.count) }
+        ensures open { IfSome result (λ at. slice_index flow.now.sinks (part_at self.now.visits.items at) < negative (gain_at gains.now (part_at self.now.visits.items at))) }
+        ensures full { IfNone result (AreFull gains.now flow.now self.now.visits.items from self.now.count) }
+    {
+        for x in from..self.count {
+            if is_open(gains, flow, self.visits[x].part) {
+                return Some(x);
+            }
+        }
+        None
+    }
+
     /// Visits the parts to which more could flow from those that were visited, the earliest first, up to one from which more may flow to the sink: its
     /// visit, if there is any.
     fn advance(&mut self, graph: &Graph, gains: &[i64], flow: &Flow) -> Option<usize>
@@ -163,10 +180,12 @@ impl Search {
         ensures grows { Grows self.old.visits.items self.old.count self.old.seen.items self.new.visits.items self.new.count self.new.seen.items }
     {
         let mut head = 0;
+        let mut looked = 0;
         while head < self.count {
-            if is_open(gains, flow, self.visits[head].part) {
-                return Some(head);
+            if let Some(at) = self.first_open(gains, flow, looked) {
+                return Some(at);
             }
+            looked = self.count;
             self.expand(graph, gains, flow, head);
             head += 1;
         }

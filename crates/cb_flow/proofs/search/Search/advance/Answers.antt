@@ -1,4 +1,6 @@
-use Rattle.std.proofs.Common.{arith, subst, sym, below_more}
+use Rattle.std.proofs.Common.{◌≤◌, arith, inl, inr, subst, sym, below_more, get_or}
+use Rattle.std.proofs.lemmas.Bool.{cases_lt}
+use Rattle.cb_dag.specs.Flows.{gain_at, negative}
 use Rattle.cb_flow.specs.Visits.{IsExplored, part_at}
 use Rattle.cb_flow.specs.declared.visit.Visit.{Visit}
 use Rattle.cb_flow.proofs.Reaching.{explored_kept}
@@ -6,7 +8,7 @@ use Rattle.cb_flow.proofs.Visiting.{grown_on, not_grown}
 use Rattle.cb_flow.proofs.search.Search.advance.Goals as goal
 
 pub loop-head-init : goal.loop-head-init
-loop-head-init c = (c.requires.before, not_grown c.args.self.now.visits.items c.args.self.now.count c.args.self.now.seen.items, λ x low. absurd (omega (arith, low)), omega arith)
+loop-head-init c = (c.requires.before, not_grown c.args.self.now.visits.items c.args.self.now.count c.args.self.now.seen.items, λ x low. absurd (omega (arith, low)), omega arith, λ x from low. absurd (omega (arith, low)), omega arith)
 
 pub loop-head-preserved : goal.loop-head-preserved
 loop-head-preserved c = (
@@ -20,6 +22,10 @@ loop-head-preserved c = (
       c.expand.ensures.grows.still (c.loop-head.invariant.2 x low)))
       (subst (λ (v : Visit). IsExplored c.args.gains.now c.args.graph.now.edges c.args.flow.now c.expand.new.self.seen.items v.part) (sym (c.expand.ensures.grows.same c.loop-head.head (omega arith)))
       c.expand.ensures.explored),
+  omega (arith, c.expand.ensures.grows.more),
+  λ x from low.
+      subst (λ (v : Visit). negative (gain_at c.args.gains.now v.part) ≤ get_or c.args.flow.now.sinks v.part 0) (sym (c.expand.ensures.grows.same x low))
+      (elim (cases_lt x c.loop-head.looked) [ inl l ↦ c.loop-head.invariant.4 x from l | inr p ↦ c.in_default.ensures.full x p low ]),
   omega (arith, c.expand.ensures.grows.more),
 )
 
