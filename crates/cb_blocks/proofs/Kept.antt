@@ -6,6 +6,7 @@ use Rattle.std.proofs.lemmas.List.{get_or-replicate, get_or_past, length-replica
 use Rattle.cb_blocks.specs.Holdings.{FreeTagged, IsHeld, IsKept, IsNext, tag}
 use Rattle.cb_blocks.specs.Rows.{held, popped, pushed, row}
 use Rattle.cb_blocks.proofs.Rowed.{held_popped, held_pushed}
+use Rattle.cb_blocks.proofs.Standing.{stands_free_taken, stands_fresh_taken, stands_given}
 use Rattle.cb_blocks.proofs.Tags.{apart_by_tags, free_taken_free, free_taken_rows, fresh_taken_free, fresh_taken_rows, given_free, given_rows}
 
 pub sound : (rows : List (List ℕ)) (free tags : List ℕ) (count fresh parts most room longest : ℕ) → IsKept rows free tags count fresh parts most room
@@ -24,6 +25,7 @@ kept_free_taken rows free left tags count fresh parts most room part number is b
     record {
       rows_tagged = free_taken_rows tags fresh parts rows free part number below is.parts_are few (omega (arith, is.within, is.whole)) is.rows_tagged is.free_tagged (omega (arith, long)) last;
       free_tagged = subst (λ xs. FreeTagged (set tags number (tag part (length (row rows part)))) fresh parts xs) front (free_taken_free tags fresh parts free number _ is.free_tagged (omega (arith, long)) last);
+      stands = λ other small. stands_free_taken rows free left part number other below split (is.stands other small);
       sum = omega (arith, is.sum, long, held_pushed rows part number below);
       within = is.within;
       bound = is.bound;
@@ -40,6 +42,7 @@ kept_fresh_taken rows free tags count fresh parts most room part is below less =
     record {
       rows_tagged = fresh_taken_rows tags fresh rows part below (omega (arith, less, is.whole)) is.rows_tagged;
       free_tagged = fresh_taken_free tags fresh parts free _ is.free_tagged;
+      stands = λ other small. stands_fresh_taken rows free part fresh other below small is.stands;
       sum = omega (arith, is.sum, held_pushed rows part fresh below);
       within = omega (arith, less);
       bound = is.bound;
@@ -58,6 +61,7 @@ kept_given rows free tags count fresh parts most room part number is below some 
     record {
       rows_tagged = given_rows tags fresh rows part number _ below few is.rows_tagged some last;
       free_tagged = given_free tags fresh parts rows free part number below is.parts_are few (omega (arith, is.within, is.whole)) is.rows_tagged is.free_tagged some last;
+      stands = λ other small. stands_given rows free part number other below some last (is.stands other small);
       sum = omega (arith, is.sum, length_push free number, held_popped rows part below some);
       within = is.within;
       bound = is.bound;
@@ -98,7 +102,7 @@ kept_as rows rows' free free' tags tags' count fresh parts most most' room room'
     (subst (λ x. IsKept rows x tags' count fresh parts most' room') (sym f)
     (subst (λ x. IsKept rows free x count fresh parts most' room') (sym t)
     (subst (λ x. IsKept rows free tags count fresh parts x room') (sym m)
-    (record { rows_tagged = is.rows_tagged; free_tagged = is.free_tagged; sum = is.sum; within = is.within; bound = is.bound; whole = is.whole; parts_are = is.parts_are; few_parts = is.few_parts; space = is.space; stack = omega (arith, is.stack, wide) }))))
+    (record { rows_tagged = is.rows_tagged; free_tagged = is.free_tagged; stands = is.stands; sum = is.sum; within = is.within; bound = is.bound; whole = is.whole; parts_are = is.parts_are; few_parts = is.few_parts; space = is.space; stack = omega (arith, is.stack, wide) }))))
 
 -- rows without numbers
 pub row_empty : (parts part : ℕ) → row (replicate parts []) part ≡ []
@@ -114,6 +118,7 @@ pub kept_empty : (tags : List ℕ) (count parts most room : ℕ) → count ≤ 2
 kept_empty tags count parts most room bound few space stack whole = record {
   rows_tagged = λ part i inside. absurd (omega (arith, inside, ap length (row_empty parts part)));
   free_tagged = λ i inside. absurd (omega (arith, inside));
+  stands = λ number small. absurd (omega (arith, small));
   sum = omega (arith, held_empty parts);
   within = omega arith;
   bound = bound;

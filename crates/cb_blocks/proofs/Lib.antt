@@ -9,4 +9,5 @@ mod Paged
 mod Parted
 mod Rowed
 mod Tabulated
+mod Standing
 mod Tags

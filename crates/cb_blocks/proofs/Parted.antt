@@ -1,5 +1,5 @@
 -- The parts of a heap, as the region, the stock of blocks and the counts of words make them.
-use Rattle.std.proofs.Common.{◌≡◌, ◌∙◌, ℕ, ◌+◌, ◌*◌, ◌/◌, ◌%◌, ◌<◌, ◌≤◌, suc, List, [], ◌∷◌, length, get_or, set, refl, sym, ap, subst, arith, lit<, length-set, get_or-set_other}
+use Rattle.std.proofs.Common.{◌≡◌, ◌∙◌, ℕ, ◌+◌, ◌-◌, ◌*◌, ◌/◌, ◌%◌, ◌<◌, ◌≤◌, suc, List, [], ◌∷◌, length, get_or, set, refl, sym, ap, subst, arith, lit<, length-set, get_or-set_other}
 use Rattle.std.proofs.lemmas.List.Sums.{sum_by-cons}
 use Rattle.std.proofs.lemmas.Option.{get_or_from_slice_get, slice_get-get_or}
 use Rattle.std.specs.List.{slice_get}
@@ -120,3 +120,31 @@ near parts part i index count reached small =
     let low : index % 256 ≡ i % 256 = omega (arith, at.2) in
     let page : i / 256 ≡ (i + count) / 256 = omega (arith, low, small) in
     (at.0, reached.1, ap (λ n. n + count) at.2 ∙ omega (arith, low, small, ap (λ n. get_or (row parts.rows part) n 0) page))
+
+-- places behind a word of a part are small
+pub reached_small : (region : RawWords) (blocks : Held) (used : List ℕ) (part i index count : ℕ) → IsBlocks region blocks used → IsReached (parts_of region blocks used) part i index count
+    → (index < 268435456) × (count < 268435456)
+reached_small region blocks used part i index count is reached =
+    let place = at_block region blocks used part i index is reached.0 in
+    let block = is.laid.sound.below part (i / 256) place.0.0 in
+    (omega (arith, place.0.1, block, is.laid.sound.within, is.laid.sound.bound), omega (arith, words_bound region blocks used part (i + count) is reached.0.0 reached.1))
+
+-- behind a word of a part in the same block
+pub same_block : (parts : Parted) (part i index count : ℕ) → IsReached parts part i index count → (index + count) / 256 ≡ index / 256 → IsAt parts part (i + count) (index + count)
+same_block parts part i index count reached same = near parts part i index count reached (omega (arith, same))
+
+-- and as many blocks behind its own as there
+pub blocks_between : (region : RawWords) (blocks : Held) (used : List ℕ) (part i index count further : ℕ) → IsBlocks region blocks used → IsReached (parts_of region blocks used) part i index count
+    → further ≡ (index + count) / 256 - index / 256 → (i / 256 + further ≡ (i + count) / 256) × (i / 256 + further < length (row blocks.rows part))
+blocks_between region blocks used part i index count further is reached many =
+    let low = (at_block region blocks used part i index is reached.0).1 in
+    let page : i / 256 + further ≡ (i + count) / 256 = omega (arith, low, many) in
+    (page, omega (arith, page, block_of region blocks used part (i + count) is reached.0.0 reached.1))
+
+pub along : (region : RawWords) (blocks : Held) (used : List ℕ) (part i index count further : ℕ) → IsBlocks region blocks used → IsReached (parts_of region blocks used) part i index count
+    → further ≡ (index + count) / 256 - index / 256 → IsNumberAt blocks.rows part (i / 256 + further) (index / 256 + further) → IsAt (parts_of region blocks used) part (i + count) (index + count)
+along region blocks used part i index count further is reached many there =
+    let low = (at_block region blocks used part i index is reached.0).1 in
+    let page = (blocks_between region blocks used part i index count further is reached many).0 in
+    let block : get_or (row blocks.rows part) ((i + count) / 256) 0 ≡ index / 256 + further = ap (λ n. get_or (row blocks.rows part) n 0) (sym page) ∙ there.1 in
+    (reached.0.0, reached.1, omega (arith, block, low, many))

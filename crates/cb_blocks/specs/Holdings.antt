@@ -21,6 +21,10 @@ pub record IsHeld (all : Held) : Type 0 where
 abbrev pub tag : ℕ → ℕ → ℕ
 tag part i = part * 2 ^ 20 + i
 
+-- a number stands at a place of a row
+abbrev pub IsNumberAt : List (List ℕ) → ℕ → ℕ → ℕ → Type 0
+IsNumberAt rows part i number = (i < length (row rows part)) × (get_or (row rows part) i 0 ≡ number)
+
 -- each number in a row is tagged with where it stands
 abbrev pub RowsTagged : List ℕ → ℕ → List (List ℕ) → Type 0
 RowsTagged tags fresh rows =
@@ -30,9 +34,14 @@ RowsTagged tags fresh rows =
 abbrev pub FreeTagged : List ℕ → ℕ → ℕ → List ℕ → Type 0
 FreeTagged tags fresh parts free = (i : ℕ) → i < length free → (get_or free i 0 < fresh) × (get_or tags (get_or free i 0) 0 ≡ tag parts i)
 
+-- each number that was ever taken stands in a row or is free
+abbrev pub Stands : List (List ℕ) → List ℕ → ℕ → Type 0
+Stands rows free number = ((part : ℕ) × (i : ℕ) × IsNumberAt rows part i number) ⊎ ((i : ℕ) × (i < length free) × (get_or free i 0 ≡ number))
+
 pub record IsKept (rows : List (List ℕ)) (free tags : List ℕ) (count fresh parts most room : ℕ) : Type 0 where
   pub rows_tagged : RowsTagged tags fresh rows
   pub free_tagged : FreeTagged tags fresh parts free
+  pub stands : (number : ℕ) → number < fresh → Stands rows free number
   pub sum : held rows + length free ≡ fresh
   pub within : fresh ≤ count
   pub bound : count ≤ 2 ^ 20
@@ -46,7 +55,3 @@ pub record IsKept (rows : List (List ℕ)) (free tags : List ℕ) (count fresh p
 abbrev pub IsNext : List ℕ → ℕ → List ℕ → ℕ → ℕ → Type 0
 IsNext free fresh free' fresh' number =
     ((free ≡ free' ++ number ∷ []) × (fresh' ≡ fresh)) ⊎ ((free ≡ []) × (free' ≡ []) × (number ≡ fresh) × (fresh' ≡ fresh + 1))
-
--- a number stands at a place of a row
-abbrev pub IsNumberAt : List (List ℕ) → ℕ → ℕ → ℕ → Type 0
-IsNumberAt rows part i number = (i < length (row rows part)) × (get_or (row rows part) i 0 ≡ number)

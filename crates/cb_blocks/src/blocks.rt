@@ -123,20 +123,26 @@ impl Blocks {
     }
 
     /// The place in the region of the word so many behind the one at a place, in the same part. Where both stand in one block it is
-    /// found without a table, else by a few looks into tables.
+    /// found without a table, where the blocks between were taken one after the other by two looks into one, and else by a few more.
     pub fn index_past(&self, index: u64, count: u64) -> u64
         requires { (part : ℕ) × (i : ℕ) × IsReached self.now part i index count }
         ensures { (part i : ℕ) → IsReached self.now part i index count → IsAt self.now part (i + count) result }
     {
         let _region = &self.region;
-        if index % 256 + count < 256 {
-            index + count
+        let there = index + count;
+        let block = (index / 256) as u32;
+        let further = (there / 256) as u32 - block;
+        if further == 0 {
+            there
+        } else if self.blocks.follows(block, further) {
+            there
         } else {
             self.index_far(index, count)
         }
     }
 
     /// The same by the tables.
+    #[inline(never)]
     fn index_far(&self, index: u64, count: u64) -> u64
         requires { (part : ℕ) × (i : ℕ) × IsReached self.now part i index count }
         ensures { (part i : ℕ) → IsReached self.now part i index count → IsAt self.now part (i + count) result }
@@ -156,6 +162,7 @@ impl Blocks {
 
     /// Adds so many words that hold 0 at the end of a part, in as many blocks more as they need. Takes time in these. `NoBlocks`
     /// exactly where fewer blocks are free, and then nothing has changed.
+    #[inline]
     pub fn grow(&mut self, part: u32, words: u64) -> Result<(), NoBlocks>
         requires { part < length self.old.words }
         ensures grown { OnOk result (IsGrown self.old self.new part words) }

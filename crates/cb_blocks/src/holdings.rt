@@ -1,5 +1,5 @@
 // Which numbers of a stock stand in which row.
-ghost use Rattle.std.specs.Prelude.{◌≡◌, ◌+◌, ◌*◌, ◌<◌, ◌≤◌, ◌^◌, [], ◌∷◌, ◌++◌, ◌-◌, ℕ, length, max, replicate, slice_get, slice_set, take, IfOk, Some};
+ghost use Rattle.std.specs.Prelude.{◌≡◌, ◌+◌, ◌*◌, ◌<◌, ◌≤◌, ◌^◌, [], ◌∷◌, ◌++◌, ◌-◌, ℕ, length, max, replicate, slice_get, slice_set, take, IfOk, IsTrue, Some};
 ghost use Rattle.std.specs.Vec.{vec_capacity};
 ghost use Rattle.cb_blocks.specs.Holdings.{IsHeld, IsNext, IsNumberAt};
 ghost use Rattle.cb_blocks.specs.Rows.{IsExtended, held, popped, pushed, row};
@@ -110,6 +110,21 @@ impl<R: Rows> Holdings<R> {
         ((tag / 1_048_576) as u32, (tag % 1_048_576) as u32)
     }
 
+    /// Whether the number so many after one stands as far behind it in the same row. Only where that many stand behind it does the answer say
+    /// something.
+    pub(crate) fn follows(&self, number: u32, count: u32) -> bool
+        requires there { (part : ℕ) × (i : ℕ) × IsNumberAt self.now.rows part i number }
+        requires small { number + count < 2 ^ 32 }
+        ensures { (part i : ℕ) → IsNumberAt self.now.rows part i number → i + count < length (row self.now.rows part) → IsTrue result → IsNumberAt self.now.rows part (i + count) (number + count) }
+    {
+        let other = number + count;
+        if other < self.fresh {
+            self.tags[other as usize] == self.tags[number as usize] + count as u64
+        } else {
+            false
+        }
+    }
+
     /// The number at a place in the row of a part.
     pub(crate) fn get(&self, part: u32, i: u32) -> u32
         requires part { part < length self.now.rows }
@@ -120,6 +135,7 @@ impl<R: Rows> Holdings<R> {
     }
 
     /// Takes a free number to the end of the row of a part, and gives it.
+    #[inline(never)]
     pub(crate) fn take(&mut self, part: u32) -> u32
         requires part { part < length self.old.rows }
         requires free { held self.old.rows < self.old.count }

@@ -20,6 +20,7 @@ pub(crate) struct Header {
 }
 
 /// Adds an object at the end of a part, where there is room for it, and gives its place. Takes time in its blocks.
+#[inline]
 pub(crate) fn add_object(words: &mut Blocks, part: u32, header: Header) -> u64
     requires part { part < length words.old.words }
     requires few { part < 2 ^ 12 }

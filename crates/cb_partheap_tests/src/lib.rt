@@ -1,11 +1,9 @@
-//! The tests of the heap in parts. That its calls are those of a store is shown by one over it that never lets an object go (`Resting`); and a heap
-//! with ample memory is made, filled and read.
+//! What shows how the heap in parts is used. That its calls are those of a store is shown by one over it that never lets an object go (`Resting`), and
+//! that a crate above may open it, by marks that are put while it is open (`mark`). It is tried by `cb_memory_cases`.
 #![tactic(auto)]
 
 mod marking;
 mod resting;
-#[cfg(test)]
-mod strings;
 
 pub use marking::mark;
 pub use resting::Resting;

@@ -98,6 +98,7 @@ impl Region {
     }
 
     #[tactic(auto, using(crate::proofs::Zeros::zeroed_in_front))]
+    #[inline(never)]
     /// Puts 0 into so many words from a place on, and touches the words up to the last of them. Takes time in their number,
     /// and in that of the words that are touched for the first time.
     pub fn zero(&mut self, from: usize, count: usize)
