@@ -1,9 +1,10 @@
 -- In a typed heap what may be held as a string can be read, and what may be held as a throwable can be told.
-use Rattle.std.proofs.Common.{◌≡◌, ◌∙◌, ap, refl, sym, subst, ℕ, ℤ, zero, suc, ◌<◌, ◌++◌, List, [], ◌∷◌, append-nil, append_assoc, length, Option, Some, None, option_and_then, option_map, slice_get}
+use Rattle.std.proofs.Common.{◌≡◌, ◌∙◌, ◌&&◌, Bool, true, ap, ap₂, refl, sym, subst, ℕ, ℤ, zero, suc, ◌<◌, ◌++◌, List, [], ◌∷◌, append-nil, append_assoc, length, Option, Some, None, option_and_then, option_map, slice_get}
 use Rattle.std.specs.Prelude.{codes, is_some}
 use Rattle.std.proofs.lemmas.Option.{same_Some}
 use Rattle.cb_arith.proofs.Laws.{low_bits-lt}
-use Rattle.cb_heap.specs.Kept.{content_at, contents_at, is_reference}
+use Rattle.cb_arith.specs.Bits.{low_bits}
+use Rattle.cb_heap.specs.Kept.{content_at, contents_at, is_held, is_kept, is_reference}
 use Rattle.cb_kinds.specs.declared.basic.Basic.{Basic}
 use Rattle.cb_kinds.specs.declared.basic.Basic.TheVariants as basics
 use Rattle.cb_library.specs.declared.native.Native.TheVariants as natives
@@ -21,13 +22,16 @@ use Rattle.cb_safety.specs.Naming.{Components, HasElements, HasField}
 use Rattle.cb_safety.specs.Performing.{HasCore, HaveField}
 use Rattle.cb_safety.specs.Signatures.{characters}
 use Rattle.cb_verify.specs.Within.{kind_of_string, kind_of_throwable}
-use Rattle.cb_interp.specs.Texts.{HoldsUnits, IsString, IsTellable, IsUnit, exception_units, message_slot, message_units}
-use Rattle.cb_interp.proofs.TextReading.{contents_are}
+use Rattle.cb_interp.specs.Printing.{HoldsUnits, IsUnit, array_of, referred_word}
+use Rattle.cb_interp.specs.Texts.{IsString, IsTellable, exception_units, message_slot, message_units}
+use Rattle.cb_interp.proofs.TextReading.{contents_are, kept_held}
+use Rattle.cb_interp.proofs.TurnsNativeString.{no_units}
 
 -- ---- words by their types
 
 char_unit : (program : Linked) (kinds : Kinds) (content : Content) → HasContent program kinds basics.Char content → IsUnit (Some content)
-char_unit program kinds content (HasContent.AnInt own number is fits kept) = subst (λ (number : ℤ). IsUnit (Some (Number number))) kept (low_bits-lt 16 number)
+char_unit program kinds content (HasContent.AnInt own number is fits kept) =
+    subst (λ (number : ℤ). IsUnit (Some (Number number))) kept (record { unit = low_bits 16 number; is = refl; low = low_bits-lt 16 number })
 
 reference_word : (program : Linked) (kinds : Kinds) (kind : ℕ) (content : Content) → HasContent program kinds (basics.Reference kind) content
     → (serial : ℕ) × (content ≡ Reference serial) × Refers program kinds kind serial
@@ -69,26 +73,31 @@ module _ (program : Linked) (objects : List (Option Object)) (core : HasCore pro
         refers = one.2;
       }
 
-  holds_units : (serial : ℕ) → IsOfKind program (kinds_of objects) (characters program) serial → HoldsUnits objects serial
+  holds_units : (serial : ℕ) → IsOfKind program (kinds_of objects) (characters program) serial → (is_kept objects serial ≡ true) × HoldsUnits objects serial
   holds_units serial is =
       let at : Found program objects (characters program) serial = found program objects (characters program) serial heap is in
       let has : HasElements program at.object.kind basics.Char = core.elements at.object.kind (characters program) basics.Char at.goes core.char_elements in
-      let same : contents_at objects serial ≡ at.object.contents = contents_are objects serial at.object at.there in
-      record {
-        kept = ap is_some at.there;
-        each = λ word low.
+      let same : contents_at objects serial ≡ at.object.contents = contents_are objects serial at.object at.there in (
+        ap is_some at.there,
+        λ word low.
             let holds : Holds program (kinds_of objects) at.object.contents word basics.Char =
             at.is.elements basics.Char word (has.is ∙ ap {B = Option Basic} Some (char_element program has.element has.held)) (subst (λ (contents : List Content). word < length contents) same low) in
-            subst IsUnit (sym (ap (λ (contents : List Content). slice_get contents word) same ∙ holds.there)) (char_unit program (kinds_of objects) holds.content holds.fits);
-      }
+            subst IsUnit (sym (ap (λ (contents : List Content). slice_get contents word) same ∙ holds.there)) (char_unit program (kinds_of objects) holds.content holds.fits),
+      )
 
-  pub string_there : (serial : ℕ) → IsOfKind program (kinds_of objects) kind_of_string serial → IsString objects serial
-  string_there serial is =
-      let first : FirstWord program objects (characters program) serial = first_word kind_of_string (characters program) serial core.strings is in
+  -- the array of a string, null among them
+  array_there : (word : ℕ) → Refers program (kinds_of objects) (characters program) word → (is_held objects word ≡ true) × HoldsUnits objects word
+  array_there zero Refers.ToNull = (refl, no_units objects 0 refl)
+  array_there word (Refers.To own is) = let (kept, units) = holds_units word is in (kept_held objects word kept, units)
+
+  string_there : (place : ℕ) → IsOfKind program (kinds_of objects) kind_of_string (suc place) → IsString objects (suc place)
+  string_there place is =
+      let first : FirstWord program objects (characters program) (suc place) = first_word kind_of_string (characters program) (suc place) core.strings is in
+      let (held, units) = array_there first.word first.refers in
+      let word : array_of objects (suc place) ≡ first.word = ap referred_word first.is in
       record {
-        word = ap is_reference first.is;
-        array = λ place named.
-            holds_units (suc place) (named_by program (kinds_of objects) (characters program) first.word place first.refers (same_word (content_at objects serial 0) first.word place first.is named));
+        text = ap₂ (λ (one other : Bool). one && other) (ap is_reference first.is) (ap (is_held objects) word ∙ held);
+        units = subst (HoldsUnits objects) (sym word) units;
       }
 
   pub exception_there : (serial : ℕ) → IsOfKind program (kinds_of objects) kind_of_throwable serial → IsTellable program objects serial
@@ -100,7 +109,7 @@ module _ (program : Linked) (objects : List (Option Object)) (core : HasCore pro
         kind = first.low;
         word = ap is_reference first.is;
         message = λ place named.
-            string_there (suc place) (named_by program (kinds_of objects) kind_of_string first.word place first.refers (same_word (content_at objects serial 0) first.word place first.is named));
+            string_there place (named_by program (kinds_of objects) kind_of_string first.word place first.refers (same_word (content_at objects serial 0) first.word place first.is named));
       }
 
 -- ---- the text is what the library's native says

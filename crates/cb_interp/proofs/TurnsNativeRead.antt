@@ -43,9 +43,9 @@ pub kept_fails : (machine : Machine) (state : State) (left leaves : Option (List
 kept_fails machine state left leaves takes kept = record { front = []; consumes = Consumes-kept left left leaves [] (Consumes-nil left) kept; takes = takes }
 
 -- or one behind others that took fewer bytes than the step does
-pub loses_fails : (machine : Machine) (state : State) (count : ℕ) (left leaves : Option (List ℕ)) → ((bytes : List ℕ) → length bytes ≤ count → Takes machine state bytes)
-    → Loses count left leaves → Fails machine state left leaves
-loses_fails machine state count left leaves takes loses = record {
+pub loses_fails : {In : Type 0} (gave : In → ℕ → List ℕ → In → Type 0) (first : In) (machine : Machine) (state : State) (count : ℕ) (left leaves : Option (List ℕ)) → ((bytes : List ℕ) → length bytes ≤ count → Takes machine state bytes)
+    → Loses gave count first left leaves → Fails machine state left leaves
+loses_fails gave first machine state count left leaves takes loses = record {
   front = loses.front;
   consumes = loses.consumes;
   takes = takes (loses.front ++ 0 ∷ []) (omega (arith, loses.few, length-append loses.front (0 ∷ [])));
@@ -95,9 +95,9 @@ module _ (program : Linked) (index : ℕ → ℕ) (objects : List (Option Object
         reader_takes program index objects limit held outside decoded method at asks natives.ReadByte is 1 (omega arith) (λ bytes. objects) (λ bytes. answers.Int (byte_number bytes)) byte_gives
         (0 ∷ []) (omega arith)
 
-    pub byte_turned : {Facts : Type 0} (rules : Rules Facts) (facts : Facts) (pc : ℕ) → decoded.next ≡ Some pc → (left leaves : Option (List ℕ)) (answer : Answer) → ReadsByte left leaves answer
+    pub byte_turned : {Facts : Type 0} (rules : Rules Facts) (facts : Facts) (pc : ℕ) → decoded.next ≡ Some pc → {In : Type 0} (gave : In → ℕ → List ℕ → In → Type 0) (first last : In) (left leaves : Option (List ℕ)) (answer : Answer) → ReadsByte gave first last left leaves answer
         → (roots : Roots) → roots ≡ behind_answer 1 (answer_values answer) pc held → TurnedIn rules machine outside view (seen index objects roots) facts facts left leaves
-    byte_turned rules facts pc next left leaves answer reads roots behind =
+    byte_turned rules facts pc next gave first last left leaves answer reads roots behind =
         reader_turn program index objects limit held outside decoded method at asks natives.ReadByte is 1 (omega arith) (λ bytes. objects) (λ bytes. answers.Int (byte_number bytes)) byte_gives
         linked fits typed rules facts pc next left leaves reads.bytes reads.took index objects facts roots refl refl refl
         (behind ∙ ap (λ (count : ℕ). behind_answer count (answer_values answer) pc held) (sym one_counted)
@@ -150,10 +150,10 @@ module _ (program : Linked) (index : ℕ → ℕ) (objects : List (Option Object
             reader_takes program index objects limit held outside decoded method at asks natives.ReadRange is count some (with_bytes objects array from)
             (λ bytes. answers.Int (count_number (length bytes))) range_gives
 
-        pub range_turned : {Facts : Type 0} (rules : Rules Facts) (facts : Facts) (pc : ℕ) → decoded.next ≡ Some pc → (left leaves : Option (List ℕ)) (answer : Answer)
-            → (index-now : ℕ → ℕ) (kept : List (Option Object)) (now : Facts) (roots : Roots) → ReadsRange left leaves count objects kept array from answer → index-now ≡ index → now ≡ facts
+        pub range_turned : {Facts : Type 0} (rules : Rules Facts) (facts : Facts) (pc : ℕ) → decoded.next ≡ Some pc → {In : Type 0} (gave : In → ℕ → List ℕ → In → Type 0) (first last : In) (left leaves : Option (List ℕ)) (answer : Answer)
+            → (index-now : ℕ → ℕ) (kept : List (Option Object)) (now : Facts) (roots : Roots) → ReadsRange gave first last left leaves count objects kept array from answer → index-now ≡ index → now ≡ facts
             → roots ≡ behind_answer 4 (answer_values answer) pc held → TurnedIn rules machine outside view (seen index-now kept roots) facts now left leaves
-        range_turned rules facts pc next left leaves answer index-now kept now roots reads places knows behind =
+        range_turned rules facts pc next gave first last left leaves answer index-now kept now roots reads places knows behind =
             reader_turn program index objects limit held outside decoded method at asks natives.ReadRange is count some (with_bytes objects array from)
             (λ bytes. answers.Int (count_number (length bytes))) range_gives linked fits typed rules facts pc next left leaves reads.bytes reads.took index-now kept now roots places reads.stand knows
             (behind ∙ ap (λ (count : ℕ). behind_answer count (answer_values answer) pc held) (sym four_counted)

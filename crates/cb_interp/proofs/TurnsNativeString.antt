@@ -64,7 +64,7 @@ units_of program objects array object heap there chars place low =
     (unit_of program (kinds_of objects) basics.Char own.content own.fits refl)
 
 -- one that isn't there has none
-no_units : (objects : List (Option Object)) (array : ℕ) → contents_at objects array ≡ [] → HoldsUnits objects array
+pub no_units : (objects : List (Option Object)) (array : ℕ) → contents_at objects array ≡ [] → HoldsUnits objects array
 no_units objects array none place low = absurd (omega (arith, low, ap length none))
 
 -- the array of a string, where it is of chars
@@ -94,7 +94,7 @@ units_in program objects string heap chars = of_string (object_in objects string
 same_serial : (one other : ℕ) → ◌≡◌ {A = Option Value} (Some (values.Ref one)) (Some (values.Ref other)) → one ≡ other
 same_serial one other is = cc is
 
-both : (one other : Bool) → (one && other) ≡ true → (one ≡ true) × (other ≡ true)
+pub both : (one other : Bool) → (one && other) ≡ true → (one ≡ true) × (other ≡ true)
 both true other is = (refl, is)
 both false other is = absurd (false≢true is)
 

@@ -109,7 +109,7 @@ abbrev pub IsNoneOf : (Native → Bool) → Linked → ℕ → Type 0
 IsNoneOf test program method = (native : Native) → native_of program method ≡ Some native → test native ≡ false
 
 -- the units of an array of chars, and the array to which the first word of a string refers
-abbrev unit_in : Content → ℕ
+abbrev pub unit_in : Content → ℕ
 unit_in (Number (pos unit)) = unit
 unit_in other = 0
 

@@ -73,7 +73,7 @@ pub use running::run;
 pub use starting::{linked_programs_start, make_roots, start, starts_stand};
 pub use stop::Stop;
 pub use switch_turns::switch_turn;
-pub use texts::{exception_text, exceptions_say_their_text, read_string, texts_are_read};
+pub use texts::{exceptions_are_told, exceptions_say_their_text, write_exception};
 pub use throwing::throw_turn;
 pub use turning::act_turn;
 pub use typed_law::typed_states_act;

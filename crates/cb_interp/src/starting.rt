@@ -121,8 +121,8 @@ pub fn starts_stand<S: Store>()
 
 /// Places what is there when a run begins, the array of arguments with its strings and the two streams of System, and puts the roots in
 /// order: the streams stand in the static fields of System, each other static field holds the first value of its type, the library's
-/// classes are ready, and `main` waits for the array (JLS §12.1.4). An error is that there is no room. Takes time in the classes and the
-/// static fields of the program, and in the arguments.
+/// classes are ready, and `main` waits for the array (JLS §12.1.4). An error is that there is no room, and then the store keeps nothing. Takes
+/// time in the classes and the static fields of the program, and in the arguments.
 pub fn start<S: Store>(
     program: &Program,
     store: &mut S,
@@ -148,6 +148,7 @@ pub fn start<S: Store>(
     ensures refused { IfErr result (λ reason. RefusesStart S.rules
         (machine_of program.now roots.old.limit) given.now (S.storage store.old).facts reason
         (S.storage store.new).facts) }
+    ensures nothing { IfErr result (λ _. (S.storage store.new).kept ≡ []) }
     ensures counted { CountsFaults (S.storage store.old).faults (S.storage store.new).faults (IsFault result) }
     ensures limit { roots.new.limit ≡ roots.old.limit }
     ensures settings { (S.storage store.new).settings ≡ (S.storage store.old).settings }

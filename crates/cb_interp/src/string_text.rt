@@ -87,7 +87,7 @@ pub(crate) fn write_string<S: Store, O: Sink>(
 }
 
 /// Writes the chars of an array as UTF-8, none where it is null, with a newline behind them or without.
-fn write_units<S: Store, O: Sink>(
+pub(crate) fn write_units<S: Store, O: Sink>(
     store: &S,
     array: u64,
     line: bool,

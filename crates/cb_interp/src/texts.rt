@@ -1,7 +1,8 @@
-// The texts of strings, and the text that is told of an exception without a handler.
-ghost use Rattle.std.specs.Prelude.{◌≡◌, ◌∷◌, ◌++◌, ℕ, List, [], Option, Some, map, option_map, suc, IfOk, OnOk};
-ghost use Rattle.cb_heap.specs.Kept.{content_at, contents_at};
+// The text that is told of an exception without a handler.
+ghost use Rattle.std.specs.Prelude.{◌≡◌, ◌∷◌, ◌++◌, ℕ, List, [], Option, Some, codes, length, map, suc, ◌<◌, IfNone, IfSome, IsErr};
 ghost use Rattle.cb_heap.specs.Reading.{serial_of};
+ghost use Rattle.cb_io.specs.Faults.{CountsFaults};
+ghost use Rattle.cb_io.specs.Utf8.{utf8};
 ghost use Rattle.cb_library.specs.declared.native.Native.TheVariants as natives;
 ghost use Rattle.cb_link.specs.Program.{Linked};
 ghost use Rattle.cb_machine.specs.Performing.{Call, gives_text, reference_at};
@@ -13,146 +14,119 @@ ghost use Rattle.cb_safety.specs.Heap.{IsHeap};
 ghost use Rattle.cb_safety.specs.Kinds.{IsOfKind, kinds_of};
 ghost use Rattle.cb_safety.specs.Linked.{IsLinked};
 ghost use Rattle.cb_verify.specs.Typed.{IsTyped};
-ghost use Rattle.cb_verify.specs.Within.{kind_of_string, kind_of_throwable};
-ghost use Rattle.cb_interp.specs.Texts.{HoldsUnits, IsString, IsTellable, IsUnit, LaysMessage};
-ghost use Rattle.cb_interp.specs.Texts.{LaysString, TellsException, dotted, exception_units};
-ghost use Rattle.cb_interp.specs.Texts.{message_slot, unit_in};
+ghost use Rattle.cb_verify.specs.Within.{kind_of_throwable};
+ghost use Rattle.cb_interp.specs.Texts.{IsCut, IsPlain, IsString, IsTellable, TellsException, Writes};
+ghost use Rattle.cb_interp.specs.Texts.{dotted, exception_units, message_slot, message_text};
 
+use crate::printing::write_text;
+use crate::string_text::{chars_of, write_units};
 use cb_heap::Store;
+use cb_io::{Failed, Sink, utf8_of, write_all};
 use cb_link::Program;
-use cb_plain::OutOfMemory;
 use cb_safety::linked_has_natives;
-use std::alloc::Global;
 
-/// What stands between the parts of a class's name in a class file (JVMS §4.2.1).
+/// What stands between the parts of a class's name in a class file (JVMS §4.2.1), where a dot stands when it is told.
 const SLASH: u16 = b'/' as u16;
 
-/// What stands there where it is told.
-const DOT: u16 = b'.' as u16;
-
-/// What stands first behind a class's name where a message follows it.
-const COLON: u16 = b':' as u16;
-
-/// What stands between that and the message.
-const SPACE: u16 = b' ' as u16;
-
-/// Lays the units of a string behind others (JLS §3.10.5): none where it has no array yet. `OutOfMemory` where no memory was to be had;
-/// then some of them may have been laid. Takes time in the units.
-pub fn read_string<S: Store>(store: &S, at: u64, units: &mut Vec<u16>) -> Result<(), OutOfMemory>
-    requires { IsString (S.storage store.now).kept (serial_of (S.storage store.now).index at) }
-    ensures { OnOk result (LaysString (S.storage store.now).kept (serial_of (S.storage store.now).index at)
-        units.old.items units.new.items) }
-{
-    let array = store.get_ref(at, 0);
-    if array == 0 {
-        return Ok(());
-    }
-    read_units(store, array, units)
-}
-
-/// Lays the units of an array of chars behind others.
-fn read_units<S: Store>(store: &S, at: u64, units: &mut Vec<u16>) -> Result<(), OutOfMemory>
-    requires { HoldsUnits (S.storage store.now).kept (serial_of (S.storage store.now).index at) }
-    ensures { OnOk result (units.new.items ≡ units.old.items ++ map unit_in (contents_at
-        (S.storage store.now).kept (serial_of (S.storage store.now).index at))) }
-{
-    let count = store.length(at);
-    for i in 0..count {
-        units.push(unit_at(store, at, i))?;
-    }
-    Ok(())
-}
-
-/// The unit in a word of an array of chars.
-fn unit_at<S: Store>(store: &S, at: u64, i: u32) -> u16
-    requires { IsUnit (content_at (S.storage store.now).kept (serial_of (S.storage store.now).index at) i) }
-    ensures { option_map unit_in (content_at (S.storage store.now).kept (serial_of (S.storage store.now).index at) i)
-        ≡ Some result }
-{
-    store.get(at, i) as u16
-}
-
-/// The text that is told of an exception which found no handler: the name of its class, and behind it the message that it has stored, if any
-/// (Java SE 8 API, Throwable.toString). `OutOfMemory` where no memory was to be had. Takes time in the units.
-pub fn exception_text<S: Store>(
-    alloc: Global,
+/// Writes what is told of an exception that found no handler, and a newline, as UTF-8: the name of its class, and behind it the message that
+/// it has stored, if any (Java SE 8 API, Throwable.toString). After a failed call a proper prefix of it was taken. Takes no memory, and time in
+/// the units.
+pub fn write_exception<S: Store, O: Sink>(
     program: &Program,
     store: &S,
     at: u64,
-) -> Result<Vec<u16>, OutOfMemory>
+    out: &mut O,
+) -> Result<(), Failed>
     requires linked { IsLinked program.now }
     requires fits { IsTyped program.now }
     requires typed { IsHeap program.now (S.storage store.now).kept }
     requires there { IsOfKind program.now (kinds_of (S.storage store.now).kept) kind_of_throwable (serial_of
         (S.storage store.now).index at) }
-    ensures { IfOk result (λ units. TellsException program.now (S.storage store.now).kept (serial_of
-        (S.storage store.now).index at) units.items) }
+    ensures told { (units : List ℕ) × TellsException program.now (S.storage store.now).kept (serial_of
+        (S.storage store.now).index at) units × Writes (O.taken out.old) (O.taken out.new) (utf8 units ++ codes "\n") result }
+    ensures cause { CountsFaults (O.faults out.old) (O.faults out.new) (IsErr result) }
 {
-    texts_are_read();
-    tell(alloc, program, store, at)
+    exceptions_are_told();
+    tell(program, store, at, out)
 }
 
-/// The text that is told of an exception.
-fn tell<S: Store>(
-    alloc: Global,
-    program: &Program,
-    store: &S,
-    at: u64,
-) -> Result<Vec<u16>, OutOfMemory>
+/// Writes what is told of an exception, and a newline.
+fn tell<S: Store, O: Sink>(program: &Program, store: &S, at: u64, out: &mut O) -> Result<(), Failed>
     requires { IsTellable program.now (S.storage store.now).kept (serial_of (S.storage store.now).index at) }
-    ensures { IfOk result (λ units. TellsException program.now (S.storage store.now).kept (serial_of
-        (S.storage store.now).index at) units.items) }
+    ensures told { (units : List ℕ) × TellsException program.now (S.storage store.now).kept (serial_of
+        (S.storage store.now).index at) units × Writes (O.taken out.old) (O.taken out.new) (utf8 units ++ codes "\n") result }
+    ensures cause { CountsFaults (O.faults out.old) (O.faults out.new) (IsErr result) }
 {
     let kind = store.kind(at);
-    let mut units = with_dots(alloc, program.kind_name(kind))?;
+    write_name(program.kind_name(kind), out)?;
     let message = store.get_ref(at, 0);
-    lay_message(store, message, &mut units)?;
-    Ok(units)
+    write_message(store, message, out)
 }
 
-/// Lays what is told of a message behind others: nothing where it is null.
-fn lay_message<S: Store>(store: &S, at: u64, units: &mut Vec<u16>) -> Result<(), OutOfMemory>
+/// Writes a class's name as it is told (Java SE 8 API, Class.getName).
+fn write_name<O: Sink>(name: &[u16], out: &mut O) -> Result<(), Failed>
+    ensures written { Writes (O.taken out.old) (O.taken out.new) (utf8 (map dotted name.now)) result }
+    ensures cause { CountsFaults (O.faults out.old) (O.faults out.new) (IsErr result) }
+{
+    let mut rest = name;
+    while let Some((front, behind)) = at_slash(rest) {
+        utf8_of(front, out)?;
+        write_all(out, b".")?;
+        rest = behind;
+    }
+    utf8_of(rest, out)
+}
+
+/// What stands before the first slash of a name and what stands behind it, or nothing where it has none.
+fn at_slash(name: &[u16]) -> Option<(&[u16], &[u16])>
+    ensures cut { IfSome result (λ parts. IsCut name.now parts.0.now parts.1.now) }
+    ensures plain { IfNone result (map dotted name.now ≡ name.now) }
+    ensures shorter { IfSome result (λ parts. length parts.1.now < length name.now) }
+{
+    let count = plain_count(name);
+    match &name[count..] {
+        [_, behind @ ..] => Some((&name[..count], behind)),
+        [] => None,
+    }
+}
+
+/// How many units stand before the first slash of a name, all where it has none.
+fn plain_count(name: &[u16]) -> usize
+    ensures { IsPlain name.now result }
+{
+    let mut count = 0;
+    while count < name.len() && name[count] != SLASH {
+        count += 1;
+    }
+    count
+}
+
+/// Writes what is told of a message, nothing where it is null, and a newline.
+fn write_message<S: Store, O: Sink>(store: &S, at: u64, out: &mut O) -> Result<(), Failed>
     requires { (place : ℕ) → serial_of (S.storage store.now).index at ≡ suc place
         → IsString (S.storage store.now).kept (suc place) }
-    ensures { OnOk result (LaysMessage (S.storage store.now).kept (serial_of (S.storage store.now).index at)
-        units.old.items units.new.items) }
+    ensures written { Writes (O.taken out.old) (O.taken out.new) (utf8 (message_text (S.storage store.now).kept
+        (serial_of (S.storage store.now).index at)) ++ codes "\n") result }
+    ensures cause { CountsFaults (O.faults out.old) (O.faults out.new) (IsErr result) }
 {
     if at == 0 {
-        return Ok(());
+        return write_text(b"", true, out);
     }
-    units.push(COLON)?;
-    units.push(SPACE)?;
-    read_string(store, at, units)
+    write_all(out, b": ")?;
+    let array = chars_of(store, at);
+    write_units(store, array, true, out)
 }
 
-/// A class's name as it is told (Java SE 8 API, Class.getName).
-fn with_dots(alloc: Global, name: &[u16]) -> Result<Vec<u16>, OutOfMemory>
-    ensures { IfOk result (λ units. units.items ≡ map dotted name.now) }
-{
-    let mut units = Vec::with_capacity(alloc, name.len())?;
-    for unit in name {
-        units.push(dotted(*unit))?;
-    }
-    Ok(units)
-}
-
-/// A unit of a class's name as it is told.
-fn dotted(unit: u16) -> u16
-    ensures { result ≡ dotted unit }
-{
-    if unit == SLASH { DOT } else { unit }
-}
-
-/// In a typed heap of a linked program each object that may be held as a string can be read, and each that may be held as a throwable can be
-/// told.
-pub fn texts_are_read()
-    ensures strings { (program : Linked) (objects : List (Option Object)) (serial : ℕ)
-        → IsLinked program → IsTyped program → IsHeap program objects
-        → IsOfKind program (kinds_of objects) kind_of_string serial → IsString objects serial }
-    ensures exceptions { (program : Linked) (objects : List (Option Object)) (serial : ℕ)
+/// In a typed heap of a linked program each object that may be held as a throwable has a text that is told, and what is read for it is there.
+pub fn exceptions_are_told()
+    ensures readable { (program : Linked) (objects : List (Option Object)) (serial : ℕ)
         → IsLinked program → IsTyped program → IsHeap program objects
         → IsOfKind program (kinds_of objects) kind_of_throwable serial
         → IsTellable program objects serial }
+    ensures told { (program : Linked) (objects : List (Option Object)) (serial : ℕ)
+        → IsLinked program → IsTyped program → IsHeap program objects
+        → IsOfKind program (kinds_of objects) kind_of_throwable serial
+        → (units : List ℕ) × TellsException program objects serial units }
 {
     linked_has_natives();
 }

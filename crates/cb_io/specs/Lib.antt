@@ -5,5 +5,6 @@ pub mod Folder
 pub mod Memory
 pub mod Messages
 pub mod Sink
+pub mod Source
 pub mod System
 pub mod Utf8

@@ -1,7 +1,8 @@
 // A source in memory that fails at listed calls.
-ghost use Rattle.std.specs.Prelude.{◌≡◌, ◌≤◌, ◌↔◌, length, min, IfOk, IsErr, Some};
+ghost use Rattle.std.specs.Prelude.{◌≡◌, ◌≤◌, ◌↔◌, length, min, take, IfOk, IsErr, Some};
 ghost use Rattle.std.specs.Io.{ReadsAtMost};
 ghost use Rattle.std.specs.Io.KnownBytes.{ReadConsumes};
+ghost use Rattle.cb_io.specs.Source.{Gives};
 ghost use Rattle.cb_io.specs.Calls.{FailsNext, first_call, counted};
 ghost use Rattle.cb_io.specs.Faults.{CountsFaults};
 
@@ -56,11 +57,14 @@ impl MemSource {
 impl Source for MemSource {
     ghost left = { λ source. Some source.left };
 
+    ghost gave = { λ before most bytes after. Gives (Some before.left) most bytes (Some after.left) };
+
     ghost faults = { λ source. source.calls.faults };
 
     fn read(&mut self, buf: &mut [u8]) -> Result<usize, Failed>
         ensures bound { ReadsAtMost result buf.new }
         ensures moved { ReadConsumes (Some self.old.left) (Some self.new.left) result buf.new }
+        ensures given { IfOk result (λ count. Gives (Some self.old.left) (length buf.old) (take count buf.new) (Some self.new.left)) }
         ensures cause { CountsFaults self.old.calls.faults self.new.calls.faults (IsErr result) }
         ensures count { IfOk result (λ count. count ≡ min self.old.most (min (length buf.old) (length self.old.left))) }
         ensures listed { IsErr result ↔ FailsNext self.old.calls }

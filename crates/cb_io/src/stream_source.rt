@@ -1,7 +1,8 @@
 // A source over a reader of std.
-ghost use Rattle.std.specs.Prelude.{◌≡◌, None, IsErr, MatchResult};
+ghost use Rattle.std.specs.Prelude.{◌≡◌, length, take, None, IfOk, IsErr, MatchResult};
 ghost use Rattle.std.specs.Io.{ReadsAtMost};
 ghost use Rattle.std.specs.Io.KnownBytes.{ReadConsumes};
+ghost use Rattle.cb_io.specs.Source.{Gives};
 ghost use Rattle.cb_io.specs.Faults.{CountsFaults};
 
 use crate::{Failed, Source};
@@ -51,11 +52,14 @@ impl<R: Read> StreamSource<R> {
 impl<R: Read> Source for StreamSource<R> {
     ghost left = { λ _. None };
 
+    ghost gave = { λ before most bytes after. Gives (R.remaining before.inner) most bytes (R.remaining after.inner) };
+
     ghost faults = { λ source. source.faults };
 
     fn read(&mut self, buf: &mut [u8]) -> Result<usize, Failed>
         ensures bound { ReadsAtMost result buf.new }
         ensures moved { ReadConsumes (R.remaining self.old.inner) (R.remaining self.new.inner) result buf.new }
+        ensures given { IfOk result (λ count. Gives (R.remaining self.old.inner) (length buf.old) (take count buf.new) (R.remaining self.new.inner)) }
         ensures cause { CountsFaults self.old.faults self.new.faults (IsErr result) }
     {
         let moved = self.reader.read(buf);

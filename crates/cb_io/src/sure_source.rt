@@ -2,6 +2,7 @@
 ghost use Rattle.std.specs.Prelude.{◌≡◌, length, min, IsOk, IfOk, Some, take, drop};
 ghost use Rattle.std.specs.Io.{ReadsAtMost};
 ghost use Rattle.std.specs.Io.KnownBytes.{ReadConsumes};
+ghost use Rattle.cb_io.specs.Source.{Gives};
 
 use crate::{Failed, Source};
 use std::marker::Model;
@@ -43,12 +44,15 @@ impl SureSource {
 impl Source for SureSource {
     ghost left = { λ source. Some source };
 
+    ghost gave = { λ before most bytes after. Gives (Some before) most bytes (Some after) };
+
     ghost faults = { λ _. 0 };
 
     fn read(&mut self, buf: &mut [u8]) -> Result<usize, Failed>
         ensures sure { IsOk result }
         ensures bound { ReadsAtMost result buf.new }
         ensures moved { ReadConsumes (Some self.old) (Some self.new) result buf.new }
+        ensures given { IfOk result (λ count. Gives (Some self.old) (length buf.old) (take count buf.new) (Some self.new)) }
         ensures count { IfOk result (λ count. count ≡ min (length buf.old) (length self.old)) }
     {
         let count = buf.len().min(self.bytes.len() - self.at);

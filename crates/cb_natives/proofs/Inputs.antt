@@ -1,5 +1,5 @@
 -- Bytes that are written into an array, the last first, and one piece behind the other.
-use Rattle.std.proofs.Common.{◌≡◌, ◌∙◌, ap, arith, refl, subst, sym, ℕ, zero, suc, ◌+◌, ◌<◌, ◌≤◌, ◌-◌, ◌^◌, true, false, List, [], ◌∷◌, ◌++◌, Option, IfOk, IsTrue, drop, get_or, length, map, slice_get, take}
+use Rattle.std.proofs.Common.{◌≡◌, ◌∙◌, ap, append-nil, arith, inl, inr, refl, subst, sym, ℕ, zero, suc, ◌+◌, ◌<◌, ◌≤◌, ◌-◌, ◌^◌, true, false, List, [], ◌∷◌, ◌++◌, Option, IfOk, IsTrue, drop, get_or, length, map, slice_get, take}
 use Rattle.std.proofs.KnownBytes.{Consumes-kept, Consumes-nil, Consumes-trans}
 use Rattle.std.proofs.lemmas.List.{drop_all, drop-map, drop_more, length-append, length-map, map-append}
 use Rattle.std.proofs.lemmas.Bool.{false≢true}
@@ -16,7 +16,8 @@ use Rattle.cb_machine.specs.Outside.{stored_byte}
 use Rattle.cb_plain.specs.State.{Content, Object}
 use Rattle.cb_plain.specs.Updates.{with_contents_in}
 use Rattle.cb_natives.specs.Given.{HoldsBytes}
-use Rattle.cb_natives.specs.Input.{Loses, MovesInto, ReadsFront, TakesInto, TakesPiece, Took, with_bytes}
+use Rattle.cb_natives.specs.Asking.{Asked, Call, Calls, NoCall}
+use Rattle.cb_natives.specs.Input.{GaveIn, Loses, MovesInto, ReadsFront, TakesInto, TakesPiece, Took, with_bytes}
 use Rattle.cb_natives.proofs.Changes.{contents_with, kept_changed, put_before, with_same, with_twice, word_same}
 use Rattle.cb_natives.proofs.Overwriting.{over, over_first, over_length, over_none, over_over, over_past}
 
@@ -153,9 +154,15 @@ still_low first before now counts unfailed low =
     let never : before < now → ⊥ = λ rose. false≢true (exact.1 rose) in
     omega (arith, same, never)
 
-pub moves_none : (left : Option (List ℕ)) (objects : List (Option Object)) (array from : ℕ) → MovesInto left left objects objects array from 0
-moves_none left objects array from = record {
+empty_so : (bytes : List ℕ) → length bytes ≡ 0 → bytes ≡ []
+empty_so [] none = refl
+empty_so (byte ∷ bytes) none = absurd (omega (arith, none))
+
+pub moves_none : {In : Type 0} (gave : In → ℕ → List ℕ → In → Type 0) (first : In) (left : Option (List ℕ)) (objects : List (Option Object)) (array from : ℕ)
+    → MovesInto (λ bytes. Calls gave first bytes first) left left objects objects array from 0
+moves_none gave first left objects array from = record {
   bytes = [];
+  known = NoCall;
   low = tt;
   size = refl;
   consumes = Consumes-nil left;
@@ -163,8 +170,8 @@ moves_none left objects array from = record {
 }
 
 -- what was taken so far, at a place of a store that names objects as it did
-module _ (before mid : Option (List ℕ)) (objects between : List (Option Object)) (index middle : ℕ → ℕ) (at from taken : ℕ) (holds : HoldsBytes objects (serial_of index at))
-    (moves : MovesInto before mid objects between (serial_of index at) from taken) (places : middle ≡ index)
+module _ {In : Type 0} (gave : In → ℕ → List ℕ → In → Type 0) (first stop : In) (before mid : Option (List ℕ)) (objects between : List (Option Object)) (index middle : ℕ → ℕ) (at from taken : ℕ)
+    (holds : HoldsBytes objects (serial_of index at)) (moves : MovesInto (λ bytes. Calls gave first bytes stop) before mid objects between (serial_of index at) from taken) (places : middle ≡ index)
     (room : from + taken ≤ length (contents_at objects (serial_of index at))) where
   abbrev array : ℕ
   array = serial_of index at
@@ -182,12 +189,13 @@ module _ (before mid : Option (List ℕ)) (objects between : List (Option Object
       ap (λ index. length (contents_at between (serial_of index at))) places
       ∙ ap (λ objects. length (contents_at objects array)) moves.stand ∙ length_behind objects array from holds moves.bytes within
 
-  pub moves_more : (now : Option (List ℕ)) (after : List (Option Object)) (more : ℕ) → MovesInto mid now between after (serial_of middle at) (from + taken) more
-      → MovesInto before now objects after array from (taken + more)
-  moves_more now after more other =
+  joins : (Known Both : List ℕ → Type 0) (now : Option (List ℕ)) (after : List (Option Object)) (more : ℕ) → (other : MovesInto Known mid now between after (serial_of middle at) (from + taken) more)
+      → Both (moves.bytes ++ other.bytes) → MovesInto Both before now objects after array from (taken + more)
+  joins Known Both now after more other both =
       let same : from + taken ≡ from + length moves.bytes = omega (arith, moves.size) in
       record {
         bytes = moves.bytes ++ other.bytes;
+        known = both;
         low = all_joined (λ byte. byte < 2 ^ 8) moves.bytes other.bytes moves.low other.low;
         size = omega (arith, length-append moves.bytes other.bytes, moves.size, other.size);
         consumes = Consumes-trans before mid now moves.bytes other.bytes moves.consumes other.consumes;
@@ -198,22 +206,63 @@ module _ (before mid : Option (List ℕ)) (objects between : List (Option Object
             ∙ bytes_twice objects array from holds moves.bytes within other.bytes;
       }
 
+  -- some more came
+  pub moves_more : (last : In) (now : Option (List ℕ)) (after : List (Option Object)) (more : ℕ) → MovesInto (GaveIn gave stop last) mid now between after (serial_of middle at) (from + taken) more
+      → (more ≡ 0 → ⊥) → MovesInto (λ bytes. Calls gave first bytes last) before now objects after array from (taken + more)
+  moves_more last now after more other some =
+      let (most, few, given) = other.known in
+      joins (GaveIn gave stop last) (λ bytes. Calls gave first bytes last) now after more other (Call moves.bytes other.bytes stop last most moves.known given (omega (arith, other.size, some)))
+
   -- none more came
-  pub taken_last : (now : Option (List ℕ)) (after : List (Option Object)) (count most more : ℕ) → taken ≤ count
-      → TakesPiece mid now most between after (serial_of middle at) (from + taken) more → more ≡ 0 → TakesInto before now count objects after array from taken
-  taken_last now after count most more few piece none =
+  asked_last : (last : In) (count : ℕ) (bytes : List ℕ) → taken < count → GaveIn gave stop last bytes → bytes ≡ [] → Asked gave count first last (moves.bytes ++ bytes)
+  asked_last last count bytes less (most, some, given) none =
+      subst (λ bytes. Asked gave count first last (moves.bytes ++ bytes)) (sym none)
+      (subst (Asked gave count first last) (sym (append-nil moves.bytes)) (record { mid = stop; calls = moves.known; ends = inr (omega (arith, less, moves.size), (most, some, subst (λ bytes. gave stop most bytes last) none given)) }))
+
+  pub taken_last : (last : In) (now : Option (List ℕ)) (after : List (Option Object)) (count most more : ℕ) → taken < count
+      → TakesPiece gave stop last mid now most between after (serial_of middle at) (from + taken) more → more ≡ 0 → TakesInto gave first last before now count objects after array from taken
+  taken_last last now after count most more less piece none =
       let all : taken + more ≡ taken = omega (arith, none) in
+      let asked : Asked gave count first last (moves.bytes ++ piece.moves.bytes) = asked_last last count piece.moves.bytes less piece.moves.known (empty_so piece.moves.bytes (piece.moves.size ∙ none)) in
       record {
-        moves = subst (λ (taken : ℕ). MovesInto before now objects after array from taken) all (moves_more now after more piece.moves);
-        most = few;
+        moves = subst (λ (taken : ℕ). MovesInto (Asked gave count first last) before now objects after array from taken) all
+            (joins (GaveIn gave stop last) (Asked gave count first last) now after more piece.moves asked);
+        most = omega (arith, less);
         end = λ less. piece.end none;
       }
 
+  -- all came
+  pub taken_all : (count : ℕ) → taken ≡ count → TakesInto gave first stop before mid count objects between array from taken
+  taken_all count all = record {
+    moves = record {
+      bytes = moves.bytes;
+      known = record { mid = stop; calls = moves.known; ends = inl (moves.size ∙ all, refl) };
+      low = moves.low;
+      size = moves.size;
+      consumes = moves.consumes;
+      stand = moves.stand;
+    };
+    most = omega (arith, all);
+    end = λ less. absurd (omega (arith, all, less));
+  }
+
 -- ---- what was taken
 
-pub took_all : (before now : Option (List ℕ)) (count : ℕ) (objects after : List (Option Object)) (array from taken : ℕ)
-    → (takes : TakesInto before now count objects after array from taken) → Took before now count takes.moves.bytes
-took_all before now count objects after array from taken takes = record {
+pub given_front : {In Fault : Type 0} (gave : In → ℕ → List ℕ → In → Type 0) (first last : In) (most : ℕ) (buffer : List ℕ) (result : Result ℕ Fault)
+    → IfOk result (λ moved. gave first most (take moved buffer) last) → 0 < most → IfOk result (λ moved. GaveIn gave first last (take moved buffer))
+given_front gave first last most buffer (Ok moved) given some = (most, some, given)
+given_front gave first last most buffer (Err fault) given some = tt
+
+-- one call was made for one byte
+pub asked_one : {In : Type 0} (gave : In → ℕ → List ℕ → In → Type 0) (first last : In) (bytes : List ℕ) → GaveIn gave first last bytes → length bytes ≤ 1
+    → Asked gave 1 first last bytes
+asked_one gave first last [] (most, some, given) few = record { mid = first; calls = NoCall; ends = inr (omega arith, (most, some, given)) }
+asked_one gave first last (byte ∷ bytes) (most, some, given) few =
+    record { mid = last; calls = Call [] (byte ∷ bytes) first last most NoCall given (omega arith); ends = inl (omega (arith, few), refl) }
+
+pub took_all : {In : Type 0} (gave : In → ℕ → List ℕ → In → Type 0) (first last : In) (before now : Option (List ℕ)) (count : ℕ) (objects after : List (Option Object)) (array from taken : ℕ)
+    → (takes : TakesInto gave first last before now count objects after array from taken) → Took before now count takes.moves.bytes
+took_all gave first last before now count objects after array from taken takes = record {
   low = takes.moves.low;
   few = omega (arith, takes.moves.size, takes.most);
   consumes = takes.moves.consumes;
@@ -230,7 +279,7 @@ took_front before now most buffer moved one reads = record {
 }
 
 -- a call that fails behind others takes nothing more
-pub loses_so : (before mid now : Option (List ℕ)) (objects after : List (Option Object)) (array from taken count : ℕ) → MovesInto before mid objects after array from taken
-    → taken < count → Keeps mid now → Loses count before now
-loses_so before mid now objects after array from taken count moves less keeps =
-    record { front = moves.bytes; few = omega (arith, moves.size, less); consumes = Consumes-kept before mid now moves.bytes moves.consumes keeps }
+pub loses_so : {In : Type 0} (gave : In → ℕ → List ℕ → In → Type 0) (first stop : In) (before mid now : Option (List ℕ)) (objects after : List (Option Object)) (array from taken count : ℕ)
+    → MovesInto (λ bytes. Calls gave first bytes stop) before mid objects after array from taken → taken < count → Keeps mid now → Loses gave count first before now
+loses_so gave first stop before mid now objects after array from taken count moves less keeps =
+    record { front = moves.bytes; few = omega (arith, moves.size, less); consumes = Consumes-kept before mid now moves.bytes moves.consumes keeps; mid = stop; calls = moves.known }

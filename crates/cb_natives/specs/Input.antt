@@ -17,6 +17,7 @@ use Rattle.cb_plain.specs.Updates.{with_contents_in}
 use Rattle.cb_plain.specs.declared.value.Value.{Value}
 use Rattle.cb_plain.specs.declared.value.Value.TheVariants.{Int, Ref}
 use Rattle.cb_natives.specs.Answers.{Beside, call_on}
+use Rattle.cb_natives.specs.Asking.{Asked, Calls}
 use Rattle.cb_natives.specs.Exceptions.{site_of}
 use Rattle.cb_natives.specs.Given.{HoldsBytes}
 use Rattle.cb_natives.specs.declared.answers.Answer.{Answer}
@@ -35,11 +36,13 @@ pub record Took (before now : Option (List ℕ)) (count : ℕ) (bytes : List ℕ
   pub consumes : Consumes before now bytes
   pub end : length bytes < count → IsAtEnd now
 
--- fewer than so many were taken
-pub record Loses (count : ℕ) (before now : Option (List ℕ)) : Type 0 where
+-- fewer than so many were taken, which calls gave before one failed
+pub record Loses {In : Type 0} (gave : In → ℕ → List ℕ → In → Type 0) (count : ℕ) (first : In) (before now : Option (List ℕ)) : Type 0 where
   pub front : List ℕ
   pub few : length front < count
   pub consumes : Consumes before now front
+  pub mid : In
+  pub calls : Calls gave first front mid
 
 -- ---- the parts of it
 
@@ -51,23 +54,28 @@ pub record ReadsFront (before now : Option (List ℕ)) (most : ℕ) (buffer : Li
   pub consumes : Consumes before now (take moved buffer)
   pub end : moved ≡ 0 → IsAtEnd now
 
--- so many were taken, and stand in an array from an index on
-pub record MovesInto (before now : Option (List ℕ)) (objects after : List (Option Object)) (array from moved : ℕ) : Type 0 where
+-- so many were taken, of which this is known, and stand in an array from an index on
+pub record MovesInto (Known : List ℕ → Type 0) (before now : Option (List ℕ)) (objects after : List (Option Object)) (array from moved : ℕ) : Type 0 where
   pub bytes : List ℕ
+  pub known : Known bytes
   pub low : AllByRecursion (λ byte. byte < 2 ^ 8) bytes
   pub size : length bytes ≡ moved
   pub consumes : Consumes before now bytes
   pub stand : after ≡ with_bytes objects array from bytes
 
 -- as many as were asked for, or all that there were
-pub record TakesInto (before now : Option (List ℕ)) (count : ℕ) (objects after : List (Option Object)) (array from taken : ℕ) : Type 0 where
-  pub moves : MovesInto before now objects after array from taken
+pub record TakesInto {In : Type 0} (gave : In → ℕ → List ℕ → In → Type 0) (first last : In) (before now : Option (List ℕ)) (count : ℕ) (objects after : List (Option Object)) (array from taken : ℕ) : Type 0 where
+  pub moves : MovesInto (Asked gave count first last) before now objects after array from taken
   pub most : taken ≤ count
   pub end : taken < count → IsAtEnd now
 
+-- a call that asked for some bytes gave these
+abbrev pub GaveIn : {In : Type 0} → (In → ℕ → List ℕ → In → Type 0) → (first last : In) → List ℕ → Type 0
+GaveIn gave first last bytes = (most : ℕ) × (0 < most) × gave first most bytes last
+
 -- in one call: as many as were asked for at most, and none only at the end
-pub record TakesPiece (before now : Option (List ℕ)) (most : ℕ) (objects after : List (Option Object)) (array from moved : ℕ) : Type 0 where
-  pub moves : MovesInto before now objects after array from moved
+pub record TakesPiece {In : Type 0} (gave : In → ℕ → List ℕ → In → Type 0) (first last : In) (before now : Option (List ℕ)) (most : ℕ) (objects after : List (Option Object)) (array from moved : ℕ) : Type 0 where
+  pub moves : MovesInto (GaveIn gave first last) before now objects after array from moved
   pub few : moved ≤ most
   pub end : moved ≡ 0 → IsAtEnd now
 
@@ -83,14 +91,16 @@ count_number zero = negsuc 0
 count_number (suc count) = pos (suc count)
 
 -- one byte was asked for
-pub record ReadsByte (before now : Option (List ℕ)) (answer : Answer) : Type 0 where
+pub record ReadsByte {In : Type 0} (gave : In → ℕ → List ℕ → In → Type 0) (first last : In) (before now : Option (List ℕ)) (answer : Answer) : Type 0 where
   pub bytes : List ℕ
+  pub asked : Asked gave 1 first last bytes
   pub took : Took before now 1 bytes
   pub gives : answer ≡ answers.Int (byte_number bytes)
 
 -- as many as a range of an array has, and they stand in it
-pub record ReadsRange (before now : Option (List ℕ)) (count : ℕ) (objects after : List (Option Object)) (array from : ℕ) (answer : Answer) : Type 0 where
+pub record ReadsRange {In : Type 0} (gave : In → ℕ → List ℕ → In → Type 0) (first last : In) (before now : Option (List ℕ)) (count : ℕ) (objects after : List (Option Object)) (array from : ℕ) (answer : Answer) : Type 0 where
   pub bytes : List ℕ
+  pub asked : Asked gave count first last bytes
   pub took : Took before now count bytes
   pub stand : after ≡ with_bytes objects array from bytes
   pub gives : answer ≡ answers.Int (count_number (length bytes))

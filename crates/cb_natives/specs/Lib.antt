@@ -1,5 +1,6 @@
 pub mod Answers
 pub mod ArrayRanges
+pub mod Asking
 pub mod Copies
 pub mod Enums
 pub mod Equal

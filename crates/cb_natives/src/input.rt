@@ -1,5 +1,5 @@
 // Bytes of an input that are read into arrays.
-ghost use Rattle.std.specs.Prelude.{◌≡◌, ◌+◌, ◌<◌, ◌≤◌, length, pos, IfOk, IsErr, OnErr};
+ghost use Rattle.std.specs.Prelude.{◌≡◌, ◌+◌, ◌<◌, ◌≤◌, length, pos, take, IfOk, IsErr, OnErr};
 ghost use Rattle.std.specs.Int.{int_wrap, w64};
 ghost use Rattle.std.specs.Io.KnownBytes.{Keeps};
 ghost use Rattle.cb_heap.specs.Kept.{contents_at};
@@ -8,7 +8,7 @@ ghost use Rattle.cb_io.specs.Faults.{CountsFaults};
 ghost use Rattle.cb_machine.specs.Outside.{stored_byte};
 ghost use Rattle.cb_plain.specs.State.{Number};
 ghost use Rattle.cb_natives.specs.Given.{HoldsBytes};
-ghost use Rattle.cb_natives.specs.Input.{Loses, ReadsFront, TakesInto, TakesPiece, with_bytes};
+ghost use Rattle.cb_natives.specs.Input.{GaveIn, Loses, ReadsFront, TakesInto, TakesPiece, with_bytes};
 
 use crate::low_bits::word_of;
 use cb_arith::{Narrow, narrow};
@@ -29,8 +29,8 @@ pub(crate) fn read_range<S: Store, I: Source>(
 ) -> Result<u32, Failed>
     requires holds { HoldsBytes (S.storage store.old).kept (serial_of (S.storage store.old).index at) }
     requires within { from + count ≤ length (contents_at (S.storage store.old).kept (serial_of (S.storage store.old).index at)) }
-    ensures taken { IfOk result (λ taken. TakesInto (I.left input.old) (I.left input.new) count (S.storage store.old).kept (S.storage store.new).kept (serial_of (S.storage store.old).index at) from taken) }
-    ensures lost { OnErr result (Loses count (I.left input.old) (I.left input.new)) }
+    ensures taken { IfOk result (λ taken. TakesInto I.gave input.old input.new (I.left input.old) (I.left input.new) count (S.storage store.old).kept (S.storage store.new).kept (serial_of (S.storage store.old).index at) from taken) }
+    ensures lost { OnErr result (Loses I.gave count input.old (I.left input.old) (I.left input.new)) }
     ensures cause { CountsFaults (I.faults input.old) (I.faults input.new) (IsErr result) }
     ensures places { (S.storage store.new).index ≡ (S.storage store.old).index }
     ensures facts { (S.storage store.new).facts ≡ (S.storage store.old).facts }
@@ -60,7 +60,7 @@ fn read_piece<S: Store, I: Source>(
     requires holds { HoldsBytes (S.storage store.old).kept (serial_of (S.storage store.old).index at) }
     requires within { from + most ≤ length (contents_at (S.storage store.old).kept (serial_of (S.storage store.old).index at)) }
     requires some { 0 < most }
-    ensures moved { IfOk result (λ moved. TakesPiece (I.left input.old) (I.left input.new) most (S.storage store.old).kept (S.storage store.new).kept (serial_of (S.storage store.old).index at) from moved) }
+    ensures moved { IfOk result (λ moved. TakesPiece I.gave input.old input.new (I.left input.old) (I.left input.new) most (S.storage store.old).kept (S.storage store.new).kept (serial_of (S.storage store.old).index at) from moved) }
     ensures lost { OnErr result (Keeps (I.left input.old) (I.left input.new)) }
     ensures cause { CountsFaults (I.faults input.old) (I.faults input.new) (IsErr result) }
     ensures places { (S.storage store.new).index ≡ (S.storage store.old).index }
@@ -85,6 +85,7 @@ pub(crate) fn read_front<I: Source>(
     requires some { 0 < length buffer.old }
     requires few { length buffer.old ≤ most }
     ensures moved { IfOk result (λ moved. ReadsFront (I.left input.old) (I.left input.new) most buffer.new moved) }
+    ensures given { IfOk result (λ moved. GaveIn I.gave input.old input.new (take moved buffer.new)) }
     ensures within { IfOk result (λ moved. moved ≤ length buffer.new) }
     ensures lost { OnErr result (Keeps (I.left input.old) (I.left input.new)) }
     ensures cause { CountsFaults (I.faults input.old) (I.faults input.new) (IsErr result) }

@@ -30,7 +30,7 @@ pub struct ArrayRange {
 
 /// `read()`: one call of the input for a byte, also behind its end. Answers the byte, or -1 at the end.
 pub fn read_byte<I: Source>(input: &mut I) -> Result<Answer, Failed>
-    ensures read { IfOk result (λ answer. ReadsByte (I.left input.old) (I.left input.new) answer) }
+    ensures read { IfOk result (λ answer. ReadsByte I.gave input.old input.new (I.left input.old) (I.left input.new) answer) }
     ensures lost { OnErr result (Keeps (I.left input.old) (I.left input.new)) }
     ensures cause { CountsFaults (I.faults input.old) (I.faults input.new) (IsErr result) }
 {
@@ -72,8 +72,8 @@ pub fn read_into<S: Store, I: Source>(
     requires holds { HoldsBytes (S.storage store.old).kept (serial_of (S.storage store.old).index range.at) }
     requires within { range.from + range.count ≤ length (contents_at (S.storage store.old).kept (serial_of (S.storage store.old).index range.at)) }
     requires some { 0 < range.count }
-    ensures read { IfOk result (λ answer. ReadsRange (I.left input.old) (I.left input.new) range.count (S.storage store.old).kept (S.storage store.new).kept (serial_of (S.storage store.old).index range.at) range.from answer) }
-    ensures lost { OnErr result (Loses range.count (I.left input.old) (I.left input.new)) }
+    ensures read { IfOk result (λ answer. ReadsRange I.gave input.old input.new (I.left input.old) (I.left input.new) range.count (S.storage store.old).kept (S.storage store.new).kept (serial_of (S.storage store.old).index range.at) range.from answer) }
+    ensures lost { OnErr result (Loses I.gave range.count input.old (I.left input.old) (I.left input.new)) }
     ensures cause { CountsFaults (I.faults input.old) (I.faults input.new) (IsErr result) }
     ensures places { (S.storage store.new).index ≡ (S.storage store.old).index }
     ensures facts { (S.storage store.new).facts ≡ (S.storage store.old).facts }

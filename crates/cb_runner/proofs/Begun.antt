@@ -15,7 +15,8 @@ use Rattle.cb_machine.specs.Starting.{start}
 use Rattle.cb_mapheap.specs.Room.{rules_of}
 use Rattle.cb_plain.specs.State.{Object, Roots, State}
 use Rattle.cb_plain.specs.declared.shape.Shape.{Shape}
-use Rattle.cb_runner.specs.Inner.{HasBegun, given_input}
+use Rattle.cb_runner.specs.Executing.{HasBegun}
+use Rattle.cb_runner.specs.Inner.{given_input}
 use Rattle.cb_runner.specs.Running.{FillsFirst, machine_of, state_at, texts_of}
 use Rattle.cb_runner.specs.Words.{Run}
 use Rattle.cb_runner.proofs.Executed.{IsRefused}

@@ -18,7 +18,7 @@ use Rattle.cb_runner.specs.declared.stop.Stop.{Stop}
 use Rattle.cb_runner.specs.declared.stop.Stop.TheVariants.{Exited, Returned, Usage, Refused, Told, FolderFault, InputFault, OutputFault, OutOfMemory}
 use Rattle.cb_runner.specs.Answer.{Answers, Ends, EndsIn, IsCutShort, MayStandAt, OfMemory, OfFolder, OfInput, OfOutput}
 use Rattle.cb_runner.specs.Ending.{Ending, out_of_memory, output_fault, refused, returned}
-use Rattle.cb_runner.specs.Inner.{IsCarriedOut, IsRefusal, IsUnfound, Makes, PrintsMade, RunsTo, StopsAtOnce, StopsBy, TellsWhole, cause_of, ending_of}
+use Rattle.cb_runner.specs.Inner.{IsCarriedOut, IsReady, IsRefusal, IsUnfound, Makes, PrintsMade, RunsTo, StopsAtOnce, StopsBy, TellsWhole, cause_of, ending_of}
 use Rattle.cb_runner.specs.List.{ListsFile}
 use Rattle.cb_runner.specs.Messages.{Reason}
 use Rattle.cb_runner.specs.Run.{IsRunnable, RunsClass, Typed, file_limit}
@@ -140,7 +140,7 @@ run_ends folder run files left program InputFault out read runnable runs = inr (
 run_ends folder run files left program OutputFault out read runnable runs = inr (OfOutput, (program, runnable, runs))
 run_ends folder run files left program Returned out read runnable runs = inl (Typed program runnable runs)
 run_ends folder run files left program (Exited status) out read runnable runs = inl (Typed program runnable runs)
-run_ends folder run files left program (Told cause text) out read runnable runs = inl (Typed program runnable runs)
+run_ends folder run files left program (Told cause line) out read runnable runs = inl (Typed program runnable runs)
 run_ends folder run files left program stop out read runnable runs = absurd runs
 
 -- and no call of the folder the other
@@ -149,24 +149,24 @@ runs_quietly run program left stop out read runs is = subst (λ stop. RunsTo run
 
 -- what a command tells as the cause of a run is none of those that have a stop of their own
 pub refusal_tells : (reason : Reason) (stop : Stop) → IsRefusal reason stop → TellsWhole stop
-refusal_tells reason (Told cause text) refusal = absurd refusal
+refusal_tells reason (Told cause line) refusal = absurd refusal
 refusal_tells reason stop refusal = tt
 
 pub unfound_tells : (stop : Stop) → IsUnfound stop → TellsWhole stop
-unfound_tells (Told cause text) unfound = absurd unfound
+unfound_tells (Told cause line) unfound = absurd unfound
 unfound_tells stop unfound = tt
 
 pub stops_tell : (MayEnd : Ending → Type 0) (read : ℕ) (stop : Stop) (out : List ℕ) → StopsBy MayEnd read stop out → TellsWhole stop
-stops_tell MayEnd read (Told cause text) out stops = absurd stops
+stops_tell MayEnd read (Told cause line) out stops = absurd stops
 stops_tell MayEnd read stop out stops = tt
 
 pub at_once_tells : (MayEnd : Ending → Type 0) (stop : Stop) → StopsAtOnce MayEnd stop → TellsWhole stop
-at_once_tells MayEnd (Told cause text) stops = absurd stops
+at_once_tells MayEnd (Told cause line) stops = absurd stops
 at_once_tells MayEnd stop stops = tt
 
-pub runs_tell : (run : Run) (program : Linked) (left : Option (List ℕ)) (stop : Stop) (out : List ℕ) (read : ℕ) → RunsTo run program left stop out read → TellsWhole stop
-runs_tell run program left (Told cause text) out read runs = ends_run_whole run program left (ending_of (Told cause text) out read) runs
-runs_tell run program left stop out read runs = tt
+pub runs_tell : (run : Run) (program : Linked) (left : Option (List ℕ)) (stop : Stop) (out : List ℕ) (read : ℕ) → RunsTo run program left stop out read → IsReady stop → TellsWhole stop
+runs_tell run program left (Told cause line) out read runs ready = (ends_run_whole run program left (ending_of (Told cause line) out read) runs, ready)
+runs_tell run program left stop out read runs ready = tt
 
 -- a count says the same of what comes to the same
 same_count : {One Other : Type 0} (before now : ℕ) → (One ↔ Other) → CountsFaults before now One → CountsFaults before now Other
@@ -188,7 +188,7 @@ not_failed given stop is = cc
 
 -- a stop is one of these where its cause is
 folder_cause : (stop : Stop) → TellsWhole stop → (stop ≡ FolderFault) ↔ (cause_of stop ≡ causes.FolderFault)
-folder_cause (Told cause text) whole = (λ is. cc, λ is. absurd (false≢true (cause_whole cause causes.FolderFault is whole)))
+folder_cause (Told cause line) whole = (λ is. cc, λ is. absurd (false≢true (cause_whole cause causes.FolderFault is whole.0)))
 folder_cause Returned whole = (λ is. cc, λ is. cc)
 folder_cause (Exited status) whole = (λ is. cc, λ is. cc)
 folder_cause Usage whole = (λ is. cc, λ is. cc)
@@ -199,7 +199,7 @@ folder_cause OutputFault whole = (λ is. cc, λ is. cc)
 folder_cause OutOfMemory whole = (λ is. cc, λ is. cc)
 
 input_cause : (stop : Stop) → TellsWhole stop → (stop ≡ InputFault) ↔ (cause_of stop ≡ causes.InputFault)
-input_cause (Told cause text) whole = (λ is. cc, λ is. absurd (false≢true (cause_whole cause causes.InputFault is whole)))
+input_cause (Told cause line) whole = (λ is. cc, λ is. absurd (false≢true (cause_whole cause causes.InputFault is whole.0)))
 input_cause Returned whole = (λ is. cc, λ is. cc)
 input_cause (Exited status) whole = (λ is. cc, λ is. cc)
 input_cause Usage whole = (λ is. cc, λ is. cc)
@@ -210,7 +210,7 @@ input_cause OutputFault whole = (λ is. cc, λ is. cc)
 input_cause OutOfMemory whole = (λ is. cc, λ is. cc)
 
 output_cause : (stop : Stop) → TellsWhole stop → (stop ≡ OutputFault) ↔ (cause_of stop ≡ causes.OutputFault)
-output_cause (Told cause text) whole = (λ is. cc, λ is. absurd (false≢true (cause_whole cause causes.OutputFault is whole)))
+output_cause (Told cause line) whole = (λ is. cc, λ is. absurd (false≢true (cause_whole cause causes.OutputFault is whole.0)))
 output_cause Returned whole = (λ is. cc, λ is. cc)
 output_cause (Exited status) whole = (λ is. cc, λ is. cc)
 output_cause Usage whole = (λ is. cc, λ is. cc)
@@ -222,7 +222,7 @@ output_cause OutOfMemory whole = (λ is. cc, λ is. cc)
 
 -- and none has the cause of a failed write of the last line
 pub tells_no_fault : (stop : Stop) → TellsWhole stop → cause_of stop ≡ causes.ErrFault → ⊥
-tells_no_fault (Told cause text) whole is = false≢true (cause_whole cause causes.ErrFault is whole)
+tells_no_fault (Told cause line) whole is = false≢true (cause_whole cause causes.ErrFault is whole.0)
 tells_no_fault Returned whole is = cc
 tells_no_fault (Exited status) whole is = cc
 tells_no_fault Usage whole is = cc

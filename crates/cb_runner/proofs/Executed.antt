@@ -1,9 +1,9 @@
 -- How a command stops whose program has run, over a store that never lets an object go.
-use Rattle.std.proofs.Common.{◌≡◌, ◌∙◌, ◌++◌, ◌⊎◌, ◌+◌, ◌-◌, ◌≤◌, ap, append_assoc, arith, drop, inl, inr, length-append, refl, sym, subst, unwrap_or, ℕ, ℤ, Bool, true, false, IfSome, IsTrue, List, [], ◌∷◌, length, map, Option, Some, None, pred, suc}
+use Rattle.std.proofs.Common.{◌≡◌, ◌∙◌, ◌++◌, ◌⊎◌, ◌+◌, ◌-◌, ap, append_assoc, arith, drop, inl, inr, length-append, refl, sym, subst, unwrap_or, ℕ, ℤ, Bool, true, false, IfSome, IsTrue, List, [], ◌∷◌, length, map, Option, Some, None, pred, suc}
 use Rattle.std.specs.Io.KnownBytes.{Appends}
-use Rattle.std.specs.Prelude.{String, option_and_then, option_map, string_bytes}
-use Rattle.std.specs.declared.alloc.Global.{Global}
-use Rattle.std.specs.declared.result.Result.TheVariants.{Err}
+use Rattle.std.specs.Prelude.{option_and_then, option_map}
+use Rattle.std.specs.declared.result.Result.{Result}
+use Rattle.std.specs.declared.result.Result.TheVariants.{Err, Ok}
 use Rattle.std.proofs.Math.Seq.{drop-append_seam}
 use Rattle.cb_heap.specs.Kept.{keep, residents}
 use Rattle.cb_heap.specs.Reading.{View, seen, serial_of}
@@ -29,15 +29,16 @@ use Rattle.cb_plain.specs.State.{Object, Roots, State}
 use Rattle.cb_plain.specs.Updates.{object_at, with_objects}
 use Rattle.cb_runner.specs.declared.cause.Cause.{Cause}
 use Rattle.cb_runner.specs.declared.cause.Cause.TheVariants as causes
+use Rattle.cb_runner.specs.declared.line.Line.{Line}
 use Rattle.cb_runner.specs.declared.stop.Stop.{Stop}
 use Rattle.cb_runner.specs.declared.stop.Stop.TheVariants.{Exited, FolderFault, InputFault, OutOfMemory, OutputFault, Refused, Returned, Told, Usage}
 use Rattle.cb_runner.specs.Ending.{Ending, input_fault_behind, output_fault, told}
-use Rattle.cb_runner.specs.Inner.{HasRunTo, IsRefusedStart, IsStopOf, IsToldAs, IsUncaughtAs, MayTell, RunsTo, ending_of, given_input}
+use Rattle.cb_runner.specs.Executing.{IsStopOver}
+use Rattle.cb_runner.specs.Inner.{HasRunTo, IsReady, IsRefusedStart, IsStopOf, IsToldAs, IsUncaughtAs, MayTell, RunsTo, ending_of, given_input, line_text}
 use Rattle.cb_runner.specs.Running.{EndsBegun, EndsRun, Exits, Fills, FillsFirst, HadRoom, MayBeInput, MayStray, Returns, Spends, Throws, ends_begun, exception_line, full_line, machine_of, read_at, spent_line, state_at, texts_of}
 use Rattle.cb_runner.specs.Words.{Run}
 use Rattle.cb_runner.proofs.Endings.{nothing_read}
 use Rattle.cb_runner.proofs.Roomy.{had_room}
-use Rattle.cb_io.specs.Faults.{CountsFaults}
 
 -- where all objects are kept, they are those that there are
 pub all_kept : (kept : List Bool) (objects : List (Option Object)) (items : List Object) → keep kept objects ≡ map Some items → length kept ≡ length objects → keep kept objects ≡ objects
@@ -82,32 +83,47 @@ may_be (Some bytes) = refl
 abbrev MayStop : Stop → Type 0
 MayStop Returned = Unit {0}
 MayStop (Exited status) = Unit {0}
-MayStop (Told cause text) = IsTrue (ends_begun cause)
+MayStop (Told cause line) = IsTrue (ends_begun cause)
 MayStop OutOfMemory = Unit {0}
 MayStop InputFault = Unit {0}
 MayStop OutputFault = Unit {0}
 MayStop other = ⊥
 
 stop_told : (cause : Cause) (text : List ℕ) (stop : Stop) → IsTrue (ends_begun cause) → IsToldAs cause text stop → MayStop stop
-stop_told cause text (Told own line) whole (same, is) = subst (λ cause. IsTrue (ends_begun cause)) (sym same) whole
-stop_told cause text OutOfMemory whole is = tt
+stop_told cause text (Told own line) whole (same, is, can) = subst (λ cause. IsTrue (ends_begun cause)) (sym same) whole
 stop_told cause text other whole is = absurd is
-
-stop_uncaught : (program : Linked) (objects : List (Option Object)) (class at : ℕ) (stop : Stop) → IsUncaughtAs program objects class at stop → MayStop stop
-stop_uncaught program objects class at (Told cause text) (same, units, tells, is) = subst (λ cause. IsTrue (ends_begun cause)) (sym same) refl
-stop_uncaught program objects class at OutOfMemory is = tt
-stop_uncaught program objects class at other is = absurd is
 
 may_stop : (asks : Run) (program : Linked) (objects : List (Option Object)) (end : End) (stop : Stop) → IsStopOf asks program objects end stop → MayStop stop
 may_stop asks program objects ends.Returned stop is = subst MayStop (sym is) tt
 may_stop asks program objects (ends.Exited status) stop is = subst MayStop (sym is) tt
-may_stop asks program objects (ends.Uncaught class at) stop is = stop_uncaught program objects class at stop is
+may_stop asks program objects (ends.Uncaught class at) stop (units, tells, is) = stop_told (causes.Uncaught class) (exception_line units) stop refl is
 may_stop asks program objects ends.BudgetSpent stop is = stop_told causes.BudgetSpent (spent_line asks.steps) stop refl is
 may_stop asks program objects (ends.HeapFull live asked limit) stop is = stop_told causes.HeapFull (full_line (rooms.Full live asked limit)) stop refl is
-may_stop asks program objects ends.ReportFault stop is = subst MayStop (sym is) tt
+may_stop asks program objects ends.ReportFault stop is = absurd is
 may_stop asks program objects ends.OutOfMemory stop is = subst MayStop (sym is) tt
 may_stop asks program objects ends.InputFault stop is = subst MayStop (sym is) tt
 may_stop asks program objects ends.OutputFault stop is = subst MayStop (sym is) tt
+
+-- and what it tells can be written
+told_ready : (cause : Cause) (text : List ℕ) (stop : Stop) → IsToldAs cause text stop → IsReady stop
+told_ready cause text (Told own line) (same, is, can) = can
+told_ready cause text other is = absurd is
+
+stop_ready : (asks : Run) (program : Linked) (objects : List (Option Object)) (end : End) (stop : Stop) → IsStopOf asks program objects end stop → IsReady stop
+stop_ready asks program objects ends.Returned stop is = subst IsReady (sym is) tt
+stop_ready asks program objects (ends.Exited status) stop is = subst IsReady (sym is) tt
+stop_ready asks program objects (ends.Uncaught class at) stop (units, tells, is) = told_ready (causes.Uncaught class) (exception_line units) stop is
+stop_ready asks program objects ends.BudgetSpent stop is = told_ready causes.BudgetSpent (spent_line asks.steps) stop is
+stop_ready asks program objects (ends.HeapFull live asked limit) stop is = told_ready causes.HeapFull (full_line (rooms.Full live asked limit)) stop is
+stop_ready asks program objects ends.ReportFault stop is = absurd is
+stop_ready asks program objects ends.OutOfMemory stop is = subst IsReady (sym is) tt
+stop_ready asks program objects ends.InputFault stop is = subst IsReady (sym is) tt
+stop_ready asks program objects ends.OutputFault stop is = subst IsReady (sym is) tt
+
+refused_ready : (reason : NoRoom) (stop : Stop) → IsRefusedStart reason stop → IsReady stop
+refused_ready rooms.ReportFault stop is = absurd is
+refused_ready rooms.OutOfMemory stop is = subst IsReady (sym is) tt
+refused_ready (rooms.Full live most limit) stop is = told_ready causes.HeapFull (full_line (rooms.Full live most limit)) stop is
 
 module _ (asks : Run) (program : Linked) (begins : ¬ FillsFirst asks program) (input : List ℕ) (first : Moment (Unit {0})) (index : ℕ → ℕ) (items : List Object) (roots : Roots)
     (taken takes left leaves : Option (List ℕ)) (is_given : input ≡ given_input left) where
@@ -145,10 +161,10 @@ module _ (asks : Run) (program : Linked) (begins : ¬ FillsFirst asks program) (
         → told cause run.said err (read_to run.count) ≡ told cause (here run.count).printed err (read_to run.count)
     same_told end run cause err = ap (λ printed. told cause printed err (read_to run.count)) (said_so end run)
 
-    told_is : (cause own : Cause) (text : String Global) (out err : List ℕ) (read : ℕ) → own ≡ cause → string_bytes text ≡ err
-        → ending_of (Told own text) out read ≡ told cause out err read
-    told_is cause own text out err read same is =
-        ap (λ cause. told cause out (string_bytes text) read) same ∙ ap (λ err. told cause out err read) is
+    told_is : (cause own : Cause) (line : Line) (out err : List ℕ) (read : ℕ) → own ≡ cause → line_text line ≡ err
+        → ending_of (Told own line) out read ≡ told cause out err read
+    told_is cause own line out err read same is =
+        ap (λ cause. told cause out (line_text line) read) same ∙ ap (λ err. told cause out err read) is
 
     -- what was read is what the steps have read, and the rest is left
     abbrev Left : ℕ → Type 0
@@ -165,14 +181,10 @@ module _ (asks : Run) (program : Linked) (begins : ¬ FillsFirst asks program) (
       go (Some bytes) may is =
           is ∙ ap (λ (bytes : List ℕ). Some bytes) (sym (drop_read input run.read (here run.count).input (whole_so_far end run)) ∙ ap (drop (read_to run.count)) (sym may))
 
-    shown : (end : End) → (run : HasRun end) → (stop : Stop) → Appends taken takes run.said → IfSome (as_bytes left) (λ bytes. leaves ≡ Some (here run.count).input)
+    shown : (end : End) → (run : HasRun end) → (stop : Stop) → Appends taken takes run.said → IfSome (as_bytes left) (λ bytes. leaves ≡ Some (here run.count).input) → IsReady stop
         → RunsTo asks program left stop run.said (read_to run.count) → Shown stop
-    shown end run stop out remains runs =
-        record { printed = run.said; read = read_to run.count; appends = out; left = left_so end run remains; runs = runs }
-
-    no_memory : (end : End) → (run : HasRun end) → Appends taken takes run.said → IfSome (as_bytes left) (λ bytes. leaves ≡ Some (here run.count).input) → Shown OutOfMemory
-    no_memory end run out remains =
-        shown end run OutOfMemory out remains (inr (inl (input, may_so, run.count, run.within, had end run, same_told end run causes.OutOfMemory _)))
+    shown end run stop out remains ready runs =
+        record { printed = run.said; read = read_to run.count; appends = out; left = left_so end run remains; runs = runs; ready = ready }
 
     -- where nothing has changed, a moment is the whole state
     before_whole : (end : End) → (run : HasRun end) → last_of (seen index (map Some items) roots) (here run.count) tt ≡ run.before → run.before.state ≡ here run.count
@@ -180,29 +192,22 @@ module _ (asks : Run) (program : Linked) (begins : ¬ FillsFirst asks program) (
 
     returns_so : (run : HasRun ends.Returned) → (stop : Stop) → stop ≡ Returned → Shown stop
     returns_so run stop is =
-        subst Shown (sym is) (shown ends.Returned run Returned run.out run.remains
+        subst Shown (sym is) (shown ends.Returned run Returned run.out run.remains tt
         (ends_so _ (Returns run.count run.within (had ends.Returned run) run.ends.0 (same_told ends.Returned run causes.Returned []))))
 
     exits_so : (status : ℤ) → (run : HasRun (ends.Exited status)) → (stop : Stop) → stop ≡ Exited status → Shown stop
     exits_so status run stop is =
-        subst Shown (sym is) (shown (ends.Exited status) run (Exited status) run.out run.remains
+        subst Shown (sym is) (shown (ends.Exited status) run (Exited status) run.out run.remains tt
         (ends_so _ (Exits run.count status run.within (had (ends.Exited status) run) run.ends.0 (same_told (ends.Exited status) run (causes.Exited status) []))))
 
     spends_so : (run : HasRun ends.BudgetSpent) → (stop : Stop) → IsToldAs causes.BudgetSpent (spent_line asks.steps) stop → Shown stop
-    spends_so run (Told cause text) (same, is) =
-        shown ends.BudgetSpent run (Told cause text) run.out run.remains
+    spends_so run (Told cause line) (same, is, can) =
+        shown ends.BudgetSpent run (Told cause line) run.out run.remains can
         (ends_so _ (Spends (subst (HadRoom asks program input) run.ends.1 (had ends.BudgetSpent run))
         (subst (λ count. outcome (here count) ≡ outcomes.Running) run.ends.1 run.ends.0.0)
-        (told_is causes.BudgetSpent cause text run.said (spent_line asks.steps) (read_to run.count) same is ∙ same_told ends.BudgetSpent run causes.BudgetSpent (spent_line asks.steps)
+        (told_is causes.BudgetSpent cause line run.said (spent_line asks.steps) (read_to run.count) same is ∙ same_told ends.BudgetSpent run causes.BudgetSpent (spent_line asks.steps)
         ∙ ap (λ count. told causes.BudgetSpent (here count).printed (spent_line asks.steps) (read_to count)) run.ends.1)))
-    spends_so run OutOfMemory is = no_memory ends.BudgetSpent run run.out run.remains
-    spends_so run Returned is = absurd is
-    spends_so run (Exited status) is = absurd is
-    spends_so run Usage is = absurd is
-    spends_so run (Refused text) is = absurd is
-    spends_so run FolderFault is = absurd is
-    spends_so run InputFault is = absurd is
-    spends_so run OutputFault is = absurd is
+    spends_so run other is = absurd is
 
     output_so : (run : HasRun ends.OutputFault) → (stop : Stop) → stop ≡ OutputFault → Shown stop
     output_so run stop is =
@@ -224,6 +229,7 @@ module _ (asks : Run) (program : Linked) (begins : ¬ FillsFirst asks program) (
             proper,
             ap (λ printed. output_fault (printed ++ front) (read_to run.count)) (said_so ends.OutputFault run),
           );
+          ready = tt;
         })
 
     -- what a call read that came before the one which failed
@@ -269,22 +275,15 @@ module _ (asks : Run) (program : Linked) (begins : ¬ FillsFirst asks program) (
             fails.own,
             ap (λ printed. input_fault_behind printed (read_to run.count + length fails.front)) (said_so ends.InputFault run),
           );
+          ready = tt;
         })
 
     -- an entry has reached what is counted
     fills_so : (live asked limit : ℕ) → (run : HasRun (ends.HeapFull live asked limit)) → (stop : Stop) → IsToldAs causes.HeapFull (full_line (rooms.Full live asked limit)) stop → Shown stop
-    fills_so live asked limit run OutOfMemory is = no_memory (ends.HeapFull live asked limit) run run.out run.remains
-    fills_so live asked limit run Returned is = absurd is
-    fills_so live asked limit run (Exited status) is = absurd is
-    fills_so live asked limit run Usage is = absurd is
-    fills_so live asked limit run (Refused text) is = absurd is
-    fills_so live asked limit run FolderFault is = absurd is
-    fills_so live asked limit run InputFault is = absurd is
-    fills_so live asked limit run OutputFault is = absurd is
-    fills_so live asked limit run (Told cause text) (same, is) =
-        shown (ends.HeapFull live asked limit) run (Told cause text) run.out run.remains
+    fills_so live asked limit run (Told cause line) (same, is, can) =
+        shown (ends.HeapFull live asked limit) run (Told cause line) run.out run.remains can
         (ends_so _ (Fills run.count run.ends.0 (had (ends.HeapFull live asked limit) run) reached
-        (told_is causes.HeapFull cause text run.said (full_line (rooms.Full live asked limit)) (read_to run.count) same is ∙ same_told (ends.HeapFull live asked limit) run causes.HeapFull (full_line (rooms.Full live asked limit))
+        (told_is causes.HeapFull cause line run.said (full_line (rooms.Full live asked limit)) (read_to run.count) same is ∙ same_told (ends.HeapFull live asked limit) run causes.HeapFull (full_line (rooms.Full live asked limit))
         ∙ ap (λ room. told causes.HeapFull (here run.count).printed (full_line room) (read_to run.count)) numbers))) where
           refused : MakesRoom tt (view_of run.before.state) (request (machine_of asks program) run.before.state) (Err (rooms.Full live asked limit))
               (record { facts = tt; residents = residents (map Some items) })
@@ -311,6 +310,28 @@ module _ (asks : Run) (program : Linked) (begins : ¬ FillsFirst asks program) (
 
           reached : IsTrue (one_has_reached most_words (request (machine_of asks program) (here run.count)))
           reached = subst (λ (state : State). IsTrue (one_has_reached most_words (request (machine_of asks program) state))) whole (refused.full.1 (ap Err full))
+    fills_so live asked limit run other is = absurd is
+
+    -- no memory was to be had for what the next step places
+    no_memory : (run : HasRun ends.OutOfMemory) → (stop : Stop) → stop ≡ OutOfMemory → Shown stop
+    no_memory run stop is =
+        subst Shown (sym is) (shown ends.OutOfMemory run OutOfMemory run.out run.remains tt
+        (inr (inl (
+          input,
+          may_so,
+          run.count,
+          run.ends.0,
+          had ends.OutOfMemory run,
+          subst (λ (state : State). request (machine_of asks program) state ≡ [] → ⊥) whole run.ends.1.refused.asked,
+          same_told ends.OutOfMemory run causes.OutOfMemory _,
+        )))) where
+          objects_so : run.before.state.objects ≡ map Some items
+          objects_so =
+              let collects = run.ends.1.refused.collects in
+              sym (all_kept (residents (map Some items)) run.before.state.objects items (sym collects.objects) (marks_count (map Some items) ∙ collects.count)) ∙ sym collects.objects
+
+          whole : run.before.state ≡ here run.count
+          whole = whole_so run.before (here run.count) items run.stands objects_so
 
     -- the exception is the one that is told
     kind_found : (found : Option Object) (class : ℕ) → option_map (λ object. object.kind) found ≡ Some class → (object : Object) × (found ≡ Some object) × (object.kind ≡ class)
@@ -318,15 +339,7 @@ module _ (asks : Run) (program : Linked) (begins : ¬ FillsFirst asks program) (
     kind_found (Some object) class is = (object, refl, cc is)
 
     throws_so : (class at : ℕ) → serial_of pred at ≡ later.roots.pending → (run : HasRun (ends.Uncaught class at)) → (stop : Stop) → IsUncaughtAs program (map Some items) class at stop → Shown stop
-    throws_so class at place run OutOfMemory is = no_memory (ends.Uncaught class at) run run.out run.remains
-    throws_so class at place run Returned is = absurd is
-    throws_so class at place run (Exited status) is = absurd is
-    throws_so class at place run Usage is = absurd is
-    throws_so class at place run (Refused text) is = absurd is
-    throws_so class at place run FolderFault is = absurd is
-    throws_so class at place run InputFault is = absurd is
-    throws_so class at place run OutputFault is = absurd is
-    throws_so class at place run (Told cause text) (same, units, tells, is) =
+    throws_so class at place run (Told cause line) (units, tells, (same, is, can)) =
         let state = here run.count in
         let whole : run.before.state ≡ state = before_whole (ends.Uncaught class at) run run.ends.0.1 in
         let later_is : later ≡ view_of state = ap (λ (moment : Moment (Unit {0})). view_of moment.state) run.ends.0.1 ∙ ap view_of whole in
@@ -335,10 +348,11 @@ module _ (asks : Run) (program : Linked) (begins : ¬ FillsFirst asks program) (
         let (object, there, kind) = kind_found (object_at state state.roots.pending) class run.ends.1 in
         let told_units : exception_units program state object ≡ Some units =
         sym (ap (option_and_then (exception_units program state)) (ap (object_at state) serial ∙ there)) ∙ tells state objects in
-        shown (ends.Uncaught class at) run (Told cause text) run.out run.remains
+        shown (ends.Uncaught class at) run (Told cause line) run.out run.remains can
         (ends_so _ (Throws run.count state.roots.pending object units run.within (had (ends.Uncaught class at) run) run.ends.0.0 there told_units
-        (told_is (causes.Uncaught class) cause text run.said (exception_line units) (read_to run.count) same is ∙ same_told (ends.Uncaught class at) run (causes.Uncaught class) (exception_line units)
+        (told_is (causes.Uncaught class) cause line run.said (exception_line units) (read_to run.count) same is ∙ same_told (ends.Uncaught class at) run (causes.Uncaught class) (exception_line units)
         ∙ ap (λ class. told (causes.Uncaught class) (here run.count).printed (exception_line units) (read_to run.count)) (sym kind))))
+    throws_so class at place run other (units, tells, is) = absurd is
 
     pub shown_so : (end : End) (stop : Stop) → ((class at : ℕ) → end ≡ ends.Uncaught class at → serial_of pred at ≡ later.roots.pending) → HasRun end
         → IsStopOf asks program (map Some items) end stop → Shown stop
@@ -347,10 +361,10 @@ module _ (asks : Run) (program : Linked) (begins : ¬ FillsFirst asks program) (
     shown_so (ends.Uncaught class at) stop place run is = throws_so class at (place class at refl) run stop is
     shown_so ends.BudgetSpent stop place run is = spends_so run stop is
     shown_so (ends.HeapFull live asked limit) stop place run is = fills_so live asked limit run stop is
-    shown_so ends.ReportFault stop place run is = subst Shown (sym is) (no_memory ends.ReportFault run run.out run.remains)
+    shown_so ends.ReportFault stop place run is = absurd is
     shown_so ends.InputFault stop place run is = input_so run stop is
     shown_so ends.OutputFault stop place run is = output_so run stop is
-    shown_so ends.OutOfMemory stop place run is = subst Shown (sym is) (no_memory ends.OutOfMemory run run.out run.remains)
+    shown_so ends.OutOfMemory stop place run is = no_memory run stop is
 
     -- ---- the input doesn't tell its bytes, and a step asks it
 
@@ -370,7 +384,7 @@ module _ (asks : Run) (program : Linked) (begins : ¬ FillsFirst asks program) (
     runs_stray : (stop : Stop) → MayStop stop → MayStray asks program left → (said : List ℕ) → RunsTo asks program left stop said 0
     runs_stray Returned may strays said = inr (begins, inr (strays, refl))
     runs_stray (Exited status) may strays said = inr (begins, inr (strays, refl))
-    runs_stray (Told cause text) may strays said = inr (begins, inr (strays, may))
+    runs_stray (Told cause line) may strays said = inr (begins, inr (strays, may))
     runs_stray OutOfMemory may strays said = inr (inr (strays, refl))
     runs_stray InputFault may strays said = inr (strays, refl)
     runs_stray OutputFault may strays said = inr (strays, refl)
@@ -385,6 +399,7 @@ module _ (asks : Run) (program : Linked) (begins : ¬ FillsFirst asks program) (
       appends = out;
       left = subst (λ known. IfSome known (λ bytes. leaves ≡ Some (drop 0 bytes))) (sym strays.untold) tt;
       runs = runs_stray stop (may_stop asks program (map Some items) end stop is) (stray_so strays) said;
+      ready = stop_ready asks program (map Some items) end stop is;
     }
 
     pub told_so : (end : End) (stop : Stop) → ((class at : ℕ) → end ≡ ends.Uncaught class at → serial_of pred at ≡ later.roots.pending)
@@ -399,13 +414,6 @@ pub tells_so : (program : Linked) (objects : List (Option Object)) (end : End) �
 tells_so program objects (ends.Uncaught class at) thrown = let is = thrown class at refl in (is.heap, is.thrown)
 tells_so program objects other thrown = tt
 
--- a write fails in the last step where the command stops for it
-pub counts_as : {One Other : Type 0} (before now : ℕ) → (One → Other) → (Other → One) → CountsFaults before now One → CountsFaults before now Other
-counts_as before now on back counts = record {
-  never_falls = counts.never_falls;
-  exact = λ low. ((λ other. (counts.exact low).0 (back other)), λ rose. on ((counts.exact low).1 rose));
-}
-
 -- where this is told, no call failed
 abbrev IsNoFault : Stop → Type 0
 IsNoFault InputFault = ⊥
@@ -414,13 +422,7 @@ IsNoFault other = Unit {0}
 
 told_quietly : (cause : Cause) (text : List ℕ) (stop : Stop) → IsToldAs cause text stop → IsNoFault stop
 told_quietly cause text (Told own line) is = tt
-told_quietly cause text OutOfMemory is = tt
 told_quietly cause text other is = absurd is
-
-uncaught_quietly : (program : Linked) (objects : List (Option Object)) (class at : ℕ) (stop : Stop) → IsUncaughtAs program objects class at stop → IsNoFault stop
-uncaught_quietly program objects class at (Told cause text) is = tt
-uncaught_quietly program objects class at OutOfMemory is = tt
-uncaught_quietly program objects class at other is = absurd is
 
 no_output : (stop : Stop) → IsNoFault stop → stop ≡ OutputFault → ⊥
 no_output stop quiet same = subst IsNoFault same quiet
@@ -438,10 +440,10 @@ module _ (asks : Run) (program : Linked) (objects : List (Option Object)) where
   quiet : (end : End) (stop : Stop) → IsStopOf asks program objects end stop → Quiet end stop
   quiet ends.Returned stop is = subst IsNoFault (sym is) tt
   quiet (ends.Exited status) stop is = subst IsNoFault (sym is) tt
-  quiet (ends.Uncaught class at) stop is = uncaught_quietly program objects class at stop is
+  quiet (ends.Uncaught class at) stop (units, tells, is) = told_quietly (causes.Uncaught class) (exception_line units) stop is
   quiet ends.BudgetSpent stop is = told_quietly causes.BudgetSpent (spent_line asks.steps) stop is
   quiet (ends.HeapFull live asked limit) stop is = told_quietly causes.HeapFull (full_line (rooms.Full live asked limit)) stop is
-  quiet ends.ReportFault stop is = subst IsNoFault (sym is) tt
+  quiet ends.ReportFault stop is = absurd is
   quiet ends.OutOfMemory stop is = subst IsNoFault (sym is) tt
   quiet ends.InputFault stop is = is
   quiet ends.OutputFault stop is = is
@@ -474,33 +476,26 @@ IsRefused asks program reason =
     (after : Meaning (Unit {0})) × MakesRoom tt (view_of (empty_state program [])) (asked (start_plan (machine_of asks program) (texts_of asks) [])) (Err reason) after
 
 refused_so : (asks : Run) (program : Linked) (left : Option (List ℕ)) (reason : NoRoom) (stop : Stop) → IsRefused asks program reason → IsRefusedStart reason stop → RunsTo asks program left stop [] 0
-refused_so asks program left rooms.ReportFault stop refused is = subst (λ stop. RunsTo asks program left stop [] 0) (sym is) (inl (refl, refl))
+refused_so asks program left rooms.ReportFault stop refused is = absurd is
 refused_so asks program left rooms.OutOfMemory stop refused is = subst (λ stop. RunsTo asks program left stop [] 0) (sym is) (inl (refl, refl))
-refused_so asks program left (rooms.Full live most limit) OutOfMemory refused is = inl (refl, refl)
-refused_so asks program left (rooms.Full live most limit) Returned refused is = absurd is
-refused_so asks program left (rooms.Full live most limit) (Exited status) refused is = absurd is
-refused_so asks program left (rooms.Full live most limit) Usage refused is = absurd is
-refused_so asks program left (rooms.Full live most limit) (Refused text) refused is = absurd is
-refused_so asks program left (rooms.Full live most limit) FolderFault refused is = absurd is
-refused_so asks program left (rooms.Full live most limit) InputFault refused is = absurd is
-refused_so asks program left (rooms.Full live most limit) OutputFault refused is = absurd is
-refused_so asks program left (rooms.Full live most limit) (Told cause text) (after, refused) (same, is) =
+refused_so asks program left (rooms.Full live most limit) (Told cause line) (after, refused) (same, is, can) =
     let full = full_is (refused.refused (rooms.Full live most limit) refl) in
-    inl (refused.full.1 (ap Err full), ap (λ cause. told cause [] (string_bytes text) 0) same ∙ ap (λ err. told causes.HeapFull [] err 0) (is ∙ ap full_line full))
+    inl (refused.full.1 (ap Err full), ap (λ cause. told cause [] (line_text line) 0) same ∙ ap (λ err. told causes.HeapFull [] err 0) (is ∙ ap full_line full))
   where
     full_is : (rooms.Full live most limit ≡ no_room_in (view_of (empty_state program []))) ⊎ (rooms.Full live most limit ≡ rooms.OutOfMemory)
         → rooms.Full live most limit ≡ no_room_in (view_of (empty_state program []))
     full_is (inl is) = is
     full_is (inr is) = absurd (cc is)
+refused_so asks program left (rooms.Full live most limit) other refused is = absurd is
 
 -- which has read nothing
 pub unbegun_so : (asks : Run) (program : Linked) (left known : Option (List ℕ)) (reason : NoRoom) (stop : Stop) → Appends known known [] → IsRefused asks program reason → IsRefusedStart reason stop
     → HasRunTo asks program left left known known stop
 unbegun_so asks program left known reason stop appends refused is =
-    record { printed = []; read = 0; appends = appends; left = nothing_read left; runs = refused_so asks program left reason stop refused is }
+    record { printed = []; read = 0; appends = appends; left = nothing_read left; runs = refused_so asks program left reason stop refused is; ready = refused_ready reason stop is }
 
 quietly : (reason : NoRoom) (stop : Stop) → IsRefusedStart reason stop → IsNoFault stop
-quietly rooms.ReportFault stop is = subst IsNoFault (sym is) tt
+quietly rooms.ReportFault stop is = absurd is
 quietly rooms.OutOfMemory stop is = subst IsNoFault (sym is) tt
 quietly (rooms.Full live most limit) stop is = told_quietly causes.HeapFull (full_line (rooms.Full live most limit)) stop is
 
@@ -509,4 +504,22 @@ refused_quietly reason stop is = (no_output stop (quietly reason stop is), no_in
 
 -- nor one for which there was no memory
 pub unrun_so : (asks : Run) (program : Linked) (left known : Option (List ℕ)) → Appends known known [] → HasRunTo asks program left left known known OutOfMemory
-unrun_so asks program left known appends = record { printed = []; read = 0; appends = appends; left = nothing_read left; runs = inl (refl, refl) }
+unrun_so asks program left known appends = record { printed = []; read = 0; appends = appends; left = nothing_read left; runs = inl (refl, refl); ready = tt }
+
+-- and a fault of an end or of a start that was refused is that of the stop
+module _ (asks : Run) (program : Linked) (objects : List (Option Object)) where
+  pub over_output_stops : (ended : Result End NoRoom) (stop : Stop) → IsStopOver asks program objects ended stop → ended ≡ Ok ends.OutputFault → stop ≡ OutputFault
+  over_output_stops (Ok end) stop is same = output_stops asks program objects end stop is (cc same)
+  over_output_stops (Err reason) stop is same = absurd (cc same)
+
+  pub over_output_ends : (ended : Result End NoRoom) (stop : Stop) → IsStopOver asks program objects ended stop → stop ≡ OutputFault → ended ≡ Ok ends.OutputFault
+  over_output_ends (Ok end) stop is same = ap Ok (output_ends asks program objects end stop is same)
+  over_output_ends (Err reason) stop is same = absurd ((refused_quietly reason stop is).0 same)
+
+  pub over_input_stops : (ended : Result End NoRoom) (stop : Stop) → IsStopOver asks program objects ended stop → ended ≡ Ok ends.InputFault → stop ≡ InputFault
+  over_input_stops (Ok end) stop is same = input_stops asks program objects end stop is (cc same)
+  over_input_stops (Err reason) stop is same = absurd (cc same)
+
+  pub over_input_ends : (ended : Result End NoRoom) (stop : Stop) → IsStopOver asks program objects ended stop → stop ≡ InputFault → ended ≡ Ok ends.InputFault
+  over_input_ends (Ok end) stop is same = ap Ok (input_ends asks program objects end stop is same)
+  over_input_ends (Err reason) stop is same = absurd ((refused_quietly reason stop is).1 same)

@@ -83,7 +83,7 @@ fault_cause OfOutput = OutputFault
 pub cut_cause : (fault : Fault) (command : Command) (files : Option Files) (left : Option (List ℕ)) (ending : Ending) → IsCutShort fault command files left ending → ending.cause ≡ fault_cause fault
 unfolding fault_cause
 cut_cause OfMemory (RunIn folder run) files left ending (inl is) = ap (λ e. e.cause) is
-cut_cause OfMemory (RunIn folder run) files left ending (inr (program, runnable, inl (input, may, count, within, had, is))) = ap (λ e. e.cause) is
+cut_cause OfMemory (RunIn folder run) files left ending (inr (program, runnable, inl (input, may, count, within, had, asks, is))) = ap (λ e. e.cause) is
 cut_cause OfMemory (RunIn folder run) files left ending (inr (program, runnable, inr (strays, is))) = is
 cut_cause OfMemory (ListOf path) files left ending is = ap (λ e. e.cause) is
 cut_cause OfMemory Assemble files left ending (read, may, is) = ap (λ e. e.cause) is

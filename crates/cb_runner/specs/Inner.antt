@@ -1,27 +1,29 @@
 -- What private contracts and proofs cite: no public clause names this file.
-use Rattle.std.specs.Prelude.{◌≡◌, ◌⊎◌, map, pred, ℕ, ◌+◌, ◌<◌, ◌≤◌, Bool, true, false, List, [], ◌∷◌, ◌++◌, length, drop, codes, string_bytes, Vec, Result, Ok, Err, Option, Some, IfSome, IsSomeAnd, IsTrue, unwrap_or}
+use Rattle.std.specs.Prelude.{◌≡◌, ◌⊎◌, map, pred, ℕ, ◌+◌, ◌<◌, ◌≤◌, Bool, true, false, List, [], ◌∷◌, ◌++◌, length, drop, codes, string_bytes, Vec, Result, Ok, Err, Option, Some, option_and_then, IfSome, IsSomeAnd, IsTrue, unwrap_or}
 use Rattle.std.specs.Io.KnownBytes.{Appends, Consumes, IsAtEnd, Keeps}
 use Rattle.std.specs.List.{AllByRecursion}
 use Rattle.std.specs.declared.alloc.Global.{Global}
-use Rattle.cb_heap.specs.Reading.{seen, serial_of}
+use Rattle.cb_heap.specs.Reading.{serial_of}
 use Rattle.cb_heap.specs.declared.no_room.NoRoom.{NoRoom}
 use Rattle.cb_heap.specs.declared.no_room.NoRoom.TheVariants as rooms
 use Rattle.cb_interp.specs.Reading.{as_bytes}
-use Rattle.cb_interp.specs.Starting.{BeginsWith, unread}
-use Rattle.cb_interp.specs.Texts.{TellsException}
-use Rattle.cb_act.specs.Turning.{moment_of}
+use Rattle.cb_interp.specs.Texts.{TellsException, exception_units}
 use Rattle.cb_interp.specs.declared.end.End.{End}
 use Rattle.cb_interp.specs.declared.end.End.TheVariants as ends
 use Rattle.cb_machine.specs.Performing.{most_elements}
-use Rattle.cb_mapheap.specs.Room.{rules_of}
-use Rattle.cb_plain.specs.State.{Object, Roots}
+use Rattle.cb_machine.specs.Starting.{empty_state}
+use Rattle.cb_plain.specs.State.{Object}
+use Rattle.cb_plain.specs.Updates.{object_in, with_objects}
 use Rattle.cb_safety.specs.Heap.{IsHeap}
 use Rattle.cb_safety.specs.Kinds.{IsOfKind, kinds_of}
+use Rattle.cb_safety.specs.Linked.{IsLinked}
 use Rattle.cb_safety.specs.Strings.{IsText}
+use Rattle.cb_verify.specs.Typed.{IsTyped}
 use Rattle.cb_verify.specs.Within.{kind_of_throwable}
 use Rattle.cb_io.specs.Sink.{IsProperPrefix}
 use Rattle.cb_classfile.specs.declared.fault.ClassFault.{ClassFault}
 use Rattle.cb_classfile.specs.declared.fault.ClassFault.TheVariants as faults
+use Rattle.cb_link.specs.Numbers.{or_none}
 use Rattle.cb_link.specs.Program.{Linked}
 use Rattle.cb_link.specs.declared.refusal.Refusal.{Refusal as LinkRefusal}
 use Rattle.cb_link.specs.declared.refusal.Refusal.TheVariants as link_refusals
@@ -30,6 +32,9 @@ use Rattle.cb_runner.specs.declared.cause.Cause.TheVariants as causes
 use Rattle.cb_runner.specs.declared.input.Input.{Input}
 use Rattle.cb_runner.specs.declared.input.Input.TheVariants.{Whole, TooLong}
 use Rattle.cb_runner.specs.declared.refusal.Refusal.{Refusal}
+use Rattle.cb_runner.specs.declared.line.Line.{Line}
+use Rattle.cb_runner.specs.declared.line.Line.TheVariants as lines
+use Rattle.cb_runner.specs.declared.line.Unhandled.{Unhandled}
 use Rattle.cb_runner.specs.declared.stop.Stop.{Stop}
 use Rattle.cb_runner.specs.declared.stop.Stop.TheVariants.{Exited, FolderFault, InputFault, OutOfMemory, OutputFault, Refused, Returned, Told, Usage}
 use Rattle.cb_runner.specs.declared.arguments.Arguments.{Arguments}
@@ -40,7 +45,7 @@ use Rattle.cb_runner.specs.Answer.{ends_whole}
 use Rattle.cb_runner.specs.Ending.{Ending, returned}
 use Rattle.cb_runner.specs.Messages.{Reason, BadVersion, Malformed, Unsupported, line, reason_of, refusal_text}
 use Rattle.cb_runner.specs.Run.{IsUntyped, reason_of_linking}
-use Rattle.cb_runner.specs.Running.{CutsInput, CutsMemory, CutsOutput, EndsRun, exception_line, full_line, machine_of, spent_line, texts_of}
+use Rattle.cb_runner.specs.Running.{CutsInput, CutsMemory, CutsOutput, EndsRun, exception_line, full_line, spent_line}
 use Rattle.cb_runner.specs.Words.{AreOptions, Command, IsOption, IsOptionOf, RunIn, ListOf, Assemble, Run, TellsNumber, internal_name}
 
 -- the words that are arguments, and the run and the command that a value of the program is
@@ -62,18 +67,32 @@ cause_of Returned = causes.Returned
 cause_of Usage = causes.Usage
 cause_of (Refused text) = causes.Refused
 cause_of (Exited status) = causes.Exited status
-cause_of (Told cause text) = cause
+cause_of (Told cause line) = cause
 cause_of FolderFault = causes.FolderFault
 cause_of InputFault = causes.InputFault
 cause_of OutputFault = causes.OutputFault
 cause_of OutOfMemory = causes.OutOfMemory
+
+-- what is told of the exception of a serial, among objects where it can be told
+abbrev pub units_told : Linked → List (Option Object) → ℕ → List ℕ
+units_told program objects serial =
+    or_none (option_and_then (exception_units program (with_objects (empty_state program []) objects)) (object_in objects serial))
+
+abbrev pub unhandled_line : Unhandled → List ℕ
+unhandled_line exception = exception_line (units_told exception.program (map Some exception.store.objects) (serial_of pred exception.at))
+
+-- the last line of a program that was run
+abbrev pub line_text : Line → List ℕ
+line_text (lines.Spent steps) = spent_line steps
+line_text (lines.Full live asked limit) = full_line (rooms.Full live asked limit)
+line_text (lines.Unhandled exception) = unhandled_line exception
 
 abbrev pub line_of : Stop → List ℕ
 line_of Returned = []
 line_of Usage = line (codes "these words are no command")
 line_of (Refused text) = string_bytes text
 line_of (Exited status) = []
-line_of (Told cause text) = string_bytes text
+line_of (Told cause line) = line_text line
 line_of FolderFault = line (codes "folder fault")
 line_of InputFault = line (codes "input fault")
 line_of OutputFault = line (codes "output fault")
@@ -83,9 +102,30 @@ line_of OutOfMemory = line (codes "out of memory")
 abbrev pub ending_of : Stop → List ℕ → ℕ → Ending
 ending_of stop out read = record { cause = cause_of stop; out = out; err = line_of stop; read = read }
 
--- the cause that a program which was run is told to have ended for is one of a run that nothing cut short
+-- the line of any other stop
+abbrev pub IsKnownLine : Stop → List ℕ → Type 0
+IsKnownLine (Told cause line) text = Unit {0}
+IsKnownLine stop text = text ≡ line_of stop
+
+-- an exception that can be told: the program is linked and typed, and its objects are, among which it is
+pub record IsUnhandled (exception : Unhandled) : Type 0 where
+  pub linked : IsLinked exception.program
+  pub fits : IsTyped exception.program
+  pub heap : IsHeap exception.program (map Some exception.store.objects)
+  pub thrown : IsOfKind exception.program (kinds_of (map Some exception.store.objects)) kind_of_throwable (serial_of pred exception.at)
+
+abbrev pub CanBeTold : Line → Type 0
+CanBeTold (lines.Unhandled exception) = IsUnhandled exception
+CanBeTold line = Unit {0}
+
+-- a stop whose last line can be written
+abbrev pub IsReady : Stop → Type 0
+IsReady (Told cause line) = CanBeTold line
+IsReady other = Unit {0}
+
+-- the cause that a program which was run is told to have ended for is one of a run that nothing cut short, and its line can be written
 abbrev pub TellsWhole : Stop → Type 0
-TellsWhole (Told cause text) = IsTrue (ends_whole cause)
+TellsWhole (Told cause line) = IsTrue (ends_whole cause) × CanBeTold line
 TellsWhole other = Unit {0}
 
 -- it is refused for this reason, or there was no memory for its line
@@ -203,34 +243,27 @@ pub record HasRunTo (run : Run) (program : Linked) (before now known taken : Opt
   pub appends : Appends known taken printed
   pub left : IfSome (as_bytes before) (λ left. now ≡ Some (drop read left))
   pub runs : RunsTo run program before stop printed read
+  pub ready : IsReady stop
 
 -- what the machine that never frees is given for an input: no bytes where it doesn't tell them
 abbrev pub given_input : Option (List ℕ) → List ℕ
 given_input left = unwrap_or (as_bytes left) []
 
--- a run has begun, whatever the input: what is kept stands at the start
-abbrev pub HasBegun : Run → Linked → List Object → Roots → Type 0
-HasBegun run program objects roots =
-    (input : List ℕ) → BeginsWith rules_of (machine_of run program) (texts_of run) input tt (moment_of (seen pred (map Some objects) roots) (unread input) tt)
-
--- a command stops for a cause with this last line, or there was no memory for it
+-- a command stops for a cause with this last line
 abbrev pub IsToldAs : Cause → List ℕ → Stop → Type 0
-IsToldAs cause text (Told own line) = (own ≡ cause) × (string_bytes line ≡ text)
-IsToldAs cause text OutOfMemory = Unit {0}
+IsToldAs cause text (Told own line) = (own ≡ cause) × (line_text line ≡ text) × CanBeTold line
 IsToldAs cause text other = ⊥
 
 -- how a command stops whose run hasn't begun for this want of room
 abbrev pub IsRefusedStart : NoRoom → Stop → Type 0
 IsRefusedStart (rooms.Full live asked limit) stop = IsToldAs causes.HeapFull (full_line (rooms.Full live asked limit)) stop
-IsRefusedStart rooms.ReportFault stop = stop ≡ OutOfMemory
+IsRefusedStart rooms.ReportFault stop = ⊥
 IsRefusedStart rooms.OutOfMemory stop = stop ≡ OutOfMemory
 
 -- so is the exception of a place told, among the objects of a store that never lets one go
 abbrev pub IsUncaughtAs : Linked → List (Option Object) → (class at : ℕ) → Stop → Type 0
-IsUncaughtAs program objects class at (Told cause line) =
-    (cause ≡ causes.Uncaught class) × (units : List ℕ) × TellsException program objects (serial_of pred at) units × (string_bytes line ≡ exception_line units)
-IsUncaughtAs program objects class at OutOfMemory = Unit {0}
-IsUncaughtAs program objects class at other = ⊥
+IsUncaughtAs program objects class at stop =
+    (units : List ℕ) × TellsException program objects (serial_of pred at) units × IsToldAs (causes.Uncaught class) (exception_line units) stop
 
 -- how a command stops whose run has ended so
 abbrev pub IsStopOf : Run → Linked → List (Option Object) → End → Stop → Type 0
@@ -239,7 +272,7 @@ IsStopOf run program objects (ends.Exited status) stop = stop ≡ Exited status
 IsStopOf run program objects (ends.Uncaught class at) stop = IsUncaughtAs program objects class at stop
 IsStopOf run program objects ends.BudgetSpent stop = IsToldAs causes.BudgetSpent (spent_line run.steps) stop
 IsStopOf run program objects (ends.HeapFull live asked limit) stop = IsToldAs causes.HeapFull (full_line (rooms.Full live asked limit)) stop
-IsStopOf run program objects ends.ReportFault stop = stop ≡ OutOfMemory
+IsStopOf run program objects ends.ReportFault stop = ⊥
 IsStopOf run program objects ends.InputFault stop = stop ≡ InputFault
 IsStopOf run program objects ends.OutputFault stop = stop ≡ OutputFault
 IsStopOf run program objects ends.OutOfMemory stop = stop ≡ OutOfMemory

@@ -1,6 +1,7 @@
 pub mod Answer
 pub mod Asm
 pub mod Ending
+pub mod Executing
 pub mod Inner
 pub mod List
 pub mod Messages

@@ -105,11 +105,12 @@ EndsRun run program left ending =
     ⊎ ((¬ FillsFirst run program)
     × (((input : List ℕ) × MayBeInput left input × EndsBegun run program input ending) ⊎ (MayStray run program left × IsTrue (ends_begun ending.cause))))
 
--- and so it is cut short: no memory is to be had, a call of the input fails in a step that asks it, which may have taken other bytes before,
+-- and so it is cut short: no memory is to be had for what the next step places, a call of the input fails in a step that asks it, which may have taken other bytes before,
 -- but fewer than it takes, or a write of what a step prints fails
 abbrev pub CutsMemory : Run → Linked → Option (List ℕ) → Ending → Type 0
 CutsMemory run program left ending =
-    ((input : List ℕ) × MayBeInput left input × (count : ℕ) × (count ≤ run.steps) × HadRoom run program input count
+    ((input : List ℕ) × MayBeInput left input × (count : ℕ) × (count < run.steps) × HadRoom run program input count
+    × (request (machine_of run program) (state_at run program input count) ≡ [] → ⊥)
     × (ending ≡ told causes.OutOfMemory (state_at run program input count).printed (line (codes "out of memory")) (read_at run program input count)))
     ⊎ (MayStray run program left × (ending.cause ≡ causes.OutOfMemory))
 

@@ -21,6 +21,7 @@ mod file;
 mod input;
 mod law;
 mod limits;
+mod line;
 mod linking;
 mod list;
 mod option;

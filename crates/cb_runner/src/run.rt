@@ -31,7 +31,7 @@ pub(crate) fn run_class<F: Folder, I: Source, O: Sink>(
     ensures output_fault { CountsFaults (O.faults out.old) (O.faults out.new) (result ≡ stops.OutputFault) }
 {
     match link_class(alloc, asked, folder) {
-        Ok(program) => run_program(alloc, &program, asked, input, out),
+        Ok(program) => run_program(alloc, program, asked, input, out),
         Err(stop) => stop,
     }
 }

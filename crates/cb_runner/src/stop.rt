@@ -1,17 +1,19 @@
 // How a command stops, before its last line is told.
-ghost use Rattle.std.specs.Prelude.{◌≡◌, List, ℕ};
+ghost use Rattle.std.specs.Prelude.{◌≡◌, List, ℕ, IsErr};
+ghost use Rattle.cb_interp.specs.Texts.{Writes};
 ghost use Rattle.cb_io.specs.Faults.{CountsFaults};
 ghost use Rattle.cb_runner.specs.Answer.{IsTold};
-ghost use Rattle.cb_runner.specs.Inner.{IsRefusal, TellsWhole, cause_of, ending_of, line_of};
+ghost use Rattle.cb_runner.specs.Inner.{IsKnownLine, IsRefusal, TellsWhole, cause_of, ending_of, line_of};
 ghost use Rattle.cb_runner.specs.Messages.{MissingClass, reason_of};
 
+use crate::line::Line;
 use crate::{Cause, Refusal};
 use cb_io::{Failed, Sink, write_all};
 use cb_plain::OutOfMemory;
 use std::alloc::Global;
 
 /// How a command stopped.
-#[derive(Debug, Drop)]
+#[derive(Drop)]
 pub(crate) enum Stop {
     /// It came to its end.
     Returned,
@@ -22,7 +24,7 @@ pub(crate) enum Stop {
     /// The program that it ran called `exit` with this status.
     Exited(i32),
     /// The program that it ran ended for this cause, with this last line.
-    Told(Cause, String),
+    Told(Cause, Line),
     /// A call of the folder failed.
     FolderFault,
     /// A call of the input failed.
@@ -71,9 +73,21 @@ impl Stop {
         ensures told { (out : List ℕ) (read : ℕ) → IsTold (ending_of self out read) result (E.taken err.old) (E.taken err.new) }
         ensures fault { CountsFaults (E.faults err.old) (E.faults err.new) (result ≡ Cause.ErrFault) }
     {
-        match write_all(err, self.last_line().as_bytes()) {
+        match self.write_line(err) {
             Ok(()) => self.cause(),
             Err(Failed) => Cause::ErrFault,
+        }
+    }
+
+    /// Writes the last line. After a failed call a proper prefix of it was taken.
+    fn write_line<E: Sink>(&self, err: &mut E) -> Result<(), Failed>
+        requires { TellsWhole self.now }
+        ensures written { Writes (E.taken err.old) (E.taken err.new) (line_of self.now) result }
+        ensures cause { CountsFaults (E.faults err.old) (E.faults err.new) (IsErr result) }
+    {
+        match self {
+            Stop::Told(_, line) => line.write(err),
+            other => write_all(err, other.known_line().as_bytes()),
         }
     }
 
@@ -94,14 +108,14 @@ impl Stop {
         }
     }
 
-    /// Its last line on the error output, or nothing.
-    fn last_line(&self) -> &str
-        ensures { result.now ≡ line_of self.now }
+    /// Its last line on the error output, or nothing, but for that of a program that was run.
+    fn known_line(&self) -> &str
+        ensures { IsKnownLine self.now result.now }
     {
         match self {
-            Stop::Returned | Stop::Exited(_) => "",
+            Stop::Returned | Stop::Exited(_) | Stop::Told(_, _) => "",
             Stop::Usage => "cbvm: these words are no command\n",
-            Stop::Refused(line) | Stop::Told(_, line) => line.as_str(),
+            Stop::Refused(line) => line.as_str(),
             Stop::FolderFault => "cbvm: folder fault\n",
             Stop::InputFault => "cbvm: input fault\n",
             Stop::OutputFault => "cbvm: output fault\n",

@@ -1,4 +1,6 @@
-use Rattle.std.proofs.Common.{ap, arith, [], ◌∷◌}
+use Rattle.std.proofs.Common.{ap, arith, refl, [], ◌∷◌}
+use Rattle.std.proofs.lemmas.Bool.{false≢true}
+use Rattle.cb_interp.proofs.RunCounts.{counts_as}
 use Rattle.cb_act.specs.Turning.{machine_of, state_of}
 use Rattle.cb_frames.specs.Limited.{Limited}
 use Rattle.cb_heap.specs.Reading.{serial_of}
@@ -25,7 +27,7 @@ returns-in-Ok-clause-made g c =
     c.requires.1.1.1.0 c.requires.1.1.1.1.0 c.requires.1.1.1.1.1.0 c.requires.1.1.0.linked c.requires.1.1.0.fits c.requires.1.1.0.typed
     (c.linked_has_natives.ensures c.args.program.now c.requires.1.1.0.linked c.requires.1.1.0.fits) (serial_of (g.S.Store.storage c.args.store.now).index c.args.range.at) c.args.range.from c.args.range.count
     c.requires.1.1.1.1.1.1.0 c.requires.1.1.1.1.1.1.1
-    g.S.Store.rules (g.S.Store.storage c.args.store.now).facts c.in-Some.next c.in-Some.is (g.I.Source.left c.args.input.now) (g.I.Source.left c.read_into.new.input) c.in-Ok.answer
+    g.S.Store.rules (g.S.Store.storage c.args.store.now).facts c.in-Some.next c.in-Some.is g.I.Source.gave c.args.input.now c.read_into.new.input (g.I.Source.left c.args.input.now) (g.I.Source.left c.read_into.new.input) c.in-Ok.answer
     (g.S.Store.storage c.read_into.new.store).index (g.S.Store.storage c.read_into.new.store).kept (g.S.Store.storage c.read_into.new.store).facts c.leave_answer.new.roots.roots
     c.in-Ok.ensures.read c.in-Ok.ensures.places c.in-Ok.ensures.facts (ap (λ (held : Limited). held.roots) c.leave_answer.ensures)
 
@@ -39,10 +41,18 @@ returns-in-Err-clause-fails g c =
 
 pub returns-in-Err-clause-lost : goal.returns-in-Err-clause-lost
 returns-in-Err-clause-lost g c =
-    loses_fails (machine_of c.args.program.now c.args.roots.now.limit) (state_of (view_in (g.S.Store.storage c.args.store.now) c.args.roots.now.roots) g.outside) c.args.range.count (g.I.Source.left c.args.input.now) (g.I.Source.left c.read_into.new.input)
+    loses_fails g.I.Source.gave c.args.input.now (machine_of c.args.program.now c.args.roots.now.limit) (state_of (view_in (g.S.Store.storage c.args.store.now) c.args.roots.now.roots) g.outside) c.args.range.count (g.I.Source.left c.args.input.now) (g.I.Source.left c.read_into.new.input)
     (λ bytes few. range_takes c.args.program.now (g.S.Store.storage c.args.store.now).index (g.S.Store.storage c.args.store.now).kept c.args.roots.now.limit c.args.roots.now.roots g.outside c.args.decoded.now c.args.method
     c.requires.1.1.1.0 c.requires.1.1.1.1.0 c.requires.1.1.1.1.1.0 c.requires.1.1.0.linked c.requires.1.1.0.fits c.requires.1.1.0.typed
     (c.linked_has_natives.ensures c.args.program.now c.requires.1.1.0.linked c.requires.1.1.0.fits) (serial_of (g.S.Store.storage c.args.store.now).index c.args.range.at) c.args.range.from c.args.range.count
     c.requires.1.1.1.1.1.1.0 c.requires.1.1.1.1.1.1.1
     bytes few c.in-Some.next c.in-Some.is)
     c.in-Err.ensures.lost
+
+pub returns-in-Ok-clause-read : goal.returns-in-Ok-clause-read
+returns-in-Ok-clause-read g c =
+    counts_as (g.I.Source.faults c.args.input.now) (g.I.Source.faults c.read_into.new.input) (λ is. absurd (false≢true is)) (λ is. absurd (cc is)) c.in-Ok.ensures.cause
+
+pub returns-in-Err-clause-read : goal.returns-in-Err-clause-read
+returns-in-Err-clause-read g c =
+    counts_as (g.I.Source.faults c.args.input.now) (g.I.Source.faults c.read_into.new.input) (λ is. refl) (λ is. refl) c.in-Err.ensures.cause

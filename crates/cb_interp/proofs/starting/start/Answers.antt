@@ -91,6 +91,12 @@ returns-in_err-make_room-clause-refused g c =
           (ap (λ (held : Limited). held.roots) c.ready.ensures) c.ask.ensures c.make_room.ensures.collected.count c.in_err-make_room.ensures.ruled;
     })
 
+pub returns-in_err-make_room-clause-nothing : goal.returns-in_err-make_room-clause-nothing
+returns-in_err-make_room-clause-nothing g c =
+    let left = (g.S.Store.storage c.make_room.new.self).kept in
+    handed_on (λ (reason : NoRoom). left ≡ []) c.from_residual.result c.in_err-make_room.field-0.0 c.from_residual.ensures
+    (none_left left (c.make_room.ensures.collected.count ∙ ap (λ (kept : List (Option Object)). length kept) c.requires.empty))
+
 pub returns-in_err-make_room-clause-counted : goal.returns-in_err-make_room-clause-counted
 returns-in_err-make_room-clause-counted g c =
     subst (λ (result : Result (Unit {0}) NoRoom). CountsFaults (g.S.Store.storage c.args.store.now).faults (g.S.Store.storage c.make_room.new.self).faults (IsFault result))

@@ -11,7 +11,7 @@ returns-clause-moved g c =
     let kept : (g.S.Store.storage c.write_bytes.new.store).kept ≡ with_bytes objects array c.args.from bytes = c.write_bytes.ensures.kept in
     let read = c.in_ok-moved.ensures.moved in
     record {
-      moves = record { bytes = bytes; low = read.low; size = read.size; consumes = read.consumes; stand = kept };
+      moves = record { bytes = bytes; known = c.in_ok-moved.ensures.given; low = read.low; size = read.size; consumes = read.consumes; stand = kept };
       few = read.few;
       end = read.end;
     }

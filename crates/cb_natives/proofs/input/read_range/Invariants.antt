@@ -1,11 +1,12 @@
 use Rattle.std.proofs.Common.{◌≡◌, ◌≤◌, ◌<◌, ◌-◌, ◌^◌}
 use Rattle.cb_heap.specs.Reading.{serial_of}
+use Rattle.cb_natives.specs.Asking.{Calls}
 use Rattle.cb_natives.specs.Input.{MovesInto}
 use Rattle.cb_natives.proofs.input.read_range.Given as goal
 
 abbrev pub invariant-loop-taken : goal.invariant-loop-taken
 invariant-loop-taken g l = record {
-  moves : MovesInto (g.I.Source.left l.fn.input) (g.I.Source.left l.input) (g.S.Store.storage l.fn.store).kept (g.S.Store.storage l.store).kept (serial_of (g.S.Store.storage l.fn.store).index l.at) l.from l.taken;
+  moves : MovesInto (λ bytes. Calls g.I.Source.gave l.fn.input bytes l.input) (g.I.Source.left l.fn.input) (g.I.Source.left l.input) (g.S.Store.storage l.fn.store).kept (g.S.Store.storage l.store).kept (serial_of (g.S.Store.storage l.fn.store).index l.at) l.from l.taken;
   most : l.taken ≤ l.count;
   never_falls : g.I.Source.faults l.fn.input ≤ g.I.Source.faults l.input;
   unfailed : g.I.Source.faults l.fn.input < 2 ^ 64 - 1 → g.I.Source.faults l.input ≤ g.I.Source.faults l.fn.input;

@@ -10,7 +10,8 @@ returns-clause-read g c =
     let takes = c.in_ok-taken.ensures.taken in
     record {
       bytes = takes.moves.bytes;
-      took = took_all (g.I.Source.left c.args.input.now) (g.I.Source.left c.read_range.new.input) c.args.range.count (g.S.Store.storage c.args.store.now).kept (g.S.Store.storage c.read_range.new.store).kept
+      asked = takes.moves.known;
+      took = took_all g.I.Source.gave c.args.input.now c.read_range.new.input (g.I.Source.left c.args.input.now) (g.I.Source.left c.read_range.new.input) c.args.range.count (g.S.Store.storage c.args.store.now).kept (g.S.Store.storage c.read_range.new.store).kept
           (serial_of (g.S.Store.storage c.args.store.now).index c.args.range.at) c.args.range.from c.in_ok-taken.taken takes;
       stand = takes.moves.stand;
       gives = c.count_answer.ensures ∙ ap (λ count. answers.Int (count_number count)) (sym takes.moves.size);

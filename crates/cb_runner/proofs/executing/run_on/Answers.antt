@@ -1,4 +1,4 @@
-use Rattle.std.proofs.Common.{ap, map, pred, refl, rules, sym, Some}
+use Rattle.std.proofs.Common.{◌<◌, ap, arith, map, pred, refl, rules, sym, Some}
 use Rattle.cb_heap.specs.Reading.{seen, serial_of}
 use Rattle.cb_interp.specs.Starting.{unread}
 use Rattle.cb_act.specs.Turning.{moment_of}
@@ -6,11 +6,11 @@ use Rattle.cb_plain.specs.State.{State}
 use Rattle.cb_runner.specs.Inner.{given_input, run_of}
 use Rattle.cb_runner.specs.Running.{machine_of, texts_of}
 use Rattle.cb_runner.proofs.Begun.{begins_so, begun_runs, begun_stands, ended_so, given_bytes, given_told}
-use Rattle.cb_runner.proofs.Executed.{counts_as, input_ends, input_stops, output_ends, output_stops, told_so, tells_so}
+use Rattle.cb_runner.proofs.Executed.{told_so, tells_so}
 use Rattle.cb_runner.proofs.executing.run_on.Goals as goal
 
-pub run-end-requires : goal.run-end-requires
-run-end-requires g c κs within =
+pub run-requires : goal.run-requires
+run-requires g c κs within =
     let program = c.args.program.now in
     let asks = run_of c.args.asked.now in
     let objects = c.args.store.now.objects in
@@ -34,36 +34,27 @@ run-end-requires g c κs within =
       ),
     )
 
-pub stop_of-requires-clause-may : goal.stop_of-requires-clause-may
-stop_of-requires-clause-may g c = tells_so c.args.program.now (map Some c.run-end.new.store.objects) c.run-end.result c.run-end.ensures.thrown
-
-pub returns-clause-runs : goal.returns-clause-runs
-returns-clause-runs g c =
+pub returns-clause-comes : goal.returns-clause-comes
+returns-clause-comes g c =
     let program = c.args.program.now in
     let asks = run_of c.args.asked.now in
     let objects = c.args.store.now.objects in
     let roots = c.args.roots.now.roots in
     let left = g.I.Source.left c.args.input.now in
-    let leaves = g.I.Source.left c.run-end.new.input in
+    let leaves = g.I.Source.left c.run.new.input in
     let input = given_input left in
     let first = moment_of (seen pred (map Some objects) roots) (unread input) tt in
-    let later = seen pred (map Some c.run-end.new.store.objects) c.run-end.new.roots.roots in
-    let run = ended_so asks program input objects roots c.requires.begun c.args.roots.now.limit c.run-end.result later (g.O.Sink.taken c.args.out.now) (g.O.Sink.taken c.run-end.new.out) left leaves c.requires.limit
-    c.run-end.ensures.ended in
-    told_so asks program (begins_so asks program input objects roots c.requires.begun) input first pred c.run-end.new.store.objects c.run-end.new.roots.roots (g.O.Sink.taken c.args.out.now) (g.O.Sink.taken c.run-end.new.out)
-    left leaves refl (sym (ap (λ (state : State). state.printed) (c.requires.begun input).starts)) (sym (ap (λ (state : State). state.input) (c.requires.begun input).starts)) (c.requires.begun input).starts c.run-end.result
-    c.stop_of.result (λ class at is. ap (serial_of pred) (c.run-end.ensures.place class at is)) run c.run-end.ensures.appends c.stop_of.ensures
+    let later = seen pred (map Some c.run.new.store.objects) c.run.new.roots.roots in
+    let run = ended_so asks program input objects roots c.requires.begun c.args.roots.now.limit c.run.result later (g.O.Sink.taken c.args.out.now) (g.O.Sink.taken c.run.new.out) left leaves c.requires.limit
+    c.run.ensures.ended in
+    record {
+      runs = λ stop is. told_so asks program (begins_so asks program input objects roots c.requires.begun) input first pred c.run.new.store.objects c.run.new.roots.roots (g.O.Sink.taken c.args.out.now) (g.O.Sink.taken c.run.new.out)
+          left leaves refl (sym (ap (λ (state : State). state.printed) (c.requires.begun input).starts)) (sym (ap (λ (state : State). state.input) (c.requires.begun input).starts)) (c.requires.begun input).starts c.run.result
+          stop (λ class at is. ap (serial_of pred) (c.run.ensures.place class at is)) run c.run.ensures.appends is;
+    }
 
-pub returns-clause-fault : goal.returns-clause-fault
-returns-clause-fault g c =
-    let asks = run_of c.args.asked.now in
-    counts_as (g.O.Sink.faults c.args.out.now) (g.O.Sink.faults c.run-end.new.out)
-    (output_stops asks c.args.program.now (map Some c.run-end.new.store.objects) c.run-end.result c.stop_of.result c.stop_of.ensures)
-    (output_ends asks c.args.program.now (map Some c.run-end.new.store.objects) c.run-end.result c.stop_of.result c.stop_of.ensures) c.run-end.ensures.output
-
-pub returns-clause-read : goal.returns-clause-read
-returns-clause-read g c =
-    let asks = run_of c.args.asked.now in
-    counts_as (g.I.Source.faults c.args.input.now) (g.I.Source.faults c.run-end.new.input)
-    (input_stops asks c.args.program.now (map Some c.run-end.new.store.objects) c.run-end.result c.stop_of.result c.stop_of.ensures)
-    (input_ends asks c.args.program.now (map Some c.run-end.new.store.objects) c.run-end.result c.stop_of.result c.stop_of.ensures) c.run-end.ensures.read
+pub returns-clause-may : goal.returns-clause-may
+returns-clause-may g c = record {
+  may = tells_so c.args.program.now (map Some c.run.new.store.objects) c.run.result c.run.ensures.thrown;
+  reported = λ is. (let rose : 0 < 0 = (c.run.ensures.counted.exact (omega arith)).0 is in omega (arith, rose));
+}

@@ -19,7 +19,7 @@ returns-in-Ok-clause-ends g c =
 pub returns-in-Ok-clause-tells : goal.returns-in-Ok-clause-tells
 returns-in-Ok-clause-tells g c =
     let done = c.run_program.ensures.runs in
-    runs_tell (run_of c.args.asked.now) c.in-Ok.program (g.I.Source.left c.args.input.now) c.run_program.result done.printed done.read done.runs
+    runs_tell (run_of c.args.asked.now) c.in-Ok.program (g.I.Source.left c.args.input.now) c.run_program.result done.printed done.read done.runs done.ready
 
 pub returns-in-Ok-clause-folder_fault : goal.returns-in-Ok-clause-folder_fault
 returns-in-Ok-clause-folder_fault g c =
