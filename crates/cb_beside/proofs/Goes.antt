@@ -1,0 +1,39 @@
+-- A piece of a step beside any input and any printed bytes, by whether it reads.
+use Rattle.std.proofs.Common.{◌≡◌, ◌∙◌, ap, refl, sym, ℕ, List, [], ◌++◌, Bool, true, false, Option, Some, None, if◌then◌else◌}
+use Rattle.std.specs.Prelude.{option_and_then, option_map}
+use Rattle.std.proofs.lemmas.List.{append-nil}
+
+-- one that doesn't read does the same beside any, and says the same bytes behind those that were printed
+pub record Quiet {X : Type 0} (lay : List ℕ → List ℕ → X → X) (piece : List ℕ → List ℕ → Option X) (own : Option X) : Type 0 where
+  pub said : List ℕ
+  pub same : (input printed : List ℕ) → piece input printed ≡ option_map (lay input (printed ++ said)) own
+
+-- one that reads this input says nothing, and takes a front of it: where it leaves some, any other may stand behind that front
+pub record Asks {X : Type 0} (lay : List ℕ → List ℕ → X → X) (input : List ℕ) (piece : List ℕ → List ℕ → Option X) (own : Option X) : Type 0 where
+  pub read : List ℕ
+  pub rest : List ℕ
+  pub front : input ≡ read ++ rest
+  pub same : (other printed : List ℕ) → (rest ≡ [] → other ≡ []) → piece (read ++ other) printed ≡ option_map (lay other printed) own
+
+abbrev pub Goes : {X : Type 0} → Bool → (List ℕ → List ℕ → X → X) → List ℕ → (List ℕ → List ℕ → Option X) → Option X → Type 0
+Goes false lay input piece own = Quiet lay piece own
+Goes true lay input piece own = Asks lay input piece own
+
+module _ {X : Type 0} (lay : List ℕ → List ℕ → X → X) (input : List ℕ) where
+  -- one that neither reads nor prints
+  pub plain : (reads : Bool) (piece : List ℕ → List ℕ → Option X) (own : Option X)
+      → ((input printed : List ℕ) → piece input printed ≡ option_map (lay input printed) own) → Goes reads lay input piece own
+  plain false piece own law =
+      record { said = []; same = λ input printed. law input printed ∙ ap (λ bytes. option_map (lay input bytes) own) (sym (append-nil printed)) }
+  plain true piece own law = record { read = []; rest = input; front = refl; same = λ other printed only. law other printed }
+
+  -- what comes of what is there, and one of two
+  pub and_goes : {Y : Type 0} (reads : Bool) (one : Y → List ℕ → List ℕ → Option X) (other : Y → Option X) → ((each : Y) → Goes reads lay input (one each) (other each))
+      → (found : Option Y) → Goes reads lay input (λ input printed. option_and_then (λ each. one each input printed) found) (option_and_then other found)
+  and_goes reads one other each None = plain reads (λ input printed. None) None (λ input printed. refl)
+  and_goes reads one other each (Some item) = each item
+
+  pub either_goes : (reads is : Bool) (one third : List ℕ → List ℕ → Option X) (other fourth : Option X) → Goes reads lay input one other → Goes reads lay input third fourth
+      → Goes reads lay input (λ input printed. if is then one input printed else third input printed) (if is then other else fourth)
+  either_goes reads true one third other fourth first second = first
+  either_goes reads false one third other fourth first second = second
