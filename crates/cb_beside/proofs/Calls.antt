@@ -1,6 +1,7 @@
 -- Calls, beside another input and other printed bytes, by whether they read.
-use Rattle.std.proofs.Common.{◌∙◌, ap, refl, ℕ, List, [], ◌∷◌, ◌++◌, reverse, Bool, true, false, Option, Some, None, zero, suc, ◌&&◌, if◌then◌else◌}
+use Rattle.std.proofs.Common.{inr, inl, ◌⊎◌, ◌≡◌, ◌∙◌, ap, refl, sym, ℕ, List, [], ◌∷◌, ◌++◌, reverse, Bool, true, false, Option, Some, None, zero, suc, ◌&&◌, if◌then◌else◌}
 use Rattle.std.specs.Prelude.{option_and_then, option_map, slice_get}
+use Rattle.std.proofs.lemmas.Bool.{false≢true}
 use Rattle.cb_classfile.specs.declared.body.Body.{Body}
 use Rattle.cb_classfile.specs.declared.method.Method.{Method}
 use Rattle.cb_hierarchy.specs.declared.selected.Selected.{Selected}
@@ -8,6 +9,7 @@ use Rattle.cb_hierarchy.specs.declared.selected.Selected.TheVariants as chosen
 use Rattle.cb_kinds.specs.Texts.{number_of}
 use Rattle.cb_library.specs.declared.native.Native.{Native}
 use Rattle.cb_link.specs.Calls.{select}
+use Rattle.cb_link.specs.Named.{behind_in, code_at}
 use Rattle.cb_link.specs.Numbers.{Numbered, class_number}
 use Rattle.cb_link.specs.Special.{holder_named, special}
 use Rattle.cb_link.specs.declared.named.Named.{Named}
@@ -21,7 +23,7 @@ use Rattle.cb_machine.specs.Natives.{native_of, performed}
 use Rattle.cb_machine.specs.Performing.{Performed, Gives, Stops}
 use Rattle.cb_machine.specs.Plans.{Plan, with_left}
 use Rattle.cb_machine.specs.Sites.{abstract_method, incompatible_class_change, no_class_definition}
-use Rattle.cb_machine.specs.Standing.{Now, named_here, taken, with_stack}
+use Rattle.cb_machine.specs.Standing.{Now, at_place, named_here, taken, with_stack}
 use Rattle.cb_machine.specs.Throwing.{throws}
 use Rattle.cb_plain.specs.declared.class_state.ClassState.{ClassState}
 use Rattle.cb_plain.specs.declared.class_state.ClassState.TheVariants as states
@@ -33,9 +35,13 @@ use Rattle.cb_shapes.specs.declared.sort.Sort.TheVariants as sorts
 use Rattle.cb_beside.specs.Asking.{is_reader, is_ready, reads_by_body, reads_by_class, reads_by_method, reads_called, reads_interface, reads_on, reads_received, reads_selected, reads_special, reads_static, reads_taken, reads_virtual}
 use Rattle.cb_beside.specs.Beside.{beside, now_in, performed_beside, plan_beside}
 use Rattle.cb_beside.proofs.Going.{Same, map_same}
-use Rattle.cb_beside.proofs.Goes.{Goes, and_goes, plain}
+use Rattle.cb_beside.proofs.Goes.{GivesOne, Goes, Quiet, TakesOne, and_goes, is_given, plain}
 use Rattle.cb_beside.proofs.Initial.{begun_same, entered_same}
 use Rattle.cb_beside.proofs.NativesGo.{native_goes}
+
+-- the place behind the instruction
+abbrev after : Now → Option ℕ
+after now = behind_in (code_at now.machine.program now.frame.method) now.frame.pc
 
 -- what a call comes to
 abbrev by_native : Now → List Value → Performed → Option Plan
@@ -108,10 +114,10 @@ module _ (now : Now) where
 
   -- a piece goes so, by whether it reads
   abbrev pub Steps : Bool → (Now → Option Plan) → Type 0
-  Steps reads piece = Goes reads plan_beside now.state.input (λ input printed. piece (at input printed)) (piece now)
+  Steps reads piece = Goes reads plan_beside TakesOne now.state.input (λ input printed. piece (at input printed)) (piece now)
 
   pub silent : (reads : Bool) (piece : Now → Option Plan) → ((input printed : List ℕ) → Same input printed (piece (at input printed)) (piece now)) → Steps reads piece
-  silent reads piece same = plain plan_beside now.state.input reads (λ input printed. piece (at input printed)) (piece now) same
+  silent reads piece same = plain plan_beside TakesOne now.state.input reads (λ input printed. piece (at input printed)) (piece now) same
 
   -- natives
   native_after : (rest : List Value) (input printed : List ℕ) (found : Option Performed)
@@ -121,17 +127,44 @@ module _ (now : Now) where
   native_after rest input printed (Some (Gives plan answer)) =
       map_same input printed _ _ (answered now.machine.program (with_stack now.frame rest) answer) (λ frame. refl)
 
-  performed_goes : (reads : Bool) (rest : List Value) (piece : List ℕ → List ℕ → Option Performed) (own : Option Performed)
-      → Goes reads performed_beside now.state.input piece own
-      → Goes reads plan_beside now.state.input (λ input printed. option_and_then (by_native now rest) (piece input printed)) (option_and_then (by_native now rest) own)
-  performed_goes false rest piece own goes =
+  performed_quiet : (rest : List Value) (piece : List ℕ → List ℕ → Option Performed) (own : Option Performed) → Quiet performed_beside piece own
+      → Quiet plan_beside (λ input printed. option_and_then (by_native now rest) (piece input printed)) (option_and_then (by_native now rest) own)
+  performed_quiet rest piece own goes =
       record { said = goes.said; same = λ input printed. ap (option_and_then (by_native now rest)) (goes.same input printed) ∙ native_after rest input (printed ++ goes.said) own }
+
+  -- a byte that a native takes is taken, unless there is no instruction behind the call: then there is no step, whatever the input
+  never : (rest : List Value) → after now ≡ None → (found : Option Performed) → is_given found ≡ true → option_and_then (by_native now rest) found ≡ None
+  never rest is None given = absurd (false≢true given)
+  never rest is (Some (Stops plan)) given = absurd (false≢true given)
+  never rest is (Some (Gives plan answer)) given = rw is refl
+
+  performed_takes : (rest : List Value) (piece : List ℕ → List ℕ → Option Performed) (own : Option Performed) → GivesOne piece own → (next : Option ℕ) → after now ≡ next
+      → Quiet plan_beside (λ input printed. option_and_then (by_native now rest) (piece input printed)) (option_and_then (by_native now rest) own)
+      ⊎ TakesOne (λ input printed. option_and_then (by_native now rest) (piece input printed)) (option_and_then (by_native now rest) own)
+  performed_takes rest piece own takes None is =
+      inl (record {
+        said = [];
+        same = λ input printed.
+            never rest is (piece input printed) (takes.each input printed) ∙ sym (ap (option_map (plan_beside input (printed ++ []))) (never rest is own takes.given));
+      })
+  performed_takes rest piece own takes (Some pc) is =
+      inr (record {
+        left = with_left takes.left
+            (with_frames takes.left.left (OfMethod (at_place (with_stack now.frame rest) pc now.frame.locals (takes.answer ++ rest)) ∷ now.below));
+        takes = λ printed. ap (option_and_then (by_native now rest)) (takes.takes printed) ∙ rw is refl;
+      })
+
+  performed_goes : (reads : Bool) (rest : List Value) (piece : List ℕ → List ℕ → Option Performed) (own : Option Performed)
+      → Goes reads performed_beside GivesOne now.state.input piece own
+      → Goes reads plan_beside TakesOne now.state.input (λ input printed. option_and_then (by_native now rest) (piece input printed)) (option_and_then (by_native now rest) own)
+  performed_goes false rest piece own goes = performed_quiet rest piece own goes
   performed_goes true rest piece own goes =
       record {
         read = goes.read;
         rest = goes.rest;
         front = goes.front;
         same = λ other printed only. ap (option_and_then (by_native now rest)) (goes.same other printed only) ∙ native_after rest other printed own;
+        turns = elim goes.turns [ inl quiet ↦ inl (performed_quiet rest piece own quiet) | inr takes ↦ performed_takes rest piece own takes (after now) refl ];
       }
 
   -- methods
@@ -161,7 +194,7 @@ module _ (now : Now) where
   -- invokestatic
   ready_goes : (method : ℕ) → Steps (reads_selected now.machine.program (chosen.Method method)) (λ now. invokes_ready now method)
   ready_goes method =
-      and_goes plan_beside now.state.input (reads_selected now.machine.program (chosen.Method method))
+      and_goes plan_beside TakesOne now.state.input (reads_selected now.machine.program (chosen.Method method))
       (λ held input printed. by_method (at input printed) (reverse held.0) held.1 (chosen.Method method))
       (λ held. by_method now (reverse held.0) held.1 (chosen.Method method))
       (λ held. method_goes (reverse held.0) held.1 (chosen.Method method))

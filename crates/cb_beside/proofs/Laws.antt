@@ -1,5 +1,5 @@
 -- The laws, for the functions that show them and for lemmas of crates above.
-use Rattle.std.proofs.Common.{◌≡◌, ◌∙◌, ap, refl, subst, sym, ℕ, List, [], ◌++◌, Bool, true, false, Option, Some, None}
+use Rattle.std.proofs.Common.{inr, inl, ◌⊎◌, ◌≡◌, ◌∙◌, ap, refl, subst, sym, ℕ, List, [], ◌++◌, Bool, true, false, Option, Some, None}
 use Rattle.std.specs.Prelude.{option_map}
 use Rattle.std.proofs.lemmas.List.{append-nil}
 use Rattle.std.proofs.lemmas.Option.{same_Some}
@@ -10,8 +10,8 @@ use Rattle.cb_plain.specs.State.{State}
 use Rattle.cb_plain.specs.Updates.{with_input, with_printed}
 use Rattle.cb_beside.specs.Asking.{asks_input}
 use Rattle.cb_beside.specs.Beside.{beside, plan_beside, saying}
-use Rattle.cb_beside.specs.Laws.{Reads, Says, Unread}
-use Rattle.cb_beside.proofs.Goes.{Asks, Goes, Quiet}
+use Rattle.cb_beside.specs.Laws.{Reads, Says, TakesByte, Unread}
+use Rattle.cb_beside.proofs.Goes.{Asks, Goes, Quiet, TakesOne}
 use Rattle.cb_beside.proofs.StepsGo.{plan_goes}
 
 -- a plan that is itself beside some input and bytes leaves these
@@ -66,11 +66,11 @@ module _ (machine : Machine) (state : State) where
       }
 
   -- what a step that reads does at its own input
-  at_own : (goes : Asks plan_beside state.input Piece (plan machine state)) (printed : List ℕ)
+  at_own : (goes : Asks plan_beside TakesOne state.input Piece (plan machine state)) (printed : List ℕ)
       → plan machine (with_printed state printed) ≡ option_map (plan_beside goes.rest printed) (plan machine state)
   at_own goes printed = ap (λ (input : List ℕ). plan machine (beside state input printed)) goes.front ∙ goes.same goes.rest printed (λ none. none)
 
-  says_if : (reads : Bool) → Goes reads plan_beside state.input Piece (plan machine state) → Says machine state
+  says_if : (reads : Bool) → Goes reads plan_beside TakesOne state.input Piece (plan machine state) → Says machine state
   says_if false goes = says_by state.input goes.said (λ printed. goes.same state.input printed)
   says_if true goes =
       says_by goes.rest []
@@ -93,9 +93,9 @@ module _ (machine : Machine) (state : State) where
       }
 
   pub unread : asks_input machine.program state ≡ false → Unread machine state
-  unread is = unread_by (subst (λ (reads : Bool). Goes reads plan_beside state.input Piece (plan machine state)) is (plan_goes machine state))
+  unread is = unread_by (subst (λ (reads : Bool). Goes reads plan_beside TakesOne state.input Piece (plan machine state)) is (plan_goes machine state))
 
-  reads_by : Asks plan_beside state.input Piece (plan machine state) → Reads machine state
+  reads_by : Asks plan_beside TakesOne state.input Piece (plan machine state) → Reads machine state
   reads_by goes =
       let kept : (own : Plan) → plan machine state ≡ Some own → own ≡ plan_beside goes.rest state.printed own =
       fixed goes.rest state.printed (plan machine state) (at_own goes state.printed) in
@@ -111,4 +111,16 @@ module _ (machine : Machine) (state : State) where
       }
 
   pub reads : asks_input machine.program state ≡ true → Reads machine state
-  reads is = reads_by (subst (λ (reads : Bool). Goes reads plan_beside state.input Piece (plan machine state)) is (plan_goes machine state))
+  reads is = reads_by (subst (λ (reads : Bool). Goes reads plan_beside TakesOne state.input Piece (plan machine state)) is (plan_goes machine state))
+
+  -- a step that doesn't take a byte where it is given one doesn't read
+  takes_by : TakesOne Piece (plan machine state) → TakesByte machine state
+  takes_by takes =
+      record { next = made (plan_beside [] state.printed takes.left); steps = ap (option_map made) (takes.takes state.printed); taken = refl }
+
+  either_if : (reads : Bool) → Goes reads plan_beside TakesOne state.input Piece (plan machine state) → Unread machine state ⊎ TakesByte machine state
+  either_if false goes = inl (unread_by goes)
+  either_if true goes = elim goes.turns [ inl quiet ↦ inl (unread_by quiet) | inr takes ↦ inr (takes_by takes) ]
+
+  pub unread_or_takes : Unread machine state ⊎ TakesByte machine state
+  unread_or_takes = either_if (asks_input machine.program state) (plan_goes machine state)

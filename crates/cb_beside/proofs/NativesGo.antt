@@ -24,7 +24,7 @@ use Rattle.cb_plain.specs.declared.value.Value.{Value}
 use Rattle.cb_plain.specs.declared.value.Value.TheVariants as values
 use Rattle.cb_beside.specs.Asking.{is_reader}
 use Rattle.cb_beside.specs.Beside.{beside, performed_beside, plan_beside}
-use Rattle.cb_beside.proofs.Goes.{plain}
+use Rattle.cb_beside.proofs.Goes.{GivesOne, plain}
 use Rattle.cb_beside.proofs.Initial.{ready_same}
 use Rattle.cb_beside.proofs.NativesAnswers.{answer_same}
 use Rattle.cb_beside.proofs.NativesArrays.{array_same}
@@ -90,7 +90,7 @@ module _ (call : Call) where
   silent : (native : Native) (performs : Call → Option Performed) → ((it : Apart) → Alike it (performs (there it)) (performs it.own))
       → Performs (is_reader (Some native)) call performs
   silent native performs same =
-      plain performed_beside call.state.input (is_reader (Some native)) (λ input printed. performs (call_at call input printed)) (performs call)
+      plain performed_beside GivesOne call.state.input (is_reader (Some native)) (λ input printed. performs (call_at call input printed)) (performs call)
       (λ input printed. same (apart input printed))
 
   form_goes : (native : Native) (arguments : List Value) (form : NativeForm) → Performs (is_reader (Some native)) call (λ call. by_form call native arguments form)

@@ -1,5 +1,5 @@
 -- Natives that print, read or end the run.
-use Rattle.std.proofs.Common.{◌≡◌, ◌∙◌, ap, refl, subst, sym, ℕ, ℤ, pos, negsuc, ◌+◌, List, [], ◌∷◌, ◌++◌, codes, drop, length, map, take, Bool, true, false, Option, Some, None, zero, suc, nat_le, if◌then◌else◌}
+use Rattle.std.proofs.Common.{inr, ◌≡◌, ◌∙◌, ap, refl, subst, sym, ℕ, ℤ, pos, negsuc, ◌+◌, List, [], ◌∷◌, ◌++◌, codes, drop, length, map, take, Bool, true, false, Option, Some, None, zero, suc, nat_le, if◌then◌else◌}
 use Rattle.std.specs.Prelude.{option_and_then, option_map}
 use Rattle.std.proofs.Math.Seq.{drop-append_seam}
 use Rattle.cb_io.specs.Utf8.{utf8}
@@ -16,7 +16,7 @@ use Rattle.cb_plain.specs.State.{Object}
 use Rattle.cb_plain.specs.Updates.{object_at, with_contents_at, with_input, with_printed}
 use Rattle.cb_beside.specs.Asking.{is_reader}
 use Rattle.cb_beside.specs.Beside.{beside, performed_beside}
-use Rattle.cb_beside.proofs.Goes.{Asks, Goes, and_goes, either_goes, plain}
+use Rattle.cb_beside.proofs.Goes.{Asks, GivesOne, Goes, and_goes, either_goes, is_given, plain}
 
 -- what is printed, and what is read
 abbrev prints : Call → List ℕ → Option Performed
@@ -52,12 +52,25 @@ same_front zero bytes other only = refl
 same_front (suc count) [] other only = ap (take (suc count)) (only refl)
 same_front (suc count) (byte ∷ bytes) other only = ap (λ (rest : List ℕ). byte ∷ rest) (same_front count bytes other only)
 
+none_taken : (count : ℕ) → take {A = ℕ} count [] ≡ []
+none_taken zero = refl
+none_taken (suc count) = refl
+
+-- an answer is given, whatever is read
+read_given : (call : Call) (bytes : List ℕ) → is_given (reads call bytes) ≡ true
+read_given call [] = refl
+read_given call (byte ∷ bytes) = refl
+
+into_given : (call : Call) (serial : ℕ) (array : Object) (from : ℕ) (bytes : List ℕ) → is_given (some_into call serial array from bytes) ≡ true
+into_given call serial array from [] = refl
+into_given call serial array from (byte ∷ bytes) = refl
+
 abbrev pub call_at : Call → List ℕ → List ℕ → Call
 call_at call input printed = record { machine = call.machine; state = beside call.state input printed }
 
 -- a native goes so, by whether it reads
 abbrev pub Performs : Bool → Call → (Call → Option Performed) → Type 0
-Performs reads call performs = Goes reads performed_beside call.state.input (λ input printed. performs (call_at call input printed)) (performs call)
+Performs reads call performs = Goes reads performed_beside GivesOne call.state.input (λ input printed. performs (call_at call input printed)) (performs call)
 
 module _ (call : Call) where
   prints_goes : (units : List ℕ) → Performs false call (λ call. prints call units)
@@ -65,19 +78,29 @@ module _ (call : Call) where
 
   text_goes : (place : ℕ) (change : List ℕ → List ℕ) → Performs false call (λ call. on_text call (suc place) (λ units. prints call (change units)))
   text_goes place change =
-      and_goes performed_beside call.state.input false
+      and_goes performed_beside GivesOne call.state.input false
       (λ string input printed. option_and_then (λ units. prints (call_at call input printed) (change units)) (text_of call.state string))
       (λ string. option_and_then (λ units. prints call (change units)) (text_of call.state string))
-      (λ string. and_goes performed_beside call.state.input false
+      (λ string. and_goes performed_beside GivesOne call.state.input false
       (λ units input printed. prints (call_at call input printed) (change units)) (λ units. prints call (change units))
       (λ units. prints_goes (change units)) (text_of call.state string))
       (object_at call.state (suc place))
 
   idle : (performs : Call → Option Performed)
       → ((input printed : List ℕ) → performs (call_at call input printed) ≡ option_map (performed_beside input printed) (performs call)) → Performs true call performs
-  idle performs same = plain performed_beside call.state.input true (λ input printed. performs (call_at call input printed)) (performs call) same
+  idle performs same = plain performed_beside GivesOne call.state.input true (λ input printed. performs (call_at call input printed)) (performs call) same
 
-  read_goes : (bytes : List ℕ) → Asks performed_beside bytes (λ input printed. reads (call_at call input printed) input) (reads call bytes)
+  one_read : (bytes : List ℕ) → GivesOne (λ input printed. reads (call_at call input printed) input) (reads call bytes)
+  one_read bytes =
+      record {
+        left = leaving call.state;
+        answer = values.Int (pos 0) ∷ [];
+        takes = λ printed. refl;
+        each = λ input printed. read_given (call_at call input printed) input;
+        given = read_given call bytes;
+      }
+
+  read_goes : (bytes : List ℕ) → Asks performed_beside GivesOne bytes (λ input printed. reads (call_at call input printed) input) (reads call bytes)
   read_goes [] =
       record {
         read = [];
@@ -85,8 +108,10 @@ module _ (call : Call) where
         front = refl;
         same = λ other printed only.
             subst (λ (other : List ℕ). reads (call_at call other printed) other ≡ option_map (performed_beside other printed) (gives_int call (negsuc 0))) (sym (only refl)) refl;
+        turns = inr (one_read []);
       }
-  read_goes (byte ∷ input) = record { read = byte ∷ []; rest = input; front = refl; same = λ other printed only. refl }
+  read_goes (byte ∷ input) =
+      record { read = byte ∷ []; rest = input; front = refl; same = λ other printed only. refl; turns = inr (one_read (byte ∷ input)) }
 
   byte_goes : Performs true call (λ call. reads call call.state.input)
   byte_goes = read_goes call.state.input
@@ -101,6 +126,17 @@ module _ (call : Call) where
       (values.Int (pos (length (byte ∷ bytes))) ∷ [])))
       (drop-append_seam (byte ∷ bytes) other)
 
+  one_into : (serial : ℕ) (array : Object) (from count : ℕ) (bytes : List ℕ)
+      → GivesOne (λ input printed. some_into (call_at call input printed) serial array from (take (suc count) input)) (some_into call serial array from bytes)
+  one_into serial array from count bytes =
+      record {
+        left = leaving (with_contents_at call.state serial (overwritten array.contents from (map stored_byte (0 ∷ []))));
+        answer = values.Int (pos 1) ∷ [];
+        takes = λ printed. ap (λ (rest : List ℕ). some_into (call_at call (0 ∷ []) printed) serial array from (0 ∷ rest)) (none_taken count);
+        each = λ input printed. into_given (call_at call input printed) serial array from (take (suc count) input);
+        given = into_given call serial array from bytes;
+      }
+
   so_many_goes : (serial : ℕ) (array : Object) (from count : ℕ) → Performs true call (λ call. so_many_into call serial array from count)
   so_many_goes serial array from zero = idle (λ call. so_many_into call serial array from 0) (λ input printed. refl)
   so_many_goes serial array from (suc count) =
@@ -112,11 +148,12 @@ module _ (call : Call) where
         same = λ other printed only.
             ap (some_into (call_at call (bytes ++ other) printed) serial array from) (same_front (suc count) call.state.input other only)
             ∙ into_same serial array from bytes other printed;
+        turns = inr (one_into serial array from count bytes);
       }
 
   range_goes : (serial : ℕ) (from count : ℤ) (array : Object) → Performs true call (λ call. reads_range call serial from count array)
   range_goes serial (pos from) (pos count) array =
-      either_goes performed_beside call.state.input true (nat_le (from + count) (length array.contents))
+      either_goes performed_beside GivesOne call.state.input true (nat_le (from + count) (length array.contents))
       (λ input printed. so_many_into (call_at call input printed) serial array from count) (λ input printed. stops (call_at call input printed) index_out_of_bounds)
       (so_many_into call serial array from count) (stops call index_out_of_bounds)
       (so_many_goes serial array from count) (idle (λ call. stops call index_out_of_bounds) (λ input printed. refl))
@@ -124,7 +161,7 @@ module _ (call : Call) where
   range_goes serial (negsuc from) count array = idle (λ call. stops call index_out_of_bounds) (λ input printed. refl)
 
   found_goes : (serial : ℕ) (from count : ℤ) (found : Option Object)
-      → Asks performed_beside call.state.input (λ input printed. option_and_then (reads_range (call_at call input printed) serial from count) found)
+      → Asks performed_beside GivesOne call.state.input (λ input printed. option_and_then (reads_range (call_at call input printed) serial from count) found)
       (option_and_then (reads_range call serial from count) found)
   found_goes serial from count None = idle (λ call. None) (λ input printed. refl)
   found_goes serial from count (Some array) = range_goes serial from count array
@@ -149,6 +186,6 @@ module _ (call : Call) where
       idle (λ call. stops call null_pointer) (λ input printed. refl)
   outside_goes natives.ReadRange (values.Ref stream ∷ values.Ref (suc place) ∷ values.Int from ∷ values.Int count ∷ []) =
       found_goes (suc place) from count (object_at call.state (suc place))
-  outside_goes natives.SystemExit (values.Int status ∷ []) = plain performed_beside call.state.input false _ _ (λ input printed. refl)
-  outside_goes natives.SystemGc [] = plain performed_beside call.state.input false _ _ (λ input printed. refl)
-  outside_goes native arguments = plain performed_beside call.state.input (is_reader (Some native)) (λ input printed. None) None (λ input printed. refl)
+  outside_goes natives.SystemExit (values.Int status ∷ []) = plain performed_beside GivesOne call.state.input false _ _ (λ input printed. refl)
+  outside_goes natives.SystemGc [] = plain performed_beside GivesOne call.state.input false _ _ (λ input printed. refl)
+  outside_goes native arguments = plain performed_beside GivesOne call.state.input (is_reader (Some native)) (λ input printed. None) None (λ input printed. refl)

@@ -18,7 +18,7 @@ use Rattle.cb_beside.specs.Asking.{asks_input, reads_by_action, reads_by_frames}
 use Rattle.cb_beside.specs.Beside.{beside, plan_beside}
 use Rattle.cb_beside.proofs.Calls.{Steps, invokes_interface_goes, invokes_special_goes, invokes_static_goes, invokes_virtual_goes, silent}
 use Rattle.cb_beside.proofs.Frames.{branches_same, computes_same, constant_loaded_same, increases_same, loads_same, null_same, returns_same, shuffles_same, stores_same, switches_same}
-use Rattle.cb_beside.proofs.Goes.{Goes, plain}
+use Rattle.cb_beside.proofs.Goes.{Goes, TakesOne, plain}
 use Rattle.cb_beside.proofs.Going.{Does, Same}
 use Rattle.cb_beside.proofs.Initial.{initialising_same}
 use Rattle.cb_beside.proofs.Making.{makes_arrays_same, makes_same}
@@ -94,10 +94,10 @@ unless_ended machine state (Some status) = None
 
 module _ (machine : Machine) (state : State) where
   abbrev pub Turns : Bool → (State → Option Plan) → Type 0
-  Turns reads piece = Goes reads plan_beside state.input (λ input printed. piece (beside state input printed)) (piece state)
+  Turns reads piece = Goes reads plan_beside TakesOne state.input (λ input printed. piece (beside state input printed)) (piece state)
 
   silently : (reads : Bool) (piece : State → Option Plan) → ((input printed : List ℕ) → Same input printed (piece (beside state input printed)) (piece state)) → Turns reads piece
-  silently reads piece same = plain plan_beside state.input reads (λ input printed. piece (beside state input printed)) (piece state) same
+  silently reads piece same = plain plan_beside TakesOne state.input reads (λ input printed. piece (beside state input printed)) (piece state) same
 
   -- the instruction of a frame
   action_goes : (frame : MethodFrame) (below : List Frame) (operand : Operand) (action : Option Action)

@@ -1,11 +1,11 @@
 -- What a step has to do with the input and with what was printed before: that it looks neither at the bytes that were printed nor, unless it
 -- reads, at the input.
-use Rattle.std.specs.Prelude.{◌≡◌, ◌++◌, ℕ, List, [], Some, option_map}
+use Rattle.std.specs.Prelude.{◌≡◌, ◌++◌, ℕ, List, [], ◌∷◌, Some, option_map}
 use Rattle.cb_machine.specs.Machine.{Machine}
 use Rattle.cb_machine.specs.Plans.{Plan, made}
 use Rattle.cb_machine.specs.Steps.{plan, request, step}
 use Rattle.cb_plain.specs.State.{State}
-use Rattle.cb_plain.specs.Updates.{with_printed}
+use Rattle.cb_plain.specs.Updates.{with_input, with_printed}
 use Rattle.cb_beside.specs.Beside.{beside, plan_beside, saying}
 
 -- A step prints the same bytes behind whatever was printed before, and leaves the same otherwise. It asks for the same room, and there is a
@@ -25,6 +25,12 @@ pub record Unread (machine : Machine) (state : State) : Type 0 where
   pub plans : (input printed : List ℕ) → plan machine (beside state input printed) ≡ option_map (plan_beside input (printed ++ said)) (plan machine state)
   pub steps : (input printed : List ℕ) → step machine (beside state input printed) ≡ option_map (λ next. beside next input (printed ++ said)) (step machine state)
   pub requests : (input printed : List ℕ) → request machine (beside state input printed) ≡ request machine state
+
+-- A step takes a byte: given one as its input, it leaves none.
+pub record TakesByte (machine : Machine) (state : State) : Type 0 where
+  pub next : State
+  pub steps : step machine (with_input state (0 ∷ [])) ≡ Some next
+  pub taken : next.input ≡ []
 
 -- One that reads prints nothing and takes a front of the input. If it leaves some input, it takes the same front of any input that begins with
 -- it, does the same, and leaves what stands behind.

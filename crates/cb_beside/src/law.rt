@@ -1,12 +1,12 @@
 // What steps have to do with the input, and with what was printed before.
-ghost use Rattle.std.specs.Prelude.{◌≡◌, ℕ, List, false, true};
+ghost use Rattle.std.specs.Prelude.{◌≡◌, ◌⊎◌, ℕ, List, false, true};
 ghost use Rattle.cb_link.specs.Program.{Linked};
 ghost use Rattle.cb_machine.specs.Machine.{Machine};
 ghost use Rattle.cb_machine.specs.Runs.{outcome};
 ghost use Rattle.cb_plain.specs.State.{State};
 ghost use Rattle.cb_beside.specs.Asking.{asks_input};
 ghost use Rattle.cb_beside.specs.Beside.{beside};
-ghost use Rattle.cb_beside.specs.Laws.{Reads, Says, Unread};
+ghost use Rattle.cb_beside.specs.Laws.{Reads, Says, TakesByte, Unread};
 
 /// A step prints the same bytes behind whatever was printed before, asks for the same room, and leaves the same otherwise. There is one
 /// exactly where there was one.
@@ -25,6 +25,11 @@ pub fn leaves_unread()
 pub fn reads_a_front()
     ensures { (machine : Machine) (state : State) → asks_input machine.program state ≡ true
         → Reads machine state }
+{}
+
+/// A step that doesn't take a byte where it is given one as its input leaves any input as it is, and does the same beside each.
+pub fn takes_or_leaves()
+    ensures { (machine : Machine) (state : State) → Unread machine state ⊎ TakesByte machine state }
 {}
 
 /// Neither whether a step reads nor how a run has ended is seen of the input or of printed bytes.

@@ -3,9 +3,10 @@
 //! other.
 //!
 //! It is laws alone. `Beside` says what such a state and its plan are, `Asking` which step reads, and `Laws` what steps keep: `prints_behind` holds
-//! of each step, `leaves_unread` of those that don't read, and `reads_a_front` of those that do.
+//! of each step, `leaves_unread` of those that don't read, and `reads_a_front` of those that do. `takes_or_leaves` says it without `Asking`: a step
+//! takes a byte where it is given one, or looks at none.
 #![tactic(auto)]
 
 mod law;
 
-pub use law::{ends_alike, leaves_unread, prints_behind, reads_a_front};
+pub use law::{ends_alike, leaves_unread, prints_behind, reads_a_front, takes_or_leaves};
