@@ -1,8 +1,8 @@
 -- Where words of parts stand in the region, for the crates above.
-use Rattle.std.proofs.Common.{◌≡◌, ◌∙◌, ℕ, ◌+◌, ◌-◌, ◌*◌, ◌/◌, ◌%◌, ◌<◌, ◌≤◌, List, length, get_or, set, take, refl, sym, ap, subst, arith, lit<, ◌⊎◌, inl, inr}
+use Rattle.std.proofs.Common.{◌≡◌, ◌∙◌, ℕ, ◌+◌, ◌-◌, ◌*◌, ◌/◌, ◌%◌, ◌<◌, ◌≤◌, List, length, take, sym, ap, subst, arith, lit<, inl, inr}
 use Rattle.std.proofs.lemmas.Bool.{cases_eq}
 use Rattle.std.proofs.lemmas.List.{get_or-take, length-take-le}
-use Rattle.cb_blocks.specs.Parted.{IsGrown, IsParted, Parted, blocks_for, index_of, with_fewer}
+use Rattle.cb_blocks.specs.Parted.{IsGrown, IsGrownBy, IsParted, Parted, blocks_for, index_of, with_fewer}
 use Rattle.cb_blocks.specs.Rows.{place_in, row}
 use Rattle.cb_blocks.proofs.Changed.{stays}
 use Rattle.cb_blocks.proofs.Laid.{room_for}
@@ -45,3 +45,8 @@ index_fewer parts part used other i is below fewer inside =
           ∙ ap (λ p. place_in 256 (row parts.rows p) i) (sym same)
       | inr differs ↦ ap (λ xs. place_in 256 xs i) (row_set_other parts.rows part other (take (blocks_for used) (row parts.rows part)) differs)
     ]
+
+pub index_grown_by : (old new : Parted) (part : ℕ) (more : List ℕ) (other i : ℕ) → IsParted old → part < length old.words → IsGrownBy old new part more → other < length old.words → i < length (row old.words other)
+    → index_of new other i ≡ index_of old other i
+index_grown_by old new part more other i is below grown h inside =
+    stays old.rows new.rows part (blocks_for (length (row old.words part) + length more) - blocks_for (length (row old.words part))) other i (omega (arith, below, is.same)) grown.rows (room_of_part old other i is h inside)

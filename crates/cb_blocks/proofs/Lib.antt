@@ -1,5 +1,7 @@
 mod Changed
+mod Ends
 mod Flat
+mod Headed
 mod Kept
 mod Laid
 pub mod Laws

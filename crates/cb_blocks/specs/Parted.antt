@@ -1,5 +1,5 @@
 -- The words of a heap's parts, in blocks of 256.
-use Rattle.std.specs.Prelude.{◌≡◌, ℕ, ◌+◌, ◌-◌, ◌*◌, ◌<◌, ◌≤◌, ◌^◌, ◌++◌, [], get_or, length, List, replicate, slice_set, take}
+use Rattle.std.specs.Prelude.{◌≡◌, ℕ, ◌+◌, ◌-◌, ◌*◌, ◌%◌, ◌<◌, ◌≤◌, ◌^◌, ◌++◌, [], get_or, length, List, replicate, slice_set, take}
 use Rattle.std.specs.List.{sum_by}
 use Rattle.cb_raw.specs.Words.{RawWords}
 use Rattle.cb_blocks.specs.Holdings.{Held, IsHeld}
@@ -52,6 +52,24 @@ pub record IsBlocks (region : RawWords) (blocks : Held) (used : List ℕ) : Type
   pub clear : (part i : ℕ) → part < length used → get_or used part 0 ≤ i → i < length (row blocks.rows part) * 256 → get_or region.words (place_in 256 (row blocks.rows part) i) 0 ≡ 0
   pub longest : blocks.count ≤ blocks.longest
 
+-- where in the region a part's words end: behind the last of them, or at 0 where there is none
+pub record IsEnd (blocks : List ℕ) (used end : ℕ) : Type 0 where
+  pub none : used ≡ 0 → end ≡ 0
+  pub some : 0 < used → end ≡ place_in 256 blocks (used - 1) + 1
+
+-- how many places there are behind such an end in the block of the last word
+abbrev pub room_behind : ℕ → ℕ
+room_behind end = 255 - (end + 255) % 256
+
+pub record AreEnds (rows : List (List ℕ)) (used ends : List ℕ) : Type 0 where
+  pub long : length ends ≡ length used
+  pub each : (part : ℕ) → part < length used → IsEnd (row rows part) (get_or used part 0) (get_or ends part 0)
+
+-- and where each part ends
+pub record IsEnded (region : RawWords) (blocks : Held) (used ends : List ℕ) : Type 0 where
+  pub blocks_are : IsBlocks region blocks used
+  pub ends_are : AreEnds blocks.rows used ends
+
 -- a word of a part stands at a place of the region, and so many behind it are words of the part too
 abbrev pub IsReached : Parted → ℕ → ℕ → ℕ → ℕ → Type 0
 IsReached parts part i index count = IsAt parts part i index × (i + count < length (row parts.words part))
@@ -61,6 +79,12 @@ pub record IsGrown (old new : Parted) (part words : ℕ) : Type 0 where
   pub blocks : new.blocks ≡ old.blocks
   pub rows : IsExtended old.rows new.rows part (blocks_for (length (row old.words part) + words) - blocks_for (length (row old.words part)))
   pub words_are : new.words ≡ slice_set old.words part (row old.words part ++ replicate words 0)
+
+-- these words more at the end of a part, in as many blocks more as they need
+pub record IsGrownBy (old new : Parted) (part : ℕ) (more : List ℕ) : Type 0 where
+  pub blocks : new.blocks ≡ old.blocks
+  pub rows : IsExtended old.rows new.rows part (blocks_for (length (row old.words part) + length more) - blocks_for (length (row old.words part)))
+  pub words_are : new.words ≡ slice_set old.words part (row old.words part ++ more)
 
 -- so many words more need more blocks than are free
 abbrev pub IsTooMuch : Parted → ℕ → ℕ → Type 0

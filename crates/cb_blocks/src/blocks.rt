@@ -1,6 +1,6 @@
 // The words of a heap's parts.
-ghost use Rattle.std.specs.Prelude.{◌≡◌, ◌+◌, ◌-◌, ◌*◌, ◌%◌, ◌<◌, ◌≤◌, ◌^◌, ◌↔◌, ℕ, length, slice_get, slice_set, IfOk, IsErr, OnErr, OnOk, Some};
-ghost use Rattle.cb_blocks.specs.Parted.{IsAt, IsCleared, IsGrown, IsOpened, IsParted, IsReached, IsTooMuch, blocks_for, empty_parts, taken, with_fewer, with_words};
+ghost use Rattle.std.specs.Prelude.{◌≡◌, ◌+◌, ◌-◌, ◌*◌, ◌%◌, ◌<◌, ◌≤◌, ◌^◌, ◌↔◌, ◌∷◌, ℕ, length, replicate, slice_get, slice_set, IfOk, IsErr, OnErr, OnOk, Some};
+ghost use Rattle.cb_blocks.specs.Parted.{IsAt, IsCleared, IsEnd, IsGrown, IsGrownBy, IsOpened, IsParted, IsReached, IsTooMuch, blocks_for, empty_parts, room_behind, taken, with_fewer, with_words};
 ghost use Rattle.cb_raw.specs.Words.{copied};
 ghost use Rattle.cb_blocks.specs.Holdings.{IsHeld};
 ghost use Rattle.cb_blocks.specs.Rows.{held, row};
@@ -25,18 +25,20 @@ pub struct NoBlocks;
 pub struct Blocks {
     region: Region,
     blocks: Holdings<PagedRows<PagedRows<FlatRows>>>,
+    // By part, how many words it has, and where in the region these end.
     used: Vec<u64>,
+    ends: Vec<u64>,
 }
 
 impl Model for Blocks {
-    ghost use Rattle.cb_blocks.specs.Parted.{IsBlocks, Parted};
+    ghost use Rattle.cb_blocks.specs.Parted.{IsEnded, Parted};
     ghost use Rattle.cb_blocks.specs.Rows.{all_paged};
 
     ghost Value = { Parted };
 
     ghost view = { λ all. record { blocks = all.blocks.count; rows = all.blocks.rows; words = all_paged 256 all.region.words all.blocks.rows all.used.items } };
 
-    ghost invariant = { λ all. IsBlocks all.region all.blocks all.used.items };
+    ghost invariant = { λ all. IsEnded all.region all.blocks all.used.items all.ends.items };
 }
 
 impl Blocks {
@@ -53,10 +55,12 @@ impl Blocks {
         let held = Holdings::make(alloc, table, blocks, parts)?;
         let region = Region::make(alloc, blocks as usize * 256)?;
         let used = vec![in alloc; 0_u64; parts as usize]?;
+        let ends = vec![in alloc; 0_u64; parts as usize]?;
         Ok(Blocks {
             region,
             blocks: held,
             used,
+            ends,
         })
     }
 
@@ -160,10 +164,27 @@ impl Blocks {
         block as u64 * 256 + index % 256
     }
 
-    /// Adds so many words that hold 0 at the end of a part, in as many blocks more as they need. Takes time in these. `NoBlocks`
-    /// exactly where fewer blocks are free, and then nothing has changed.
+    /// Adds so many words that hold 0 at the end of a part, in as many blocks more as they need. Takes time in these, and looks at no
+    /// table where they fit into the part's last block. `NoBlocks` exactly where fewer blocks are free, and then nothing has changed.
     #[inline]
     pub fn grow(&mut self, part: u32, words: u64) -> Result<(), NoBlocks>
+        requires { part < length self.old.words }
+        ensures grown { OnOk result (IsGrown self.old self.new part words) }
+        ensures refused { OnErr result (self.new ≡ self.old) }
+        ensures room { IsErr result ↔ IsTooMuch self.old part words }
+    {
+        let end = self.ends[part as usize];
+        if words > left_behind(end) {
+            return self.grow_far(part, words);
+        }
+        self.ends[part as usize] = end + words;
+        self.used[part as usize] += words;
+        Ok(())
+    }
+
+    /// The same by the tables.
+    #[inline(never)]
+    fn grow_far(&mut self, part: u32, words: u64) -> Result<(), NoBlocks>
         requires { part < length self.old.words }
         ensures grown { OnOk result (IsGrown self.old self.new part words) }
         ensures refused { OnErr result (self.new ≡ self.old) }
@@ -177,7 +198,48 @@ impl Blocks {
         }
         open(&mut self.blocks, &mut self.region, part, wanted as u32);
         self.used[part as usize] = used;
+        self.ends[part as usize] = end_of(&self.blocks, part, used);
         Ok(())
+    }
+
+    /// Adds three words and so many behind them that hold 0 at the end of a part, in as many blocks more as they need, and gives the place
+    /// in the region of the first of them. Takes time in the blocks, and looks at no table where they fit into the part's last one.
+    /// `NoBlocks` exactly where fewer blocks are free, and then nothing has changed.
+    #[inline]
+    pub fn add(&mut self, part: u32, head: (u64, u64, u64), zeros: u32) -> Result<u64, NoBlocks>
+        requires { part < length self.old.words }
+        ensures added { OnOk result (IsGrownBy self.old self.new part (head.0 ∷ head.1 ∷ head.2 ∷ replicate zeros 0)) }
+        ensures place { IfOk result (IsAt self.new part (length (row self.old.words part))) }
+        ensures refused { OnErr result (self.new ≡ self.old) }
+        ensures room { IsErr result ↔ IsTooMuch self.old part (3 + zeros) }
+    {
+        let end = self.ends[part as usize];
+        if 3 + zeros as u64 > left_behind(end) {
+            return self.add_far(part, head, zeros);
+        }
+        self.grow(part, 3 + zeros as u64)?;
+        self.set_region_word(end, head.0);
+        self.set_region_word(end + 1, head.1);
+        self.set_region_word(end + 2, head.2);
+        Ok(end)
+    }
+
+    /// The same by the tables.
+    #[inline(never)]
+    fn add_far(&mut self, part: u32, head: (u64, u64, u64), zeros: u32) -> Result<u64, NoBlocks>
+        requires { part < length self.old.words }
+        ensures added { OnOk result (IsGrownBy self.old self.new part (head.0 ∷ head.1 ∷ head.2 ∷ replicate zeros 0)) }
+        ensures place { IfOk result (IsAt self.new part (length (row self.old.words part))) }
+        ensures refused { OnErr result (self.new ≡ self.old) }
+        ensures room { IsErr result ↔ IsTooMuch self.old part (3 + zeros) }
+    {
+        let start = self.used(part);
+        self.grow_far(part, 3 + zeros as u64)?;
+        let _end = self.used(part);
+        self.set_word(part, start, head.0);
+        self.set_word(part, start + 1, head.1);
+        self.set_word(part, start + 2, head.2);
+        Ok(self.index_of(part, start))
     }
 
     /// Leaves a part so many words, and gives the whole blocks behind them back. Takes time in the blocks that are given back.
@@ -190,6 +252,7 @@ impl Blocks {
         self.blocks.keep(part, count_blocks(used) as u32);
         clear_end(&mut self.region, &self.blocks, part, used);
         self.used[part as usize] = used;
+        self.ends[part as usize] = end_of(&self.blocks, part, used);
     }
 
     /// Copies so many words of a part from a place to one that isn't behind it, as by way of a second list. Takes time in their number.
@@ -241,6 +304,28 @@ fn count_blocks(words: u64) -> u64
     ensures { result ≡ blocks_for words }
 {
     words / 256 + (words % 256).min(1)
+}
+
+/// How many words there are behind a place in the region, up to the end of the block of the word before it.
+fn left_behind(end: u64) -> u64
+    requires { end < 2 ^ 63 }
+    ensures { result ≡ room_behind end }
+{
+    255 - (end + 255) % 256
+}
+
+/// Where in the region so many words of a part end.
+fn end_of(blocks: &Holdings<PagedRows<PagedRows<FlatRows>>>, part: u32, used: u64) -> u64
+    requires part { part < length blocks.now.rows }
+    requires exact { length (row blocks.now.rows part) ≡ blocks_for used }
+    requires sound { IsHeld blocks.now }
+    ensures { IsEnd (row blocks.now.rows part) used result }
+{
+    if used == 0 {
+        return 0;
+    }
+    let block = blocks.get(part, ((used - 1) / 256) as u32);
+    block as u64 * 256 + (used - 1) % 256 + 1
 }
 
 /// Takes free blocks for a part until it has so many, with 0 in their words.

@@ -9,7 +9,7 @@ use Rattle.cb_blocks.proofs.blocks.Blocks.region_word.Goals as goal
 pub read_touched-requires : goal.read_touched-requires
 read_touched-requires c =
     let is : (part : ℕ) × (i : ℕ) × IsAt (parts_of c.self.inside.region c.self.inside.blocks c.self.inside.used.items) part i c.args.index = (subst (λ (v : Parted). (part : ℕ) × (i : ℕ) × IsAt v part i c.args.index) (sym c.self.view_is) c.requires) in
-    at_touched c.self.inside.region c.self.inside.blocks c.self.inside.used.items is.0 is.1 c.args.index c.self.invariant is.2
+    at_touched c.self.inside.region c.self.inside.blocks c.self.inside.used.items is.0 is.1 c.args.index c.self.invariant.blocks_are is.2
 
 pub returns : goal.returns
 returns c =
