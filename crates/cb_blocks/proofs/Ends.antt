@@ -22,6 +22,14 @@ end_small region blocks used ends part is below =
       | inr none ↦ omega (arith, end.none (omega (arith, none)))
     ]
 
+-- words end at one place
+pub one_end : (blocks : List ℕ) (used end end' : ℕ) → IsEnd blocks used end → IsEnd blocks used end' → end ≡ end'
+one_end blocks used end end' is is' =
+    elim (cases_lt 0 used) [
+      | inl some ↦ is.some some ∙ sym (is'.some some)
+      | inr none ↦ is.none (omega (arith, none)) ∙ sym (is'.none (omega (arith, none)))
+    ]
+
 -- words that fit behind an end lie in the block of the word before it
 pub same_blocks : (blocks : List ℕ) (used end words : ℕ) → IsEnd blocks used end → words ≤ room_behind end → blocks_for (used + words) ≡ blocks_for used
 same_blocks blocks used end words is fits =

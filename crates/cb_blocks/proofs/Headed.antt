@@ -1,15 +1,18 @@
 -- Three words in front of the zeros by which a part grew.
-use Rattle.std.proofs.Common.{◌≡◌, ◌∙◌, ℕ, suc, ◌+◌, ◌-◌, ◌*◌, ◌<◌, ◌≤◌, List, ◌∷◌, ◌++◌, length, get_or, set, replicate, refl, sym, ap, subst, arith, lit<, length-append, length-set}
+use Rattle.std.proofs.Common.{◌≡◌, ◌∙◌, ℕ, suc, ◌+◌, ◌-◌, ◌*◌, ◌<◌, ◌≤◌, ◌↔◌, Result, Ok, Err, List, ◌∷◌, ◌++◌, length, set, replicate, refl, sym, ap, subst, arith, lit<, length-append, length-set}
+use Rattle.std.specs.Prelude.{IsErr, OnOk}
 use Rattle.std.proofs.lemmas.List.{length-replicate, set-append_right, set-set}
-use Rattle.cb_raw.specs.Words.{RawWords}
-use Rattle.cb_blocks.specs.Holdings.{Held}
-use Rattle.cb_blocks.specs.Parted.{IsAt, IsEnded, IsGrown, IsGrownBy, Parted, blocks_for, index_of, room_behind, with_words}
+use Rattle.cb_blocks.specs.Parted.{IsAt, IsEnd, IsGrown, IsGrownBy, IsParted, Parted, blocks_for, index_of, room_behind, with_words}
 use Rattle.cb_blocks.specs.Rows.{IsExtended, place_in, row}
 use Rattle.cb_blocks.proofs.Changed.{stays}
 use Rattle.cb_blocks.proofs.Ends.{end_further, end_place, same_blocks}
 use Rattle.cb_blocks.proofs.Laid.{room_for}
-use Rattle.cb_blocks.proofs.Parted.{part_of, parts_of, used_of}
 use Rattle.cb_blocks.proofs.Rowed.{row_set_same}
+
+-- what was asked for and wasn't too much was granted
+pub granted : {T E : Type 0} (result : Result T E) (P Q : Type 0) → OnOk result P → IsErr result ↔ Q → (Q → ⊥) → P
+granted {T} {E} (Ok done) P Q ok room not = ok
+granted {T} {E} (Err reason) P Q ok room not = absurd (not (room.0 refl))
 
 -- the words of a part with three behind them and zeros behind these
 abbrev pub with_head : Parted → (part first second third rest : ℕ) → List ℕ
@@ -91,21 +94,11 @@ grown_by old mid now part first second third rest is =
     }
 
 -- where the words that fit into the last block of a part come to stand
-pub head_place : (region : RawWords) (blocks : Held) (used ends : List ℕ) (mid : Parted) (part words k : ℕ) → IsEnded region blocks used ends → part < length used → words ≤ room_behind (get_or ends part 0) → k < words
-    → IsGrown (parts_of region blocks used) mid part words → index_of mid part (get_or used part 0 + k) ≡ get_or ends part 0 + k
-head_place region blocks used ends mid part words k is below fits few grown =
-    let end = is.ends_are.each part below in
-    let exact = is.blocks_are.laid.exact part below in
-    let inside : get_or used part 0 + k < length (row blocks.rows part) * 256 =
-    omega (arith, few, exact, same_blocks (row blocks.rows part) (get_or used part 0) (get_or ends part 0) words end fits, room_for 256 (get_or used part 0 + words) (lit< tt)) in
-    stays blocks.rows mid.rows part _ part (get_or used part 0 + k) (omega (arith, below, is.blocks_are.laid.parts)) grown.rows inside
-    ∙ end_place (row blocks.rows part) (get_or used part 0 + k) (get_or ends part 0 + k) (words - k)
-    (end_further (row blocks.rows part) (get_or used part 0) (get_or ends part 0) k end (omega (arith, few, fits))) (omega (arith, few, fits)) (omega (arith, few))
-
-pub head_there : (region : RawWords) (blocks : Held) (used ends : List ℕ) (old mid : Parted) (part rest k end index : ℕ) → parts_of region blocks used ≡ old → IsEnded region blocks used ends → part < length old.words → end ≡ get_or ends part 0
-    → 3 + rest ≤ room_behind end → k < 3 + rest → IsGrown old mid part (3 + rest) → index ≡ end + k → index_of mid part (length (row old.words part) + k) ≡ index
-head_there region blocks used ends old mid part rest k end index view is below end_is fits few grown index_is =
-    let below' : part < length (parts_of region blocks used).words = subst (λ (v : Parted). part < length v.words) (sym view) below in
-    let long : get_or used part 0 ≡ length (row old.words part) = used_of region blocks used part below' ∙ ap (λ (v : Parted). length (row v.words part)) view in
-    let place = head_place region blocks used ends mid part (3 + rest) k is (part_of region blocks used part below') (subst (λ n. 3 + rest ≤ room_behind n) end_is fits) few (subst (λ (v : Parted). IsGrown v mid part (3 + rest)) (sym view) grown) in
-    ap (λ n. index_of mid part (n + k)) (sym long) ∙ place ∙ ap (λ n. n + k) (sym end_is) ∙ sym index_is
+pub head_there : (old mid : Parted) (part end words k : ℕ) → IsParted old → part < length old.words → IsEnd (row old.rows part) (length (row old.words part)) end → words ≤ room_behind end → k < words → IsGrown old mid part words
+    → index_of mid part (length (row old.words part) + k) ≡ end + k
+head_there old mid part end words k sound below is fits few grown =
+    let used : ℕ = length (row old.words part) in
+    let inside : used + k < length (row old.rows part) * 256 =
+    omega (arith, few, sound.exact part below, same_blocks (row old.rows part) used end words is fits, room_for 256 (used + words) (lit< tt)) in
+    stays old.rows mid.rows part _ part (used + k) (omega (arith, below, sound.same)) grown.rows inside
+    ∙ end_place (row old.rows part) (used + k) (end + k) (words - k) (end_further (row old.rows part) used end k is (omega (arith, few, fits))) (omega (arith, few, fits)) (omega (arith, few))

@@ -1,11 +1,11 @@
 -- Blocks that a part takes and gives back.
 use Rattle.std.proofs.Common.{◌≡◌, ◌∙◌, ℕ, ◌+◌, ◌-◌, ◌*◌, ◌/◌, ◌%◌, ◌<◌, ◌≤◌, ◌≢◌, List, [], ◌∷◌, ◌++◌, length, get_or, max, refl, sym, ap, subst, arith, lit<, inl, inr}
-use Rattle.std.proofs.lemmas.Bool.{cases_eq, cases_lt}
+use Rattle.std.proofs.lemmas.Bool.{cases_lt}
 use Rattle.std.proofs.lemmas.List.{get_or_append_left, get_or_push}
 use Rattle.cb_raw.specs.Words.{RawWords, zeroed}
 use Rattle.cb_raw.proofs.Laws.{length-zeroed, zeroed_before, zeroed_behind, zeroed_there}
 use Rattle.cb_blocks.specs.Holdings.{Held, IsHeld}
-use Rattle.cb_blocks.specs.Parted.{IsCleared, IsOpened}
+use Rattle.cb_blocks.specs.Parted.{IsCleared, IsEnd, IsOpened, blocks_for, room_behind}
 use Rattle.cb_blocks.specs.Rows.{IsExtended, place_in, pushed, row}
 use Rattle.cb_blocks.proofs.Paged.{page_of}
 use Rattle.cb_blocks.proofs.Rowed.{entry_extended, extended_more, length_extended, length_pushed, not_extended, parts_extended, row_set_same}
@@ -16,6 +16,23 @@ zeros_elsewhere words block item rest fits differs small =
     elim (cases_lt item block) [
       | inl below ↦ zeroed_before words (block * 256) 256 (item * 256 + rest) fits (omega (arith, below, small))
       | inr above ↦ zeroed_behind words (block * 256) 256 (item * 256 + rest) fits (omega (arith, above, differs, small))
+    ]
+
+-- where there is room behind an end there are words before it
+some_behind : (blocks : List ℕ) (used end i : ℕ) → IsEnd blocks used end → end ≤ i → i < end + room_behind end → 0 < used
+some_behind blocks used end i is past within =
+    elim (cases_lt 0 used) [
+      | inl some ↦ some
+      | inr none ↦ absurd (omega (arith, is.none (omega (arith, none)), past, within))
+    ]
+
+-- the last block of a part was touched
+pub end_touched : (region : RawWords) (blocks : Held) (part used end : ℕ) → IsHeld blocks → region.touched ≡ blocks.fresh * 256 → length (row blocks.rows part) ≡ blocks_for used → IsEnd (row blocks.rows part) used end
+    → end + room_behind end ≤ region.touched
+end_touched region blocks part used end sound touched exact is =
+    elim (cases_lt 0 used) [
+      | inl some ↦ omega (arith, is.some some, sound.below part ((used - 1) / 256) (omega (arith, exact, some)), touched, some)
+      | inr none ↦ omega (arith, is.none (omega (arith, none)))
     ]
 
 pub not_opened : (region : RawWords) (blocks : Held) (part more : ℕ) → more ≡ 0 → IsHeld blocks → region.touched ≡ blocks.fresh * 256 → IsOpened region blocks region blocks part more
@@ -72,36 +89,37 @@ opened_more region blocks region' blocks' region'' blocks'' part more block belo
           ];
     }
 
-pub not_cleared : (region : RawWords) (rows : List (List ℕ)) (part used : ℕ) → length (row rows part) * 256 ≤ used → IsCleared region region rows part used
-not_cleared region rows part used none = record { whole = refl; touched = refl; kept = λ other i inside own. refl; clear = λ i past inside. absurd (omega (arith, past, inside, none)) }
-
-pub cleared : (region region' : RawWords) (blocks : Held) (part used block : ℕ) → part < length blocks.rows → IsHeld blocks → length region.words ≡ blocks.count * 256 → region.touched ≡ blocks.fresh * 256
-    → length (row blocks.rows part) ≡ used / 256 + 1 → get_or (row blocks.rows part) (used / 256) 0 ≡ block
-    → region'.words ≡ zeroed region.words (block * 256 + used % 256) (256 - used % 256) → region'.touched ≡ max region.touched (block * 256 + used % 256 + (256 - used % 256))
+-- what is behind the end of a part in its last block is made 0
+pub cleared : (region region' : RawWords) (blocks : Held) (part used end : ℕ) → IsHeld blocks → length region.words ≡ blocks.count * 256 → region.touched ≡ blocks.fresh * 256
+    → length (row blocks.rows part) ≡ blocks_for used → IsEnd (row blocks.rows part) used end → region'.words ≡ zeroed region.words end (room_behind end) → region'.touched ≡ max region.touched (end + room_behind end)
     → IsCleared region region' blocks.rows part used
-cleared region region' blocks part used block below sound whole touched exact item words touched' =
-    let small : block < blocks.fresh = subst (λ n. n < blocks.fresh) item (sound.below part (used / 256) (omega (arith, exact))) in
-    let fits : block * 256 + used % 256 + (256 - used % 256) ≤ length region.words = omega (arith, small, sound.within, whole) in
+cleared region region' blocks part used end sound whole touched exact is words touched' =
+    let b : ℕ = get_or (row blocks.rows part) ((used - 1) / 256) 0 in
+    let ending : end + room_behind end ≤ region.touched = end_touched region blocks part used end sound touched exact is in
+    let fits : end + room_behind end ≤ length region.words = omega (arith, ending, touched, whole, sound.within) in
     record {
-      whole = ap length words ∙ length-zeroed region.words (block * 256 + used % 256) (256 - used % 256) fits;
-      touched = omega (arith, touched', touched, small);
+      whole = ap length words ∙ length-zeroed region.words end (room_behind end) fits;
+      touched = omega (arith, touched', ending);
       kept = λ other i inside own.
           let e : ℕ = get_or (row blocks.rows other) (i / 256) 0 in
           let page = page_of 256 (length (row blocks.rows other)) i (lit< tt) inside in
           ap (λ s. get_or s (e * 256 + i % 256) 0) words
-          ∙ elim (cases_lt (e * 256 + i % 256) (block * 256 + used % 256)) [
-            | inl before ↦ zeroed_before region.words (block * 256 + used % 256) (256 - used % 256) (e * 256 + i % 256) fits before
-            | inr behind ↦ zeroed_behind region.words (block * 256 + used % 256) (256 - used % 256) (e * 256 + i % 256) fits
-                (elim (cases_eq e block) [
-                  | inl same ↦
-                      let both = sound.apart other part (i / 256) (used / 256) page (omega (arith, exact)) (same ∙ sym item) in
-                      absurd (omega (arith, own both.0, both.1, behind, same))
-                  | inr differs ↦ omega (arith, behind, differs)
+          ∙ elim (cases_lt (e * 256 + i % 256) end) [
+            | inl before ↦ zeroed_before region.words end (room_behind end) (e * 256 + i % 256) fits before
+            | inr past ↦ zeroed_behind region.words end (room_behind end) (e * 256 + i % 256) fits
+                (elim (cases_lt (e * 256 + i % 256) (end + room_behind end)) [
+                  | inl within ↦
+                      let some = some_behind (row blocks.rows part) used end (e * 256 + i % 256) is past within in
+                      let same : e ≡ b = omega (arith, is.some some, past, within) in
+                      let both = sound.apart other part (i / 256) ((used - 1) / 256) page (omega (arith, exact, some)) same in
+                      absurd (omega (arith, own both.0, both.1, past, same, is.some some, some))
+                  | inr behind ↦ behind
                 ])
           ];
       clear = λ i past inside.
-          let page : i / 256 ≡ used / 256 = omega (arith, past, inside, exact) in
-          ap (λ n. get_or region'.words (get_or (row blocks.rows part) n 0 * 256 + i % 256) 0) page ∙ ap (λ n. get_or region'.words (n * 256 + i % 256) 0) item
-          ∙ ap (λ s. get_or s (block * 256 + i % 256) 0) words
-          ∙ zeroed_there region.words (block * 256 + used % 256) (256 - used % 256) (block * 256 + i % 256) fits (omega (arith, past, page)) (omega arith);
+          let some : 0 < used = omega (arith, past, inside, exact) in
+          let page : i / 256 ≡ (used - 1) / 256 = omega (arith, past, inside, exact, some) in
+          ap (λ n. get_or region'.words (get_or (row blocks.rows part) n 0 * 256 + i % 256) 0) page
+          ∙ ap (λ s. get_or s (b * 256 + i % 256) 0) words
+          ∙ zeroed_there region.words end (room_behind end) (b * 256 + i % 256) fits (omega (arith, past, page, is.some some, some)) (omega (arith, past, page, is.some some, some));
     }

@@ -1,6 +1,6 @@
 // The words of a heap's parts.
 ghost use Rattle.std.specs.Prelude.{◌≡◌, ◌+◌, ◌-◌, ◌*◌, ◌%◌, ◌<◌, ◌≤◌, ◌^◌, ◌↔◌, ◌∷◌, ℕ, length, replicate, slice_get, slice_set, IfOk, IsErr, OnErr, OnOk, Some};
-ghost use Rattle.cb_blocks.specs.Parted.{IsAt, IsCleared, IsEnd, IsGrown, IsGrownBy, IsOpened, IsParted, IsReached, IsTooMuch, blocks_for, empty_parts, room_behind, taken, with_fewer, with_words};
+ghost use Rattle.cb_blocks.specs.Parted.{IsAt, IsEnd, IsGrown, IsGrownBy, IsOpened, IsParted, IsReached, IsTooMuch, blocks_for, empty_parts, room_behind, taken, with_fewer, with_words};
 ghost use Rattle.cb_raw.specs.Words.{copied};
 ghost use Rattle.cb_blocks.specs.Holdings.{IsHeld};
 ghost use Rattle.cb_blocks.specs.Rows.{held, row};
@@ -134,8 +134,8 @@ impl Blocks {
     {
         let _region = &self.region;
         let there = index + count;
-        let block = (index / 256) as u32;
-        let further = (there / 256) as u32 - block;
+        let block = index / 256;
+        let further = there / 256 - block;
         if further == 0 {
             there
         } else if self.blocks.follows(block, further) {
@@ -173,23 +173,11 @@ impl Blocks {
         ensures refused { OnErr result (self.new ≡ self.old) }
         ensures room { IsErr result ↔ IsTooMuch self.old part words }
     {
-        let end = self.ends[part as usize];
-        if words > left_behind(end) {
-            return self.grow_far(part, words);
+        let end = self.end(part);
+        if words <= left_behind(end) {
+            self.extend(part, end, words);
+            return Ok(());
         }
-        self.ends[part as usize] = end + words;
-        self.used[part as usize] += words;
-        Ok(())
-    }
-
-    /// The same by the tables.
-    #[inline(never)]
-    fn grow_far(&mut self, part: u32, words: u64) -> Result<(), NoBlocks>
-        requires { part < length self.old.words }
-        ensures grown { OnOk result (IsGrown self.old self.new part words) }
-        ensures refused { OnErr result (self.new ≡ self.old) }
-        ensures room { IsErr result ↔ IsTooMuch self.old part words }
-    {
         let used = self.used[part as usize].saturating_add(words);
         let wanted = count_blocks(used);
         let have = self.blocks.len(part) as u64;
@@ -202,44 +190,64 @@ impl Blocks {
         Ok(())
     }
 
-    /// Adds three words and so many behind them that hold 0 at the end of a part, in as many blocks more as they need, and gives the place
-    /// in the region of the first of them. Takes time in the blocks, and looks at no table where they fit into the part's last one.
-    /// `NoBlocks` exactly where fewer blocks are free, and then nothing has changed.
+    /// Adds three words and so many behind them that hold 0 at the end of a part, where there are blocks for them, and gives the place in the
+    /// region of the first of them. Takes time in the blocks, and looks at no table where they fit into the part's last one.
     #[inline]
-    pub fn add(&mut self, part: u32, head: (u64, u64, u64), zeros: u32) -> Result<u64, NoBlocks>
-        requires { part < length self.old.words }
-        ensures added { OnOk result (IsGrownBy self.old self.new part (head.0 ∷ head.1 ∷ head.2 ∷ replicate zeros 0)) }
-        ensures place { IfOk result (IsAt self.new part (length (row self.old.words part))) }
-        ensures refused { OnErr result (self.new ≡ self.old) }
-        ensures room { IsErr result ↔ IsTooMuch self.old part (3 + zeros) }
+    pub fn add(&mut self, part: u32, head: (u64, u64, u64), zeros: u32) -> u64
+        requires part { part < length self.old.words }
+        requires room { IsTooMuch self.old part (3 + zeros) → ⊥ }
+        ensures added { IsGrownBy self.old self.new part (head.0 ∷ head.1 ∷ head.2 ∷ replicate zeros 0) }
+        ensures place { IsAt self.new part (length (row self.old.words part)) result }
     {
-        let end = self.ends[part as usize];
-        if 3 + zeros as u64 > left_behind(end) {
-            return self.add_far(part, head, zeros);
+        let end = self.end(part);
+        let words = 3 + zeros as u64;
+        if words > left_behind(end) {
+            return self.add_far(part, head.0, head.1, head.2, zeros);
         }
-        self.grow(part, 3 + zeros as u64)?;
+        self.extend(part, end, words);
         self.set_region_word(end, head.0);
         self.set_region_word(end + 1, head.1);
         self.set_region_word(end + 2, head.2);
-        Ok(end)
+        end
     }
 
     /// The same by the tables.
     #[inline(never)]
-    fn add_far(&mut self, part: u32, head: (u64, u64, u64), zeros: u32) -> Result<u64, NoBlocks>
-        requires { part < length self.old.words }
-        ensures added { OnOk result (IsGrownBy self.old self.new part (head.0 ∷ head.1 ∷ head.2 ∷ replicate zeros 0)) }
-        ensures place { IfOk result (IsAt self.new part (length (row self.old.words part))) }
-        ensures refused { OnErr result (self.new ≡ self.old) }
-        ensures room { IsErr result ↔ IsTooMuch self.old part (3 + zeros) }
+    fn add_far(&mut self, part: u32, first: u64, second: u64, third: u64, zeros: u32) -> u64
+        requires part { part < length self.old.words }
+        requires room { IsTooMuch self.old part (3 + zeros) → ⊥ }
+        ensures added { IsGrownBy self.old self.new part (first ∷ second ∷ third ∷ replicate zeros 0) }
+        ensures place { IsAt self.new part (length (row self.old.words part)) result }
     {
         let start = self.used(part);
-        self.grow_far(part, 3 + zeros as u64)?;
+        let _there_is_room = self.grow(part, 3 + zeros as u64);
         let _end = self.used(part);
-        self.set_word(part, start, head.0);
-        self.set_word(part, start + 1, head.1);
-        self.set_word(part, start + 2, head.2);
-        Ok(self.index_of(part, start))
+        self.set_word(part, start, first);
+        self.set_word(part, start + 1, second);
+        self.set_word(part, start + 2, third);
+        self.index_of(part, start)
+    }
+
+    /// Where in the region the words of a part end.
+    fn end(&self, part: u32) -> u64
+        requires { part < length self.now.words }
+        ensures is { IsEnd (row self.now.rows part) (length (row self.now.words part)) result }
+        ensures small { result ≤ 2 ^ 28 }
+        ensures sound { IsParted self.now }
+    {
+        self.ends[part as usize]
+    }
+
+    /// Adds so many words that hold 0 at the end of a part, which lie in its last block.
+    fn extend(&mut self, part: u32, end: u64, words: u64)
+        requires part { part < length self.old.words }
+        requires end { IsEnd (row self.old.rows part) (length (row self.old.words part)) end }
+        requires small { end ≤ 2 ^ 28 }
+        requires within { words ≤ room_behind end }
+        ensures { IsGrown self.old self.new part words }
+    {
+        self.ends[part as usize] = end + words;
+        self.used[part as usize] += words;
     }
 
     /// Leaves a part so many words, and gives the whole blocks behind them back. Takes time in the blocks that are given back.
@@ -250,9 +258,10 @@ impl Blocks {
     {
         let _had = self.used[part as usize];
         self.blocks.keep(part, count_blocks(used) as u32);
-        clear_end(&mut self.region, &self.blocks, part, used);
+        let end = end_of(&self.blocks, part, used);
+        self.region.zero(end as usize, left_behind(end) as usize);
         self.used[part as usize] = used;
-        self.ends[part as usize] = end_of(&self.blocks, part, used);
+        self.ends[part as usize] = end;
     }
 
     /// Copies so many words of a part from a place to one that isn't behind it, as by way of a second list. Takes time in their number.
@@ -347,26 +356,4 @@ fn open(
         let block = blocks.take(part);
         region.zero(block as usize * 256, 256);
     }
-}
-
-/// Puts 0 behind so many words of a part, up to the end of its last block.
-fn clear_end(
-    region: &mut Region,
-    blocks: &Holdings<PagedRows<PagedRows<FlatRows>>>,
-    part: u32,
-    used: u64,
-)
-    requires part { part < length blocks.now.rows }
-    requires exact { length (row blocks.now.rows part) ≡ blocks_for used }
-    requires sound { IsHeld blocks.now }
-    requires whole { length region.old.words ≡ blocks.now.count * 256 }
-    requires touched { region.old.touched ≡ blocks.now.fresh * 256 }
-    ensures { IsCleared region.old region.new blocks.now.rows part used }
-{
-    let rest = used % 256;
-    if rest == 0 {
-        return;
-    }
-    let block = blocks.get(part, (used / 256) as u32);
-    region.zero(block as usize * 256 + rest as usize, 256 - rest as usize);
 }

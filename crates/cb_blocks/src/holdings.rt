@@ -112,14 +112,14 @@ impl<R: Rows> Holdings<R> {
 
     /// Whether the number so many after one stands as far behind it in the same row. Only where that many stand behind it does the answer say
     /// something.
-    pub(crate) fn follows(&self, number: u32, count: u32) -> bool
+    pub(crate) fn follows(&self, number: u64, count: u64) -> bool
         requires there { (part : ℕ) × (i : ℕ) × IsNumberAt self.now.rows part i number }
         requires small { number + count < 2 ^ 32 }
         ensures { (part i : ℕ) → IsNumberAt self.now.rows part i number → i + count < length (row self.now.rows part) → IsTrue result → IsNumberAt self.now.rows part (i + count) (number + count) }
     {
         let other = number + count;
-        if other < self.fresh {
-            self.tags[other as usize] == self.tags[number as usize] + count as u64
+        if (other as u32) < self.fresh {
+            self.tags[other as usize] == self.tags[number as usize] + count
         } else {
             false
         }
