@@ -7,7 +7,7 @@ ghost use Rattle.cb_partheap.specs.Added.{IsAdded};
 ghost use Rattle.cb_partheap.specs.Spots.{place_of};
 ghost use Rattle.cb_partheap.specs.Words.{blank_words};
 
-use crate::words::{HALF, SPAN, set_word_at};
+use crate::words::{HALF, SPAN};
 use cb_blocks::Blocks;
 
 /// What the header of a new object tells.
@@ -29,12 +29,9 @@ pub(crate) fn add_object(words: &mut Blocks, part: u32, header: Header) -> u64
     ensures added { IsAdded words.old words.new part (blank_words header.kind header.size header.serial header.site) }
     ensures place { result ≡ place_of words.new (record { part = part; start = length (row words.old.words part) }) }
 {
-    let start = words.used(part);
-    let _grown = words.grow(part, 3 + header.size as u64);
+    let first = header.kind as u64 + header.size as u64 * HALF;
+    let head = (first, header.serial, header.site as u64);
+    let index = words.add(part, head, header.size);
     let _sound = words.blocks_free();
-    let at = part as u64 * SPAN + words.index_of(part, start) + 1;
-    set_word_at(words, at, 0, header.kind as u64 + header.size as u64 * HALF);
-    set_word_at(words, at, 1, header.serial);
-    set_word_at(words, at, 2, header.site as u64);
-    at
+    part as u64 * SPAN + index + 1
 }

@@ -132,10 +132,9 @@ impl PartHeap {
             serial,
             site,
         };
-        let at = add_object(&mut self.words, part, header);
         self.next += 1;
         self.granted.spend(site, 3 + size as u64);
-        at
+        add_object(&mut self.words, part, header)
     }
 
     /// The kind of an object.
