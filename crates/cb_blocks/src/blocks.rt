@@ -135,10 +135,10 @@ impl Blocks {
         let _region = &self.region;
         let there = index + count;
         let block = index / 256;
-        let further = there / 256 - block;
-        if further == 0 {
+        let other = there / 256;
+        if block == other {
             there
-        } else if self.blocks.follows(block, further) {
+        } else if self.blocks.follows(block, other - block) {
             there
         } else {
             self.index_far(index, count)
