@@ -134,11 +134,11 @@ impl Blocks {
     {
         let _region = &self.region;
         let there = index + count;
-        if index % 256 + count < 256 {
-            return there;
-        }
         let block = index / 256;
-        if self.blocks.follows(block, there / 256 - block) {
+        let other = there / 256;
+        if block == other {
+            there
+        } else if self.blocks.follows(block, other - block) {
             there
         } else {
             self.index_far(index, count)
