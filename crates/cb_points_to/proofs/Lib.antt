@@ -1,0 +1,5 @@
+pub mod Growing
+pub mod Located
+pub mod Marked
+pub mod Saying
+pub mod Unpacked

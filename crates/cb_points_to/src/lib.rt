@@ -1,0 +1,16 @@
+//! Points-to analysis by inclusion (Andersen 1994): which sites each node may hold.
+#![tactic(auto)]
+
+mod bits;
+mod constraints;
+mod inclusion;
+mod lists;
+mod member;
+mod pts;
+mod tables;
+mod web;
+
+pub use constraints::Constraints;
+pub use inclusion::Inclusion;
+pub use pts::Pts;
+pub use tables::{Callee, Callees, Slot, Slots};
