@@ -1,6 +1,7 @@
 pub mod Closed
 pub mod Inclusions
 pub mod Lists
+pub mod Looking
 pub mod Made
 pub mod Packed
 pub mod Rows

@@ -1,15 +1,16 @@
 -- A relation that grows, and what is still to be looked at.
-use Rattle.std.specs.Prelude.{◌≡◌, ◌+◌, ◌++◌, ◌∷◌, ◌⊎◌, ℕ, Bool, true, false, List, [], Option, Some, slice_get, length}
+use Rattle.std.specs.Prelude.{◌≡◌, ◌+◌, ◌<◌, ◌++◌, ◌∷◌, ◌⊎◌, ℕ, Bool, true, false, List, [], Option, None, Some, slice_get, length}
 use Rattle.std.specs.List.{All, Contains}
 use Rattle.cb_points_to.specs.Closed.{has}
 use Rattle.cb_points_to.specs.Inclusions.{System}
 use Rattle.cb_points_to.specs.Lists.{InRow, pushed}
 use Rattle.cb_points_to.specs.Made.{IsSystem}
 use Rattle.cb_points_to.specs.Rows.{unset, with_site}
-use Rattle.cb_points_to.specs.Says.{At, Had, MustHave, MustLink, Says, first_base, lets, second_base}
+use Rattle.cb_points_to.specs.Says.{At, Enters, Had, MustHave, MustLink, Says, first_base, lets, second_base}
 use Rattle.cb_points_to.specs.declared.inclusion.Inclusion.{Inclusion}
 use Rattle.cb_points_to.specs.declared.member.Member.{Member}
 use Rattle.cb_points_to.specs.declared.member.Edge.{Edge}
+use Rattle.cb_points_to.specs.declared.tables.Callee.{Callee}
 use Rattle.cb_points_to.specs.declared.web.Web.{Web}
 
 -- what there is still to do
@@ -78,3 +79,26 @@ pub record FollowedAll (system : System) (looked : List (List ℕ)) (old new : W
 pub record Linking (system : System) (looked : List (List ℕ)) (old new : Web) (from to : ℕ) (filter : Option ℕ) : Type 0 where
   pub keeps : Keeps system looked old new
   pub linked : Linked new from to filter
+
+-- what parts of an inclusion say is had
+pub record Holding (system : System) (looked : List (List ℕ)) (old new : Web) (node : Option ℕ) (site : ℕ) : Type 0 where
+  pub keeps : Keeps system looked old new
+  pub had : (at : ℕ) → node ≡ Some at → Had (has new.rows) at site
+
+pub record Joining (system : System) (looked : List (List ℕ)) (old new : Web) (from to : Option ℕ) : Type 0 where
+  pub keeps : Keeps system looked old new
+  pub linked : (a b : ℕ) → from ≡ Some a → to ≡ Some b → Linked new a b None
+
+-- so many arguments
+pub record Passing (system : System) (looked : List (List ℕ)) (old new : Web) (given taken : List ℕ) (count : ℕ) : Type 0 where
+  pub keeps : Keeps system looked old new
+  pub linked : (i from to : ℕ) → i < count → slice_get given i ≡ Some from → slice_get taken i ≡ Some to → Linked new from to None
+
+pub record Entering (system : System) (looked : List (List ℕ)) (old new : Web) (own : ℕ) (arguments : List ℕ) (outcome : Option ℕ) (callee : Callee) : Type 0 where
+  pub keeps : Keeps system looked old new
+  pub enters : Enters (Had (has new.rows)) (Linked new) own arguments outcome callee
+
+-- what an inclusion says of a site of each of its bases
+pub record Expands (system : System) (looked : List (List ℕ)) (old new : Web) (inclusion : Inclusion) (own other : ℕ) : Type 0 where
+  pub keeps : Keeps system looked old new
+  pub says : Says system (Had (has new.rows)) (Linked new) inclusion own other

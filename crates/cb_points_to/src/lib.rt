@@ -3,8 +3,10 @@
 
 mod bits;
 mod constraints;
+mod expand;
 mod inclusion;
 mod lists;
+mod look;
 mod member;
 mod pts;
 mod tables;
