@@ -1,13 +1,13 @@
 -- What an inclusion says is had, part by part.
-use Rattle.std.proofs.Common.{◌≡◌, ◌∙◌, sym, ap, refl, subst, inl, inr, arith, ℕ, ◌+◌, ◌<◌, ◌≤◌, List, length, Option, Some, None, slice_get}
+use Rattle.std.proofs.Common.{◌≡◌, ◌∙◌, sym, refl, subst, inl, inr, arith, ℕ, ◌+◌, ◌<◌, ◌≤◌, List, length, Option, Some, None, slice_get}
 use Rattle.std.proofs.lemmas.Bool.{cases_lt}
 use Rattle.std.proofs.lemmas.Option.{slice_get_within}
 use Rattle.cb_points_to.specs.Closed.{has}
 use Rattle.cb_points_to.specs.Inclusions.{System, slot_in}
-use Rattle.cb_points_to.specs.Says.{Enters, Had, MustHave, MustLink, Says}
+use Rattle.cb_points_to.specs.Says.{Had, MustHave, MustLink, Says}
 use Rattle.cb_points_to.specs.Webs.{Entering, Expands, Holding, Joining, Keeps, Linked, Linking, Passing}
 use Rattle.cb_points_to.specs.declared.inclusion.Inclusion.{Inclusion}
-use Rattle.cb_points_to.specs.declared.inclusion.Inclusion.TheVariants.{Between, Call, Copy, Has, HasEach, Load, Store, Through}
+use Rattle.cb_points_to.specs.declared.inclusion.Inclusion.TheVariants.{Between, Copy, Has, HasEach, Load, Store, Through}
 use Rattle.cb_points_to.specs.declared.tables.Callee.{Callee}
 use Rattle.cb_points_to.specs.declared.web.Web.{Web}
 use Rattle.cb_points_to.proofs.Growing.{keeps_on}

@@ -1,13 +1,13 @@
 -- A relation that grows keeps what holds of it.
-use Rattle.std.proofs.Common.{◌≡◌, ◌∙◌, sym, ap, refl, subst, inl, inr, arith, ℕ, ◌+◌, ◌<◌, ◌⊎◌, Bool, true, false, List, [], ◌∷◌, ◌++◌, length, get_or, set, Option, length-append}
+use Rattle.std.proofs.Common.{◌≡◌, ◌∙◌, sym, ap, refl, subst, inl, inr, arith, ℕ, ◌<◌, ◌⊎◌, true, List, [], ◌∷◌, ◌++◌, length, get_or, Option, length-append}
 use Rattle.std.specs.List.{All, Contains}
 use Rattle.std.proofs.lemmas.List.Elements.{Contains-append_left, Contains-push, Contains-push_cases}
 use Rattle.cb_points_to.specs.Closed.{has}
 use Rattle.cb_points_to.specs.Inclusions.{System}
 use Rattle.cb_points_to.specs.Lists.{InRow, pushed}
-use Rattle.cb_points_to.specs.Rows.{unset, with_site}
+use Rattle.cb_points_to.specs.Rows.{unset}
 use Rattle.cb_points_to.specs.Says.{Had, MustHave, MustLink, lets}
-use Rattle.cb_points_to.specs.Webs.{Adds, Followed, FollowedAll, Follows, Grows, IsAdded, IsWeb, Keeps, Linked, Linking, left, member_of}
+use Rattle.cb_points_to.specs.Webs.{Adds, Followed, Follows, Grows, IsAdded, IsWeb, Keeps, Linked, Linking, left, member_of}
 use Rattle.cb_points_to.specs.declared.member.Edge.{Edge}
 use Rattle.cb_points_to.specs.declared.member.Member.{Member}
 use Rattle.cb_points_to.specs.declared.web.Web.{Web}

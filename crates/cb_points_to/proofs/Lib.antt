@@ -4,4 +4,5 @@ pub mod Located
 pub mod Looked
 pub mod Marked
 pub mod Saying
+pub mod Solved
 pub mod Unpacked

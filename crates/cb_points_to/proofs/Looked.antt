@@ -1,6 +1,5 @@
 -- Sites that are looked at.
-use Rattle.std.proofs.Common.{◌≡◌, ◌∙◌, sym, ap, refl, subst, inl, inr, arith, ℕ, ◌<◌, ◌⊎◌, List, [], length, get_or, Option, Some, None, slice_get, true}
-use Rattle.std.specs.List.{Contains}
+use Rattle.std.proofs.Common.{◌≡◌, ◌∙◌, sym, ap, refl, subst, inl, inr, arith, ℕ, ◌<◌, ◌⊎◌, List, length, Option, Some, None, true}
 use Rattle.cb_points_to.specs.Closed.{has}
 use Rattle.cb_points_to.specs.Inclusions.{System}
 use Rattle.cb_points_to.specs.Lists.{InRow, pushed}

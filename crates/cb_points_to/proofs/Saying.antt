@@ -1,16 +1,14 @@
 -- What inclusions say, of relations and of all closed ones.
-use Rattle.std.proofs.Common.{◌≡◌, ◌∙◌, sym, ap, refl, subst, inl, inr, arith, suc, ℕ, ◌<◌, Bool, true, cond, eqb, List, [], ◌∷◌, length, get_or, Option, Some, None, IfSome, slice_get}
+use Rattle.std.proofs.Common.{◌≡◌, ◌∙◌, sym, ap, refl, subst, inl, inr, arith, suc, ℕ, ◌<◌, cond, eqb, List, [], ◌∷◌, length, get_or, Option, Some, None, IfSome, slice_get}
 use Rattle.std.specs.List.{All}
 use Rattle.std.proofs.lemmas.Bool.{cases_Bool}
 use Rattle.std.proofs.lemmas.Option.{get_or_from_slice_get, slice_get_within}
-use Rattle.cb_points_to.specs.Closed.{IsClosed}
 use Rattle.cb_points_to.specs.Inclusions.{Holds, Relation, System, callee_in, callee_of, slot_in, slot_of}
-use Rattle.cb_points_to.specs.Made.{AreNodes, IsCallee, IsInclusion, IsSlot, IsSystem}
-use Rattle.cb_points_to.specs.Says.{At, Enters, Had, Inside, MustHave, MustLink, Says, first_base, second_base}
+use Rattle.cb_points_to.specs.Made.{IsCallee, IsInclusion, IsSystem}
+use Rattle.cb_points_to.specs.Says.{At, Had, Inside, MustHave, MustLink, Says, first_base, second_base}
 use Rattle.cb_points_to.specs.declared.inclusion.Inclusion.{Inclusion}
 use Rattle.cb_points_to.specs.declared.inclusion.Inclusion.TheVariants.{Between, Call, Copy, Has, HasEach, Load, Store, Through}
 use Rattle.cb_points_to.specs.declared.tables.Callee.{Callee}
-use Rattle.cb_points_to.specs.declared.tables.Slot.{Slot}
 
 -- more is had and linked
 module _ (system : System) (Fact More : ℕ → ℕ → Type 0) (Edge Edges : ℕ → ℕ → Option ℕ → Type 0) (more : (node site : ℕ) → Fact node site → More node site)

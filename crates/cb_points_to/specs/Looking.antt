@@ -1,5 +1,5 @@
 -- What inclusions say of the sites that were looked at is had.
-use Rattle.std.specs.Prelude.{◌≡◌, ◌<◌, ◌⊎◌, ℕ, List, Option, None, Some, slice_get, length}
+use Rattle.std.specs.Prelude.{◌≡◌, ◌<◌, ◌⊎◌, ℕ, List, [], Option, None, Some, slice_get, length}
 use Rattle.std.specs.List.{Contains}
 use Rattle.cb_points_to.specs.Closed.{has}
 use Rattle.cb_points_to.specs.Inclusions.{System}
@@ -90,3 +90,27 @@ pub record IsSolving (system : System) (looked : List (List ℕ)) (now : Web) : 
 pub record StartsOne (system : System) (looked : List (List ℕ)) (old new : Web) (inclusion : Inclusion) : Type 0 where
   pub keeps : Keeps system looked old new
   pub says : first_base inclusion ≡ None → IsSaidAt system new inclusion 0 0
+
+-- what all inclusions without a base say
+pub record Starts (system : System) (looked : List (List ℕ)) (old new : Web) : Type 0 where
+  pub keeps : Keeps system looked old new
+  pub said : IsSaid system looked new
+
+-- nothing waits any more
+pub record Ends (system : System) (looked : List (List ℕ)) (now : Web) : Type 0 where
+  pub solving : IsSolving system looked now
+  pub waiting : now.waiting.items ≡ []
+
+-- one place more, at one node
+pub record AddsWatch (old new : List (List ℕ)) (base : Option ℕ) (place : ℕ) : Type 0 where
+  pub nodes : length new ≡ length old
+  pub kept : (node i : ℕ) → InRow old node i → InRow new node i
+  pub added : (node : ℕ) → base ≡ Some node → InRow new node place
+  pub only : (node i : ℕ) → InRow new node i → InRow old node i ⊎ (i ≡ place)
+
+-- the places below one
+pub record WatchesTo (system : System) (watching : List (List ℕ)) (count : ℕ) : Type 0 where
+  pub nodes : length watching ≡ system.nodes
+  pub there : (node i : ℕ) → InRow watching node i → i < count
+  pub first : (i node : ℕ) → (inclusion : Inclusion) → i < count → slice_get system.inclusions i ≡ Some inclusion → first_base inclusion ≡ Some node → InRow watching node i
+  pub second : (i node : ℕ) → (inclusion : Inclusion) → i < count → slice_get system.inclusions i ≡ Some inclusion → second_base inclusion ≡ Some node → InRow watching node i

@@ -1,5 +1,5 @@
 -- Constraints that are sound: what they name is there, and tables name sites in ascending order.
-use Rattle.std.specs.Prelude.{◌≡◌, ◌<◌, ℕ, Bool, false, List, [], ◌∷◌, Option, Some, None, IfSome, length, map, replicate}
+use Rattle.std.specs.Prelude.{◌≡◌, ◌<◌, ℕ, false, List, [], ◌∷◌, None, IfSome, length, map, replicate}
 use Rattle.std.specs.List.{All}
 use Rattle.cb_points_to.specs.Inclusions.{System}
 use Rattle.cb_points_to.specs.declared.inclusion.Inclusion.{Inclusion}

@@ -1,15 +1,14 @@
 -- A relation that grows, and what is still to be looked at.
-use Rattle.std.specs.Prelude.{◌≡◌, ◌+◌, ◌<◌, ◌++◌, ◌∷◌, ◌⊎◌, ℕ, Bool, true, false, List, [], Option, None, Some, slice_get, length}
+use Rattle.std.specs.Prelude.{◌≡◌, ◌+◌, ◌<◌, ◌++◌, ◌∷◌, ◌⊎◌, ℕ, true, false, List, [], Option, None, Some, slice_get, length}
 use Rattle.std.specs.List.{All, Contains}
 use Rattle.cb_points_to.specs.Closed.{has}
 use Rattle.cb_points_to.specs.Inclusions.{System}
-use Rattle.cb_points_to.specs.Lists.{InRow, pushed}
+use Rattle.cb_points_to.specs.Lists.{InRow}
 use Rattle.cb_points_to.specs.Made.{IsSystem}
 use Rattle.cb_points_to.specs.Rows.{unset, with_site}
-use Rattle.cb_points_to.specs.Says.{At, Enters, Had, MustHave, MustLink, Says, first_base, lets, second_base}
+use Rattle.cb_points_to.specs.Says.{Enters, Had, MustHave, MustLink, Says, lets}
 use Rattle.cb_points_to.specs.declared.inclusion.Inclusion.{Inclusion}
 use Rattle.cb_points_to.specs.declared.member.Member.{Member}
-use Rattle.cb_points_to.specs.declared.member.Edge.{Edge}
 use Rattle.cb_points_to.specs.declared.tables.Callee.{Callee}
 use Rattle.cb_points_to.specs.declared.web.Web.{Web}
 

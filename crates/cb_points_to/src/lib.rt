@@ -9,10 +9,13 @@ mod lists;
 mod look;
 mod member;
 mod pts;
+mod solver;
 mod tables;
+mod watch;
 mod web;
 
 pub use constraints::Constraints;
 pub use inclusion::Inclusion;
 pub use pts::Pts;
+pub use solver::solve;
 pub use tables::{Callee, Callees, Slot, Slots};

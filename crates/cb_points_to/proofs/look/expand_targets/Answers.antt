@@ -1,4 +1,4 @@
-use Rattle.std.proofs.Common.{◌∙◌, ◌<◌, sym, subst, arith, get_or, below_more}
+use Rattle.std.proofs.Common.{◌∙◌, sym, subst, arith, get_or, below_more}
 use Rattle.std.specs.List.{Contains}
 use Rattle.cb_points_to.specs.Looking.{IsSaidAt}
 use Rattle.cb_points_to.proofs.Growing.{keeps_on}

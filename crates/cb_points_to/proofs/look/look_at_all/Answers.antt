@@ -1,4 +1,4 @@
-use Rattle.std.proofs.Common.{◌≡◌, ◌∙◌, ◌<◌, sym, subst, arith, ℕ, Some, get_or, slice_get, below_more}
+use Rattle.std.proofs.Common.{◌≡◌, ◌∙◌, sym, subst, arith, ℕ, Some, get_or, slice_get, below_more}
 use Rattle.std.specs.List.{Contains}
 use Rattle.cb_points_to.specs.Lists.{InRow}
 use Rattle.cb_points_to.specs.Looking.{IsSaidNew}
@@ -27,9 +27,9 @@ loop-place-preserved c =
 pub returns : goal.returns
 returns c =
     let said = λ (i : ℕ) (inclusion : Inclusion) (is : slice_get c.args.constraints.now.inclusions i ≡ Some inclusion) (there : InRow c.args.watching.now c.args.member.node i).
-        from_all (λ p. (inclusion : Inclusion) → slice_get c.args.constraints.now.inclusions p ≡ Some inclusion → IsSaidNew c.args.constraints.now c.args.looked.now c.loop-place.web inclusion c.args.member.node c.args.member.site)
-        c.as_slice-place-items.result.now c.loop-place.place-index 0 c.loop-place.invariant.1 (omega arith) i
-        (subst (λ all. Contains all i) (sym (c.as_slice-place-items.ensures ∙ c.row.ensures)) there) inclusion is in
+    from_all (λ p. (inclusion : Inclusion) → slice_get c.args.constraints.now.inclusions p ≡ Some inclusion → IsSaidNew c.args.constraints.now c.args.looked.now c.loop-place.web inclusion c.args.member.node c.args.member.site)
+    c.as_slice-place-items.result.now c.loop-place.place-index 0 c.loop-place.invariant.1 (omega arith) i
+    (subst (λ all. Contains all i) (sym (c.as_slice-place-items.ensures ∙ c.row.ensures)) there) inclusion is in
     record {
       keeps = c.loop-place.invariant.0;
       says = λ i inclusion is. record {

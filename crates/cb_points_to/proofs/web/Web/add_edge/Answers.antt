@@ -1,10 +1,8 @@
-use Rattle.std.proofs.Common.{◌≡◌, ◌∙◌, ◌<◌, sym, ap, subst, arith, true, length, get_or, below_more}
+use Rattle.std.proofs.Common.{◌≡◌, ◌∙◌, sym, subst, arith, true, get_or, below_more}
 use Rattle.std.proofs.lemmas.Result.{on_ok_weaker}
 use Rattle.std.specs.List.{Contains}
 use Rattle.cb_points_to.specs.Closed.{has}
-use Rattle.cb_points_to.specs.Lists.{InRow}
-use Rattle.cb_points_to.specs.Says.{Had, MustHave, lets}
-use Rattle.cb_points_to.specs.Webs.{Follows}
+use Rattle.cb_points_to.specs.Says.{Had, lets}
 use Rattle.cb_points_to.proofs.Growing.{keeps_on, links_more}
 use Rattle.cb_points_to.proofs.Marked.{from_all, in_row_item}
 use Rattle.cb_points_to.proofs.web.Web.add_edge.Goals as goal

@@ -1,4 +1,4 @@
-use Rattle.std.proofs.Common.{◌≡◌, ◌∙◌, ◌<◌, sym, ap, subst, arith, true, List, [], None, length, get_or, below_more}
+use Rattle.std.proofs.Common.{◌≡◌, ◌∙◌, sym, ap, subst, arith, true, List, [], None, length, get_or, below_more}
 use Rattle.std.proofs.lemmas.Option.{get_or_from_slice_get}
 use Rattle.cb_points_to.specs.Closed.{has}
 use Rattle.cb_points_to.specs.Lists.{InRow}
