@@ -1,5 +1,5 @@
 -- What a binary search finds in a table whose keys ascend.
-use Rattle.std.proofs.Common.{◌≡◌, ◌∙◌, sym, ap, inl, inr, arith, zero, suc, ℕ, ◌<◌, ◌≤◌, cond, eqb, List, [], ◌∷◌, length, map, get_or, Option, Some, None, Result, Ok, Err, MatchResult}
+use Rattle.std.proofs.Common.{◌≡◌, ◌∙◌, sym, ap, subst, inl, inr, arith, zero, suc, ℕ, ◌+◌, ◌-◌, ◌<◌, ◌≤◌, cond, eqb, List, [], ◌∷◌, length, map, get_or, Option, Some, None, Result, Ok, Err, MatchResult}
 use Rattle.std.specs.List.Sorted.{IsSearchInRange, IsBinarySearchResult, IsNonDecreasingBy}
 use Rattle.std.specs.Ordering.{nat_cmp, ordering_index}
 use Rattle.std.proofs.lemmas.Bool.{cases_lt, eq-eqb, ne_eqb}
@@ -24,6 +24,31 @@ module _ {X : Type 0} (key : X → ℕ) where
   rise (x ∷ xs) zero (suc j) d ascend le within = omega (arith, above_all (key x) xs j d ascend (omega arith))
   rise (x ∷ xs) (suc i) zero d ascend le within = absurd (omega arith)
   rise (x ∷ xs) (suc i) (suc j) d ascend le within = rise xs i j d (ascend_rest (key x) xs ascend) (omega arith) (omega arith)
+
+  -- each is above the one before it, and that is all
+  pub above_before : (xs : List X) (k : ℕ) (d : X) → Ascend (map key xs) → suc k < length xs → key (get_or xs k d) < key (get_or xs (suc k) d)
+  above_before [] k d ascend within = absurd (omega arith)
+  above_before (x ∷ xs) zero d ascend within = above_all (key x) xs 0 d ascend (omega arith)
+  above_before (x ∷ xs) (suc k) d ascend within = above_before xs k d (ascend_rest (key x) xs ascend) (omega arith)
+
+  all_above : (x : X) (xs : List X) → ((k : ℕ) (d : X) → k < length xs → key (get_or (x ∷ xs) k d) < key (get_or xs k d)) → AreAbove (key x) (map key xs)
+  all_above x [] above = tt
+  all_above x (y ∷ xs) above = (above 0 x (omega arith), all_above y xs (λ k d within. above (suc k) d (omega arith)))
+
+  pub ascend_by : (xs : List X) → ((k : ℕ) (d : X) → k < length xs - 1 → key (get_or xs k d) < key (get_or xs (suc k) d)) → Ascend (map key xs)
+  ascend_by [] above = tt
+  ascend_by (x ∷ xs) above = all_above x xs (λ k d within. above k d (omega arith))
+
+  pub not_above : (xs : List X) (at : ℕ) (d : X) → 1 ≤ at → at < length xs → key (get_or xs at d) ≤ key (get_or xs (at - 1) d) → Ascend (map key xs) → ⊥
+  not_above xs at d some within low ascend =
+      let e : suc (at - 1) ≡ at = omega arith in
+      let above : key (get_or xs (at - 1) d) < key (get_or xs at d) = subst (λ n. key (get_or xs (at - 1) d) < key (get_or xs n d)) e (above_before xs (at - 1) d ascend (omega arith)) in
+      omega arith
+
+  pub ascend_all : (xs : List X) (at : ℕ) → ((k : ℕ) (d : X) → k < at - 1 → key (get_or xs k d) < key (get_or xs (k + 1) d)) → length xs ≤ at → Ascend (map key xs)
+  ascend_all xs at above past = ascend_by xs (λ k d low.
+      let e : k + 1 ≡ suc k = omega arith in
+      subst (λ n. key (get_or xs k d) < key (get_or xs n d)) e (above k d (omega arith)))
 
   orders_rise : (xs : List X) (site : ℕ) → Ascend (map key xs) → IsNonDecreasingBy (λ x. ordering_index (nat_cmp (key x) site)) xs
   orders_rise xs site ascend = λ i j d le within. higher (key (get_or xs i d)) (key (get_or xs j d)) (rise xs i j d ascend le within)

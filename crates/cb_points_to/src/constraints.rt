@@ -163,6 +163,27 @@ impl Constraints {
         self.inclusions.push(inclusion)
     }
 
+    /// How many sets of sites there are.
+    pub fn filters(&self) -> usize
+        ensures { result ≡ length self.now.filters }
+    {
+        self.filters.len()
+    }
+
+    /// How many tables of slots there are.
+    pub fn slot_tables(&self) -> usize
+        ensures { result ≡ length self.now.slots }
+    {
+        self.slots.len()
+    }
+
+    /// How many tables of callees there are.
+    pub fn call_tables(&self) -> usize
+        ensures { result ≡ length self.now.calls }
+    {
+        self.calls.len()
+    }
+
     /// How many inclusions there are.
     pub fn inclusion_count(&self) -> usize
         ensures { result ≡ length self.now.inclusions }

@@ -1,7 +1,8 @@
 //! Points-to analysis by inclusion (Andersen 1994): which sites each node may hold.
 //!
 //! Constraints are made without Java: nodes and sites are numbers, tables say which node stands for a field of a site's objects and what a call runs
-//! for a receiver of a site, and inclusions say what a relation of nodes to sites has to have. `solve` gives the least relation of which all of them
+//! for a receiver of a site, and inclusions say what a relation of nodes to sites has to have; `fits`, `fit_slots` and `fit_callees` say whether they
+//! name what is there. `solve` gives the least relation of which all of them
 //! hold: each inclusion holds of it, and it is within each relation of which they all hold.
 //!
 //! `specs/` says what an inclusion says of a relation (`Inclusions`), what closed and least is (`Closed`), and when constraints are sound (`Made`).
@@ -14,6 +15,7 @@
 mod bits;
 mod constraints;
 mod expand;
+mod fits;
 mod inclusion;
 mod lists;
 mod look;
