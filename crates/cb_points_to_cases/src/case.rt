@@ -27,11 +27,7 @@ pub(crate) fn read_case(alloc: Global, line: &str) -> Result<Option<Constraints>
 }
 
 /// Does what a word says, and tells whether it was understood.
-fn read_word(
-    alloc: Global,
-    constraints: &mut Constraints,
-    word: &str,
-) -> Result<bool, AllocError> {
+fn read_word(alloc: Global, constraints: &mut Constraints, word: &str) -> Result<bool, AllocError> {
     let Some((name, rest)) = word.split_once(':') else {
         return Ok(false);
     };
@@ -72,11 +68,7 @@ fn put_static(constraints: &mut Constraints, rest: &str) -> Option<()> {
 }
 
 /// Adds a table of slots, if it names what is there.
-fn put_slots(
-    alloc: Global,
-    constraints: &mut Constraints,
-    rest: &str,
-) -> Result<bool, AllocError> {
+fn put_slots(alloc: Global, constraints: &mut Constraints, rest: &str) -> Result<bool, AllocError> {
     let Some(slots) = read_slots(alloc, rest)? else {
         return Ok(false);
     };

@@ -62,9 +62,11 @@ fn read_call(alloc: Global, rest: &str) -> Result<Option<Inclusion>, AllocError>
     let Some((arguments, result)) = behind.split_once('/') else {
         return Ok(None);
     };
-    let (Some((receiver, calls)), Some(arguments), Some(result)) =
-        (two(head), numbers(alloc, arguments)?, maybe(result))
-    else {
+    let (Some((receiver, calls)), Some(arguments), Some(result)) = (
+        two(head),
+        numbers(alloc, arguments)?,
+        maybe(result),
+    ) else {
         return Ok(None);
     };
     Ok(Some(Inclusion::Call {
