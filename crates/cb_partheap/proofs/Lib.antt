@@ -8,6 +8,7 @@ mod Found
 mod Granted
 mod Inner
 pub mod Laws
+mod Leads
 mod MadeHeap
 mod Marked
 mod Missing
@@ -19,5 +20,12 @@ mod PlacedObjects
 mod PutCalls
 mod Reading
 mod Rooms
+mod Same
+mod Shaped
+mod Stays
+mod Sums
+mod Takes
 mod Tells
+mod Unmarked
+mod Weights
 mod Written

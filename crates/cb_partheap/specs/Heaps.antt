@@ -1,5 +1,5 @@
 -- What is seen of a heap in parts, and the store that it is.
-use Rattle.std.specs.Prelude.{pos, ◌+◌, ◌-◌, ◌==◌, ◌||◌, ℕ, Bool, true, false, List, Option, Some, None, length, nat_lt, option_map, slice_get, slice_index, slice_index_or, slice_set}
+use Rattle.std.specs.Prelude.{pos, ◌+◌, ◌-◌, ◌<◌, ◌==◌, ◌||◌, ℕ, Bool, true, false, List, Option, Some, None, length, nat_lt, option_map, slice_get, slice_index, slice_index_or, slice_set}
 use Rattle.std.specs.Int.{int_wrap, w64}
 use Rattle.cb_plain.specs.declared.shape.Shape.{Shape}
 use Rattle.cb_plain.specs.declared.shape.Shape.TheVariants as shapes
@@ -39,6 +39,11 @@ abbrev pub holds : Option Shape → ℕ → Bool
 holds None i = false
 holds (Some (shapes.Fields marks)) i = slice_index_or marks i false
 holds (Some (shapes.Elements mark)) i = mark
+
+-- objects of a shape may have this word
+abbrev pub HasWord : Shape → ℕ → Type 0
+HasWord (shapes.Fields marks) i = i < length marks
+HasWord (shapes.Elements mark) i = Unit {0}
 
 -- what it holds: a number in two's complement, or the place of an object or 0, which is read
 abbrev pub content_of : (ℕ → ℕ) → Bool → ℕ → Content

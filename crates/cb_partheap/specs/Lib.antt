@@ -3,6 +3,8 @@ pub mod Headers
 pub mod Heaps
 pub mod Laws
 pub mod Made
+pub mod MarkLaws
+pub mod Marks
 pub mod Spots
 pub mod Stacks
 pub mod Whole

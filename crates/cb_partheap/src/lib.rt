@@ -10,7 +10,8 @@
 //! on words ask only that a header stands at the place, so that they serve while the heap isn't whole.
 //!
 //! `specs/` says in this order: objects as words (`Words`); where they begin, and their places (`Spots`); headers at places (`Headers`); what is
-//! seen of a heap (`Heaps`), and what holds of it (`Whole`); what a new object adds (`Added`); heaps without objects (`Made`); and what places tell (`Laws`).
+//! seen of a heap (`Heaps`), and what holds of it (`Whole`); what a new object adds (`Added`); heaps without objects (`Made`); what places tell (`Laws`);
+//! what marks are, and when they are those of what is reached of a set of parts (`Marks`); and what that says of a collection (`MarkLaws`).
 //!
 //! No clause says that memory is to be had: that `PartHeap::make` and `MarkStack::make` don't always give up is shown by tests alone.
 #![tactic(auto)]
@@ -21,11 +22,13 @@ mod law;
 mod mark_stack;
 mod part_heap;
 mod room;
+mod shape;
 mod words;
 
-pub use law::{headers_tell, places_tell, two_objects};
+pub use law::{headers_tell, marks_take, places_tell, stay_unmarked, two_objects};
 pub use mark_stack::MarkStack;
 pub use part_heap::PartHeap;
+pub use shape::{holds, may_hold, shape_at};
 pub use words::{
-    holds_reference, mark_at, object_words, part_at, set_mark_at, set_word_at, word_at,
+    holds_reference, mark_at, object_words, part_at, place_at, set_mark_at, set_word_at, word_at,
 };

@@ -2,10 +2,11 @@
 ghost use Rattle.std.specs.Prelude.{◌≡◌, ◌+◌, ◌-◌, ◌*◌, ◌/◌, ◌%◌, ◌<◌, ◌^◌, length, slice_get, slice_set, IsTrue, Some};
 ghost use Rattle.cb_plain.specs.State.{words_of};
 ghost use Rattle.cb_heap.specs.Shaped.{has_size};
-ghost use Rattle.cb_blocks.specs.Parted.{with_words};
+ghost use Rattle.cb_blocks.specs.Parted.{IsParted, with_words};
+ghost use Rattle.cb_blocks.specs.Rows.{row};
 ghost use Rattle.cb_partheap.specs.Headers.{IsHeader, IsShaped, IsWord};
 ghost use Rattle.cb_partheap.specs.Heaps.{marks_at};
-ghost use Rattle.cb_partheap.specs.Spots.{Spot, words_by};
+ghost use Rattle.cb_partheap.specs.Spots.{Spot, place_of, words_by};
 ghost use Rattle.cb_partheap.specs.Words.{kind_at, mark_at as mark_in, site_at, size_at};
 
 use cb_blocks::Blocks;
@@ -91,4 +92,16 @@ pub fn set_mark_at(words: &mut Blocks, at: u64, mark: u64)
 {
     let site = word_at(words, at, 2) % SITES;
     set_word_at(words, at, 2, site + mark * SITES);
+}
+
+/// The place of an object whose first word stands so far in a part.
+pub fn place_at(words: &Blocks, part: u32, start: u64) -> u64
+    requires part { part < length words.now.words }
+    requires few { part < 2 ^ 12 }
+    requires inside { start < length (row words.now.words part) }
+    ensures place { result ≡ place_of words.now (record { part = part; start = start }) }
+    ensures sound { IsParted words.now }
+{
+    let _sound = words.blocks_free();
+    part as u64 * SPAN + words.index_of(part, start) + 1
 }

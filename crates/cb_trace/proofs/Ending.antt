@@ -11,7 +11,7 @@ use Rattle.cb_partheap.specs.Spots.{serial_by}
 use Rattle.cb_partheap.specs.Stacks.{Stacked}
 use Rattle.cb_partheap.specs.Whole.{IsHeap}
 use Rattle.cb_partheap.proofs.Laws.{alike_index, alike_objects, spot_alike}
-use Rattle.cb_trace.specs.Marks.{IsClosedSet, IsRemarked, IsUnmarked, MarksReached, words_marked}
+use Rattle.cb_partheap.specs.Marks.{IsClosedSet, IsRemarked, IsUnmarked, MarksReached, words_marked}
 use Rattle.cb_trace.specs.Marking.{AllLooked, Begins, Ends, Given, IsGiven, StandsAt}
 use Rattle.cb_trace.proofs.Exact.{reached_marked}
 use Rattle.cb_trace.proofs.Looking.{stays_looked}

@@ -18,10 +18,9 @@ use Rattle.cb_blocks.specs.Parted.{Parted}
 use Rattle.cb_partheap.specs.Heaps.{Heap, content_of, index_in, marks_at, may_refer, object_by, objects_in}
 use Rattle.cb_partheap.specs.Spots.{IsSpot, Spot, place_of, serial_by, spot_where, words_by}
 use Rattle.cb_partheap.specs.Words.{size_at}
-use Rattle.cb_partheap.proofs.Laws.{content_by, entry_at, length_objects, object_length, serial_found, spot_sound}
-use Rattle.cb_trace.specs.Marks.{IsMarked}
+use Rattle.cb_partheap.proofs.Laws.{content_by, entry_at, entry_read, length_objects, object_length, root_leads, serial_found, spot_sound}
+use Rattle.cb_partheap.specs.Marks.{IsMarked}
 use Rattle.cb_trace.specs.Marking.{AllLooked, Given, IsGiven, IsMarking, view_of}
-use Rattle.cb_trace.proofs.Leads.{entry_read, root_leads}
 
 -- an object that is kept stands somewhere, by its serial
 record Kept (heap : Heap) (serial : ℕ) (object : Object) : Type 0 where
@@ -102,8 +101,8 @@ module _ (given : Given) (memory : Parted) (looked : ℕ) (m : IsMarking given m
       let below : i < length (entries given.roots) = omega (arith, entry.1.1, ap length (entries_read (index_in given.heap) given.roots), length-map (entries given.roots) (serial_of (index_in given.heap))) in
       let to : ℕ = get_or (entries given.roots) i 0 in
       let is : slice_get (entries given.roots) i ≡ Some to = slice_get-get_or (entries given.roots) i 0 below in
-      let read : serial_of (index_in given.heap) to ≡ serial = sym (get_or_from_slice_get (entries (view_of given).roots) i (serial_of (index_in given.heap) to) serial (entry_read given i to is)) ∙ entry.1.2 in
-      elim (root_leads given i to m.given_is is) [
+      let read : serial_of (index_in given.heap) to ≡ serial = sym (get_or_from_slice_get (entries (view_of given).roots) i (serial_of (index_in given.heap) to) serial (entry_read given.heap given.roots i to is)) ∙ entry.1.2 in
+      elim (root_leads given.heap given.roots i to m.given_is.heap m.given_is.view is) [
         | inl none ↦ absurd (omega (arith, entry.0, sym read ∙ ap (serial_of (index_in given.heap)) none))
         | inr found ↦
             let leads = found.1 in

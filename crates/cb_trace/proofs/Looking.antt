@@ -1,24 +1,20 @@
 -- Looking up the references of roots, and those of one object.
-use Rattle.std.proofs.Common.{◌≡◌, ◌∙◌, ℕ, ◌+◌, ◌*◌, ◌%◌, ◌^◌, ◌<◌, ◌≤◌, Bool, true, IsTrue, Option, None, Some, is_some, List, [], ◌∷◌, length, get_or, slice_get, refl, sym, ap, arith, subst, inl, inr}
-use Rattle.std.proofs.lemmas.Bool.{cases_eq, cases_lt, eqb-true, false≢true}
+use Rattle.std.proofs.Common.{◌≡◌, ◌∙◌, ℕ, ◌+◌, ◌*◌, ◌%◌, ◌^◌, ◌<◌, ◌≤◌, Bool, true, Some, List, [], ◌∷◌, length, get_or, slice_get, refl, sym, ap, arith, subst, inl, inr}
+use Rattle.std.proofs.lemmas.Bool.{cases_eq}
 use Rattle.std.proofs.lemmas.List.Sums.{sum_by-cons}
-use Rattle.std.proofs.lemmas.Option.{get_or_from_slice_get, same_Some, slice_get_past}
+use Rattle.std.proofs.lemmas.Option.{get_or_from_slice_get, same_Some}
 use Rattle.cb_plain.specs.State.{Roots, words_of}
 use Rattle.cb_plain.specs.declared.shape.Shape.{Shape}
-use Rattle.cb_plain.specs.declared.shape.Shape.TheVariants as shapes
 use Rattle.cb_frames.specs.Entries.{entries}
-use Rattle.cb_heap.specs.Shaped.{has_size}
 use Rattle.cb_blocks.specs.Parted.{Parted}
 use Rattle.cb_partheap.specs.Headers.{IsHeader, IsWord}
-use Rattle.cb_partheap.specs.Heaps.{holds, marks_at, with_memory}
+use Rattle.cb_partheap.specs.Heaps.{HasWord, holds, marks_at, with_memory}
 use Rattle.cb_partheap.specs.Spots.{IsSpot, Spot, place_of, words_by}
 use Rattle.cb_partheap.specs.Stacks.{Stacked, pushed}
 use Rattle.cb_partheap.specs.Words.{kind_at, size_at}
-use Rattle.cb_partheap.proofs.Laws.{alike_spot, within}
-use Rattle.cb_trace.specs.Marking.{Begins, BehindTo, Given, HasWord, IsGiven, IsLooked, IsLookedUp, IsMarking, LookedAt, Looks, ObjectTo, RootsTo, StandsAt, StaysLooked, Waits, words_there}
-use Rattle.cb_trace.proofs.Leads.{MayLead, child_leads, root_leads}
+use Rattle.cb_partheap.proofs.Laws.{MayLead, alike_spot, child_leads, known_kind, part_room, root_leads, within, word_in, words_room}
+use Rattle.cb_trace.specs.Marking.{Begins, BehindTo, Given, IsGiven, IsLooked, IsLookedUp, IsMarking, LookedAt, Looks, ObjectTo, RootsTo, StandsAt, StaysLooked, Waits, words_there}
 use Rattle.cb_trace.proofs.Steps.{IsMore, begins, header_now, heap_now, looked_on, more_first, more_second, size_now, words_here}
-use Rattle.cb_trace.proofs.Weights.{part_room, words_room}
 
 -- ---- one reference
 
@@ -27,7 +23,7 @@ pub record Up (given : Given) (memory memory' : Parted) (grey' : Stacked) (set :
   pub stays : StaysLooked given memory memory'
   pub looked_is : IsLooked given memory' to
 
-pub up_next : {given : Given} {memory : Parted} {set : List Bool} {looked : ℕ} (memory' : Parted) (grey grey' : Stacked) (shape : List ℕ → List ℕ) (to : ℕ) → StandsAt given memory grey set (shape grey.places) looked → MayLead given to →
+pub up_next : {given : Given} {memory : Parted} {set : List Bool} {looked : ℕ} (memory' : Parted) (grey grey' : Stacked) (shape : List ℕ → List ℕ) (to : ℕ) → StandsAt given memory grey set (shape grey.places) looked → MayLead given.heap given.roots to →
     ((places : List ℕ) → IsMore (shape places) (shape (to ∷ places)) to (words_there given.heap.memory)) → (to ≡ 0 → (memory' ≡ memory) × (grey' ≡ grey)) →
     ((spot : Spot) → IsHeader memory to spot → IsLookedUp set memory memory' grey grey' to spot) → Up given memory memory' grey' set (shape grey'.places) looked to
 up_next {given} {memory} {set} {looked} memory' grey grey' shape to s may more null found =
@@ -54,8 +50,8 @@ roots_begin given memory grey roots set b =
       looked = λ k to low is. absurd (omega (arith, low));
     }
 
-pub root_may : (given : Given) (roots : Roots) (i to : ℕ) → IsGiven given → roots ≡ given.roots → slice_get (entries roots) i ≡ Some to → MayLead given to
-root_may given roots i to is same there = root_leads given i to is (subst (λ (r : Roots). slice_get (entries r) i ≡ Some to) same there)
+pub root_may : (given : Given) (roots : Roots) (i to : ℕ) → IsGiven given → roots ≡ given.roots → slice_get (entries roots) i ≡ Some to → MayLead given.heap given.roots to
+root_may given roots i to is same there = root_leads given.heap given.roots i to is.heap is.view (subst (λ (r : Roots). slice_get (entries r) i ≡ Some to) same there)
 
 pub roots_next : (given : Given) (memory memory' : Parted) (grey grey' : Stacked) (roots : Roots) (set : List Bool) (i to : ℕ) → roots ≡ given.roots → slice_get (entries roots) i ≡ Some to → (to ≡ 0 → (memory' ≡ memory) × (grey' ≡ grey)) →
     ((spot : Spot) → IsHeader memory to spot → IsLookedUp set memory memory' grey grey' to spot) → RootsTo given memory grey set i → RootsTo given memory' grey' set (i + 1)
@@ -72,21 +68,6 @@ roots_next given memory memory' grey grey' roots set i to same there null found 
     }
 
 -- ---- the words of an object
-
-kind_if : (size i : ℕ) (all : List Shape) (kind : ℕ) (shape : Option Shape) → slice_get all kind ≡ shape → IsTrue (has_size all kind size) → IsTrue (is_some shape)
-kind_if size i all kind None is sized = absurd (false≢true (rw is at sized))
-kind_if size i all kind (Some shape) is sized = refl
-
-known_kind : (all : List Shape) (kind size : ℕ) → IsTrue (has_size all kind size) → kind < length all
-known_kind all kind size sized =
-    elim (cases_lt kind (length all)) [
-      | inl below ↦ below
-      | inr past ↦ absurd (false≢true (kind_if size 0 all kind None (slice_get_past all kind past) sized))
-    ]
-
-word_in : (all : List Shape) (kind size i : ℕ) (shape : Shape) → IsTrue (has_size all kind size) → slice_get all kind ≡ Some shape → i < size → HasWord shape i
-word_in all kind size i (shapes.Fields marks) sized is below = omega (arith, below, eqb-true (length marks) size (rw is at sized))
-word_in all kind size i (shapes.Elements mark) sized is below = tt
 
 pub holds_told : (shape : Shape) (i : ℕ) (result value : Bool) → result ≡ holds (Some shape) i → result ≡ value → holds (Some shape) i ≡ value
 holds_told shape i result value read is = sym read ∙ is
@@ -144,11 +125,11 @@ module _ {given : Given} {memory : Parted} {grey : Stacked} {set : List Bool} {a
 
   pub child_may : (i to : ℕ) (shape : Shape) → 3 + i < words_there given.heap.memory at →
       ((spot : Spot) → IsSpot given.heap.memory spot → place_of given.heap.memory spot ≡ at → slice_get given.heap.shapes (kind_at (words_by given.heap.memory spot) spot.start) ≡ Some shape) → holds (Some shape) i ≡ true →
-      ((spot : Spot) → IsWord memory at (3 + i) spot → slice_get (words_by memory spot) (spot.start + (3 + i)) ≡ Some to) → MayLead given to
+      ((spot : Spot) → IsWord memory at (3 + i) spot → slice_get (words_by memory spot) (spot.start + (3 + i)) ≡ Some to) → MayLead given.heap given.roots to
   child_may i to shape below kinds told word =
       let w = s.is.waits at (inl refl) in
       let size = words_here given w.spot at s.is.given_is w.here w.place in
-      child_leads given w.spot i to s.is.given_is w.here (s.is.only w.spot w.here w.marked_is).1 (omega (arith, below, size)) (ap (λ found. holds found i) (kinds w.spot w.here w.place) ∙ told) (word_is i to below word w.spot w.here w.place)
+      child_leads given.heap given.roots w.spot i to s.is.given_is.heap w.here (s.is.only w.spot w.here w.marked_is).1 (omega (arith, below, size)) (ap (λ found. holds found i) (kinds w.spot w.here w.place) ∙ told) (word_is i to below word w.spot w.here w.place)
 
   -- it has the word that is looked at
   pub has_word : (i : ℕ) (shape : Shape) → 3 + i < words_there given.heap.memory at →
@@ -159,7 +140,7 @@ module _ {given : Given} {memory : Parted} {grey : Stacked} {set : List Bool} {a
       word_in given.heap.shapes (kind_at (words_by given.heap.memory w.spot) w.spot.start) (size_at (words_by given.heap.memory w.spot) w.spot.start) i shape (s.is.given_is.heap.placed w.spot w.here).shaped (kinds w.spot w.here w.place)
       (omega (arith, below, size))
 
-pub child_up : {given : Given} {memory : Parted} {set : List Bool} {at looked : ℕ} (memory' : Parted) (grey grey' : Stacked) (to : ℕ) → StandsAt given memory grey set (at ∷ grey.places) looked → MayLead given to →
+pub child_up : {given : Given} {memory : Parted} {set : List Bool} {at looked : ℕ} (memory' : Parted) (grey grey' : Stacked) (to : ℕ) → StandsAt given memory grey set (at ∷ grey.places) looked → MayLead given.heap given.roots to →
     (to ≡ 0 → (memory' ≡ memory) × (grey' ≡ grey)) → ((spot : Spot) → IsHeader memory to spot → IsLookedUp set memory memory' grey grey' to spot) → Up given memory memory' grey' set (at ∷ grey'.places) looked to
 child_up {given} {memory} {set} {at} {looked} memory' grey grey' to s may null found = up_next memory' grey grey' (λ places. at ∷ places) to s may (λ places. more_second places at to (words_there given.heap.memory)) null found
 

@@ -12,12 +12,9 @@ use Rattle.cb_partheap.specs.Spots.{IsSpot, Spot, place_of, words_by}
 use Rattle.cb_partheap.specs.Stacks.{Stacked}
 use Rattle.cb_partheap.specs.Whole.{IsHeap}
 use Rattle.cb_partheap.specs.Words.{mark_at, site_at, size_at}
-use Rattle.cb_partheap.proofs.Laws.{alike_place, alike_spot, mark_elsewhere, mark_here, marked_alike, marked_contents, place_apart, place_found, spot_cases, with_third, within}
-use Rattle.cb_trace.specs.Marks.{IsMarked}
+use Rattle.cb_partheap.proofs.Laws.{IsNewMark, Leads, MayLead, alike_itself, alike_place, alike_spot, alike_then, contents_then, mark_elsewhere, mark_here, marked_alike, marked_contents, marked_more, none_marked, place_apart, place_found, same_heap, same_itself, same_then, spot_cases, with_third, within, words_room}
+use Rattle.cb_partheap.specs.Marks.{IsMarked}
 use Rattle.cb_trace.specs.Marking.{Given, MayBeLookedUp, IsAmong, IsDone, IsFirstFound, IsGiven, IsLooked, IsLookedUp, IsMarking, IsReachedAt, StaysLooked, Waits, words_if, words_there}
-use Rattle.cb_trace.proofs.Leads.{Leads, MayLead}
-use Rattle.cb_trace.proofs.Same.{alike_itself, alike_then, contents_then, same_heap, same_itself, same_then}
-use Rattle.cb_trace.proofs.Weights.{IsNewMark, marked_more, none_marked, words_room}
 
 -- ---- what holds anyway
 
@@ -98,7 +95,7 @@ new_word memory spot = site_at (words_by memory spot) spot.start + 1 * 2 ^ 14
 
 pub record Next (given : Given) (memory : Parted) (waiting : List ℕ) (looked to : ℕ) (spot : Spot) : Type 0 where
   pub m : IsMarking given memory waiting looked
-  pub leads : Leads given to spot
+  pub leads : Leads given.heap given.roots to spot
   pub unmarked : mark_at (words_by memory spot) spot.start ≡ 0
 
 abbrev marked_memory : Parted → Spot → Parted
@@ -229,7 +226,7 @@ first_on {given} {memory} {looked} memory' grey grey' shape to spot n more first
     } in
     subst (λ p. IsOn given memory p grey grey' (shape grey'.places) looked to) (sym first.memory) (subst (λ (g : Stacked). IsOn given memory (marked_memory memory spot) grey g (shape g.places) looked to) (sym first.waits) here)
 
-found_on : {given : Given} {memory : Parted} {looked : ℕ} (memory' : Parted) (grey grey' : Stacked) (shape : List ℕ → List ℕ) (to : ℕ) (spot : Spot) → IsMarking given memory (shape grey.places) looked → Leads given to spot →
+found_on : {given : Given} {memory : Parted} {looked : ℕ} (memory' : Parted) (grey grey' : Stacked) (shape : List ℕ → List ℕ) (to : ℕ) (spot : Spot) → IsMarking given memory (shape grey.places) looked → Leads given.heap given.roots to spot →
     IsMore (shape grey.places) (shape (to ∷ grey.places)) to (words_there given.heap.memory) → IsLookedUp given.set memory memory' grey grey' to spot → IsOn given memory memory' grey grey' (shape grey'.places) looked to
 found_on {given} {memory} {looked} memory' grey grey' shape to spot m leads more up =
     elim up [
@@ -242,7 +239,7 @@ found_on {given} {memory} {looked} memory' grey grey' shape to spot m leads more
     ]
 
 -- what is asked where a reference is looked up, and what that leaves
-pub looked_on : {given : Given} {memory : Parted} {looked : ℕ} (memory' : Parted) (grey grey' : Stacked) (shape : List ℕ → List ℕ) (to : ℕ) → IsMarking given memory (shape grey.places) looked → MayLead given to →
+pub looked_on : {given : Given} {memory : Parted} {looked : ℕ} (memory' : Parted) (grey grey' : Stacked) (shape : List ℕ → List ℕ) (to : ℕ) → IsMarking given memory (shape grey.places) looked → MayLead given.heap given.roots to →
     ((places : List ℕ) → IsMore (shape places) (shape (to ∷ places)) to (words_there given.heap.memory)) → (to ≡ 0 → (memory' ≡ memory) × (grey' ≡ grey)) →
     ((spot : Spot) → IsHeader memory to spot → IsLookedUp given.set memory memory' grey grey' to spot) → IsOn given memory memory' grey grey' (shape grey'.places) looked to
 looked_on {given} {memory} {looked} memory' grey grey' shape to m may more null found =
@@ -251,7 +248,7 @@ looked_on {given} {memory} {looked} memory' grey grey' shape to m may more null 
       | inr some ↦ found_on memory' grey grey' shape to some.0 m some.1 (more grey.places) (found some.0 (header_now m some.0 to some.1.here some.1.place))
     ]
 
-pub asks : {given : Given} {memory : Parted} {looked : ℕ} (grey : Stacked) (waiting : List ℕ) (to : ℕ) → IsMarking given memory waiting looked → length grey.places ≤ length waiting → grey.room ≡ given.heap.grey.room → MayLead given to → 0 < to →
+pub asks : {given : Given} {memory : Parted} {looked : ℕ} (grey : Stacked) (waiting : List ℕ) (to : ℕ) → IsMarking given memory waiting looked → length grey.places ≤ length waiting → grey.room ≡ given.heap.grey.room → MayLead given.heap given.roots to → 0 < to →
     MayBeLookedUp memory grey to
 asks {given} {memory} {looked} grey waiting to m few room may some =
     elim may [

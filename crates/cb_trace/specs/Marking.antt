@@ -9,7 +9,6 @@ use Rattle.cb_heap.specs.Reading.{View, seen}
 use Rattle.cb_dag.specs.Marks.{marked}
 use Rattle.cb_blocks.specs.Parted.{Parted, with_words}
 use Rattle.cb_plain.specs.declared.shape.Shape.{Shape}
-use Rattle.cb_plain.specs.declared.shape.Shape.TheVariants as shapes
 use Rattle.cb_partheap.specs.Headers.{IsHeader}
 use Rattle.cb_partheap.specs.Heaps.{Heap, index_in, marks_at, objects_in, with_memory}
 use Rattle.cb_partheap.specs.Spots.{IsSpot, Spot, place_of, serial_by, spot_where, words_by}
@@ -17,7 +16,7 @@ use Rattle.cb_partheap.specs.Stacks.{Stacked, pushed}
 use Rattle.cb_partheap.specs.Whole.{IsHeap}
 use Rattle.cb_partheap.specs.Words.{mark_at, site_at, size_at}
 use Rattle.cb_partheap.proofs.Laws.{HasContents, IsAlike}
-use Rattle.cb_trace.specs.Marks.{IsClosedSet, IsMarked, IsSameButMarks, IsUnmarked, words_marked}
+use Rattle.cb_partheap.specs.Marks.{IsClosedSet, IsMarked, IsSameButMarks, IsUnmarked, words_marked}
 
 -- an object of the set that wasn't marked is, and waits in front of all others
 pub record IsFirstFound (set : List Bool) (old new : Parted) (grey grey' : Stacked) (to : ℕ) (spot : Spot) : Type 0 where
@@ -40,11 +39,6 @@ pub record MayBeLookedUp (memory : Parted) (grey : Stacked) (to : ℕ) : Type 0 
   pub spot : Spot
   pub header : IsHeader memory to spot
   pub room : mark_at (words_by memory spot) spot.start ≡ 0 → length grey.places < grey.room
-
--- objects of a shape may have this word
-abbrev pub HasWord : Shape → ℕ → Type 0
-HasWord (shapes.Fields marks) i = i < length marks
-HasWord (shapes.Elements mark) i = Unit {0}
 
 -- what a marking is given: the heap before, the roots, and the set
 pub record Given : Type 0 where

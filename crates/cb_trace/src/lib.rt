@@ -7,14 +7,11 @@
 //! No clause sees a word that is read. That no part outside the set is looked into is to be read in `mark_reference`, which asks the set before it
 //! looks at an object.
 //!
-//! `specs/` says what marks are and when they are those of what is reached (`Marks`), what that says of a collection (`Laws`), and what holds while objects
-//! wait (`Marking`).
+//! What marks are, and when they are those of what is reached, is said in `cb_partheap` (`Marks`), with what that says of a collection (`MarkLaws`).
+//! `specs/Marking.antt` says what holds while objects wait.
 #![tactic(auto)]
 
-mod law;
 mod marking;
 mod reference;
-mod shape;
 
-pub use law::{marks_take, stay_unmarked};
 pub use marking::mark;

@@ -6,14 +6,13 @@ ghost use Rattle.cb_heap.specs.Reading.{seen};
 ghost use Rattle.cb_dag.specs.Marks.{marked};
 ghost use Rattle.cb_blocks.specs.Rows.{row};
 ghost use Rattle.cb_partheap.specs.Heaps.{index_in, objects_in, settings_in};
-ghost use Rattle.cb_trace.specs.Marks.{IsClosedSet, IsRemarked, IsUnmarked, MarksReached, words_marked};
+ghost use Rattle.cb_partheap.specs.Marks.{IsClosedSet, IsRemarked, IsUnmarked, MarksReached, words_marked};
 ghost use Rattle.cb_trace.specs.Marking.{AllLooked, Begins, Ends, Given, Looks, LookedAt, StandsAt};
 
 use crate::reference::mark_reference;
-use crate::shape::{holds, may_hold, shape_at};
 use cb_blocks::Blocks;
 use cb_frames::Roots;
-use cb_partheap::{MarkStack, PartHeap, object_words, word_at};
+use cb_partheap::{MarkStack, PartHeap, holds, may_hold, object_words, shape_at, word_at};
 use cb_plain::{Set, Shapes, Steps};
 use std::sync::ledger::Ledger;
 

@@ -1,6 +1,6 @@
 use Rattle.std.proofs.Common.{refl}
 use Rattle.cb_trace.proofs.Ending.{all_marked, begins_with}
-use Rattle.cb_trace.proofs.Same.{outside_same}
+use Rattle.cb_partheap.proofs.Laws.{outside_same}
 use Rattle.cb_trace.proofs.marking.mark.Goals as goal
 
 pub mark_roots-requires : goal.mark_roots-requires

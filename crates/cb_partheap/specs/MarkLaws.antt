@@ -19,7 +19,7 @@ use Rattle.cb_partheap.specs.Made.{IsMade}
 use Rattle.cb_partheap.specs.Spots.{IsSpot, Spot, words_by}
 use Rattle.cb_partheap.specs.Whole.{IsHeap}
 use Rattle.cb_partheap.specs.Words.{blank_words, size_at}
-use Rattle.cb_trace.specs.Marks.{IsClosedSet, IsUnmarked, MarksReached, staying, words_marked}
+use Rattle.cb_partheap.specs.Marks.{IsClosedSet, IsUnmarked, MarksReached, staying, words_marked}
 
 -- the sites whose objects lie in the parts of a set
 abbrev pub sites_of : Heap → List Bool → ℕ → Bool

@@ -1,5 +1,5 @@
 -- Sums over numbers from one on, and over the objects that are kept in parts.
-use Rattle.std.proofs.Common.{◌≡◌, ◌≢◌, ◌∙◌, ℕ, zero, suc, ◌+◌, ◌*◌, ◌<◌, ◌≤◌, ◌==◌, Bool, true, false, List, [], ◌∷◌, Option, Some, None, cond, map, slice_get, refl, sym, ap, arith, subst, inl, inr}
+use Rattle.std.proofs.Common.{◌≡◌, ◌∙◌, ℕ, zero, suc, ◌+◌, ◌*◌, ◌<◌, ◌≤◌, ◌==◌, Bool, true, false, List, [], ◌∷◌, Option, Some, None, cond, slice_get, refl, ap, arith, inl, inr}
 use Rattle.std.specs.List.{range_with_len, sum_by}
 use Rattle.std.proofs.lemmas.Bool.{cases_eq, eq-eqb}
 use Rattle.std.proofs.lemmas.List.Sums.{sum_by-cons}
@@ -7,13 +7,9 @@ use Rattle.cb_plain.specs.State.{Object}
 use Rattle.cb_dag.specs.Marks.{marked}
 use Rattle.cb_heap.specs.Kept.{entry_words}
 use Rattle.cb_heap.specs.Occupancy.{used}
+use Rattle.cb_partheap.proofs.Rooms.{range_same}
 
--- terms that are the same, that are none, and that are no more
-pub range_same : (f g : ℕ → ℕ) (a n : ℕ) → ((p : ℕ) → a ≤ p → p < a + n → g p ≡ f p) → sum_by g (range_with_len a n) ≡ sum_by f (range_with_len a n)
-range_same f g a zero each = refl
-range_same f g a (suc n) each =
-    omega (arith, sum_by-cons f a (range_with_len (a + 1) n), sum_by-cons g a (range_with_len (a + 1) n), each a (omega arith) (omega arith), range_same f g (a + 1) n (λ p low high. each p (omega (arith, low)) (omega (arith, high))))
-
+-- terms that are none, and that are no more
 pub range_none : (f : ℕ → ℕ) (a n : ℕ) → ((p : ℕ) → f p ≡ 0) → sum_by f (range_with_len a n) ≡ 0
 range_none f a zero each = refl
 range_none f a (suc n) each = omega (arith, sum_by-cons f a (range_with_len (a + 1) n), each a, range_none f (a + 1) n each)
@@ -21,19 +17,6 @@ range_none f a (suc n) each = omega (arith, sum_by-cons f a (range_with_len (a +
 pub range_times : (f g : ℕ → ℕ) (a n m : ℕ) → ((p : ℕ) → f p ≤ m * g p) → sum_by f (range_with_len a n) ≤ m * sum_by g (range_with_len a n)
 range_times f g a zero m each = omega arith
 range_times f g a (suc n) m each = omega (arith, sum_by-cons f a (range_with_len (a + 1) n), ap (λ k. m * k) (sum_by-cons g a (range_with_len (a + 1) n)), each a, range_times f g (a + 1) n m each)
-
--- one that is by so much more
-pub range_more : (f g : ℕ → ℕ) (a n q d : ℕ) → a ≤ q → q < a + n → ((p : ℕ) → p ≢ q → g p ≡ f p) → g q ≡ f q + d → sum_by g (range_with_len a n) ≡ sum_by f (range_with_len a n) + d
-range_more f g a zero q d low high each more = absurd (omega (arith, low, high))
-range_more f g a (suc n) q d low high each more =
-    let first = sum_by-cons f a (range_with_len (a + 1) n) in
-    let second = sum_by-cons g a (range_with_len (a + 1) n) in
-    elim (cases_eq q a) [
-      | inl same ↦
-          let here : g a ≡ f a + d = subst (λ p. g p ≡ f p + d) same more in
-          omega (arith, first, second, here, range_same f g (a + 1) n (λ p low' high'. each p (λ equal. absurd (omega (arith, equal, same, low')))))
-      | inr differs ↦ omega (arith, first, second, each a (λ equal. differs (sym equal)), range_more f g (a + 1) n q d (omega (arith, low, differs)) (omega (arith, high)) each more)
-    ]
 
 -- one of two terms each, and a term of them
 range_both : (f g : ℕ → ℕ) (a n : ℕ) → sum_by (λ p. f p + g p) (range_with_len a n) ≡ sum_by f (range_with_len a n) + sum_by g (range_with_len a n)
@@ -85,10 +68,6 @@ spread part_of count (entry ∷ entries) below =
       entry_spread part_of count entry (λ object is. below 0 object (ap Some is)),
       spread part_of count entries (λ k object is. below (suc k) object is),
     )
-
-pub sum_by_map : {X Y : Type 0} (g : Y → ℕ) (f : X → Y) (xs : List X) → sum_by g (map f xs) ≡ sum_by (λ x. g (f x)) xs
-sum_by_map {X} {Y} g f [] = refl
-sum_by_map {X} {Y} g f (x ∷ xs) = sum_by-cons g (f x) (map f xs) ∙ ap (λ n. g (f x) + n) (sum_by_map g f xs) ∙ sym (sum_by-cons (λ x. g (f x)) x xs)
 
 -- and those of objects in the parts of a set among those of these parts
 abbrev pub words_there : (ℕ → ℕ) → List Bool → Option Object → ℕ

@@ -1,20 +1,16 @@
 // The shapes of objects.
 ghost use Rattle.std.specs.Prelude.{◌≡◌, ◌<◌, ℕ, false, length, slice_get, Some};
 ghost use Rattle.cb_partheap.specs.Headers.{IsHeader};
-ghost use Rattle.cb_partheap.specs.Heaps.{holds as holds_by};
+ghost use Rattle.cb_partheap.specs.Heaps.{HasWord, holds as holds_by};
 ghost use Rattle.cb_partheap.specs.Spots.{Spot, words_by};
 ghost use Rattle.cb_partheap.specs.Words.{kind_at};
-ghost use Rattle.cb_trace.specs.Marking.{HasWord};
 
+use crate::words::{HALF, word_at};
 use cb_blocks::Blocks;
-use cb_partheap::word_at;
 use cb_plain::{Shape, Shapes};
 
-// A kind stands below this in the first word of a header.
-const HALF: u64 = 1 << 32;
-
 /// The shape of an object's kind.
-pub(crate) fn shape_at<'a>(words: &Blocks, shapes: &'a Shapes, at: u64) -> &'a Shape
+pub fn shape_at<'a>(words: &Blocks, shapes: &'a Shapes, at: u64) -> &'a Shape
     requires { (spot : Spot) × IsHeader words.now at spot × (kind_at (words_by words.now spot) spot.start < length shapes.now) }
     ensures { (spot : Spot) → IsHeader words.now at spot → slice_get shapes.now (kind_at (words_by words.now spot) spot.start) ≡ Some result.now }
 {
@@ -23,7 +19,7 @@ pub(crate) fn shape_at<'a>(words: &Blocks, shapes: &'a Shapes, at: u64) -> &'a S
 }
 
 /// Whether any word of such an object holds a reference. An array of numbers has none.
-pub(crate) fn may_hold(shape: &Shape) -> bool
+pub fn may_hold(shape: &Shape) -> bool
     ensures { result ≡ false → (i : ℕ) → holds_by (Some shape.now) i ≡ false }
 {
     match shape {
@@ -33,7 +29,7 @@ pub(crate) fn may_hold(shape: &Shape) -> bool
 }
 
 /// Whether a word of such an object holds a reference.
-pub(crate) fn holds(shape: &Shape, i: u32) -> bool
+pub fn holds(shape: &Shape, i: u32) -> bool
     requires { HasWord shape.now i }
     ensures { result ≡ holds_by (Some shape.now) i }
 {

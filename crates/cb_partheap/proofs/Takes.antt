@@ -14,11 +14,12 @@ use Rattle.cb_partheap.specs.Heaps.{Heap, object_by, objects_in, part_of, settin
 use Rattle.cb_partheap.specs.Spots.{IsSpot, Spot, serial_by, words_by}
 use Rattle.cb_partheap.specs.Whole.{IsHeap}
 use Rattle.cb_partheap.specs.Words.{mark_at, site_at}
-use Rattle.cb_partheap.proofs.Laws.{entry_at, length_objects, slice_get-tabulated, spot_sound}
-use Rattle.cb_trace.specs.Laws.{MarksTake, sites_of}
-use Rattle.cb_trace.specs.Marks.{IsClosedSet, MarksReached, stays_if, staying}
-use Rattle.cb_trace.proofs.Stays.{marked_words}
-use Rattle.cb_trace.proofs.Weights.{found_of}
+use Rattle.cb_partheap.proofs.Found.{spot_sound}
+use Rattle.cb_partheap.proofs.Reading.{entry_at, length_objects, slice_get-tabulated}
+use Rattle.cb_partheap.specs.MarkLaws.{MarksTake, sites_of}
+use Rattle.cb_partheap.specs.Marks.{IsClosedSet, MarksReached, stays_if, staying}
+use Rattle.cb_partheap.proofs.Stays.{marked_words}
+use Rattle.cb_partheap.proofs.Weights.{found_of}
 
 pub predecessors : (heap : Heap) (set : List Bool) → IsClosedSet heap set → TakesPredecessors (settings_in heap).allows (sites_of heap set)
 predecessors heap set closed = record {

@@ -12,9 +12,15 @@ use Rattle.cb_partheap.specs.Heaps.{Heap, object_by, objects_in, part_of, with_m
 use Rattle.cb_partheap.specs.Spots.{IsSpot, Spot, serial_by, spot_where, words_by}
 use Rattle.cb_partheap.specs.Whole.{IsHeap}
 use Rattle.cb_partheap.specs.Words.{mark_at, site_at, size_at}
-use Rattle.cb_partheap.proofs.Laws.{IsAlike, alike_entry, by_serial, entry_at, length_objects, mark_elsewhere, object_length, spot_sound, used_is, with_third}
-use Rattle.cb_trace.specs.Marks.{IsUnmarked, words_if_marked, words_marked}
-use Rattle.cb_trace.proofs.Sums.{LiesBelow, range_more, range_none, range_same, range_term, range_times, spread, sum_by_map}
+use Rattle.cb_partheap.proofs.Alike.{IsAlike, alike_entry}
+use Rattle.cb_partheap.proofs.Calls.{object_length}
+use Rattle.cb_partheap.proofs.Found.{spot_sound}
+use Rattle.cb_partheap.proofs.Marked.{mark_elsewhere, with_third}
+use Rattle.cb_partheap.proofs.Occupied.{used_is}
+use Rattle.cb_partheap.proofs.Reading.{by_serial, entry_at, length_objects}
+use Rattle.cb_partheap.specs.Marks.{IsUnmarked, words_if_marked, words_marked}
+use Rattle.cb_partheap.proofs.Rooms.{range_more, range_same, sum_by_map}
+use Rattle.cb_partheap.proofs.Sums.{LiesBelow, range_none, range_term, range_times, spread}
 
 abbrev pub found_of : Heap → ℕ → Option Spot
 found_of heap n = spot_where heap.memory (λ spot. serial_by heap.memory spot == n + 1)

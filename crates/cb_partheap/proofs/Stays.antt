@@ -12,14 +12,17 @@ use Rattle.cb_partheap.specs.Heaps.{Heap, object_by, objects_in, part_of}
 use Rattle.cb_partheap.specs.Spots.{IsSpot, Spot, serial_by, words_by}
 use Rattle.cb_partheap.specs.Whole.{IsHeap}
 use Rattle.cb_partheap.specs.Words.{mark_at}
-use Rattle.cb_partheap.proofs.Laws.{object_length, slice_get-tabulated, spot_sound}
-use Rattle.cb_trace.specs.Laws.{words_in_set}
-use Rattle.cb_trace.specs.Marks.{MarksReached, stays_if, staying, words_if_marked, words_marked}
-use Rattle.cb_trace.proofs.Sums.{LiesBelow, range_times, spread_there, sum_by_map, words_there}
-use Rattle.cb_trace.proofs.Weights.{found_of, lies_if, marked_weight, unmarked_weight}
+use Rattle.cb_partheap.proofs.Calls.{object_length}
+use Rattle.cb_partheap.proofs.Found.{spot_sound}
+use Rattle.cb_partheap.proofs.Reading.{slice_get-tabulated}
+use Rattle.cb_partheap.specs.MarkLaws.{words_in_set}
+use Rattle.cb_partheap.specs.Marks.{MarksReached, stays_if, staying, words_if_marked, words_marked}
+use Rattle.cb_partheap.proofs.Rooms.{sum_by_map}
+use Rattle.cb_partheap.proofs.Sums.{LiesBelow, range_times, spread_there, words_there}
+use Rattle.cb_partheap.proofs.Weights.{found_of, lies_if, marked_weight, unmarked_weight}
 
 -- what is kept of values that are made of the same places
-abbrev kept_of : Bool → Option Object → Option Object
+abbrev pub kept_of : Bool → Option Object → Option Object
 kept_of true entry = entry
 kept_of false entry = None
 
@@ -31,10 +34,10 @@ keep_tabled : (stays : ℕ → Bool) (entry : ℕ → Option Object) (places : L
 keep_tabled stays entry [] = refl
 keep_tabled stays entry (n ∷ places) = keep_first (stays n) (entry n) (map stays places) (map entry places) (map (λ n. kept_of (stays n) (entry n)) places) (keep_tabled stays entry places)
 
-abbrev left_at : Heap → List Bool → ℕ → Option Object
+abbrev pub left_at : Heap → List Bool → ℕ → Option Object
 left_at heap set n = kept_of (stays_if set heap.memory (found_of heap n)) (option_map (object_by heap) (found_of heap n))
 
-left_is : (heap : Heap) (set : List Bool) → keep (staying set heap) (objects_in heap) ≡ map (left_at heap set) (range_with_len 0 (heap.next - 1))
+pub left_is : (heap : Heap) (set : List Bool) → keep (staying set heap) (objects_in heap) ≡ map (left_at heap set) (range_with_len 0 (heap.next - 1))
 unfolding staying objects_in
 left_is heap set = keep_tabled (λ n. stays_if set heap.memory (found_of heap n)) (λ n. option_map (object_by heap) (found_of heap n)) (range_with_len 0 (heap.next - 1))
 

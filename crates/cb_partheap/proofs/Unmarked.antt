@@ -14,9 +14,12 @@ use Rattle.cb_partheap.specs.Made.{IsMade}
 use Rattle.cb_partheap.specs.Spots.{IsSpot, Spot, words_by}
 use Rattle.cb_partheap.specs.Whole.{IsHeap}
 use Rattle.cb_partheap.specs.Words.{blank_words, mark_at, missing, size_at}
-use Rattle.cb_partheap.proofs.Laws.{IsInner, gap, inner_alike, row_other, row_same, spot_alike, with_inner, within, word_elsewhere}
-use Rattle.cb_trace.specs.Laws.{StayUnmarked}
-use Rattle.cb_trace.specs.Marks.{IsUnmarked}
+use Rattle.cb_partheap.proofs.Alike.{spot_alike}
+use Rattle.cb_partheap.proofs.Inner.{IsInner, inner_alike, row_other, row_same, with_inner, word_elsewhere}
+use Rattle.cb_partheap.proofs.Missing.{gap}
+use Rattle.cb_partheap.proofs.Reading.{within}
+use Rattle.cb_partheap.specs.MarkLaws.{StayUnmarked}
+use Rattle.cb_partheap.specs.Marks.{IsUnmarked}
 
 -- a heap without objects
 no_spot : (blocks parts : ℕ) (spot : Spot) → IsSpot (empty_parts blocks parts) spot → ⊥

@@ -9,8 +9,10 @@ use Rattle.cb_blocks.specs.Rows.{row}
 use Rattle.cb_partheap.specs.Heaps.{Heap, with_memory}
 use Rattle.cb_partheap.specs.Spots.{IsSpot, Spot, words_by}
 use Rattle.cb_partheap.specs.Whole.{IsHeap}
-use Rattle.cb_partheap.proofs.Laws.{HasContents, IsAlike, alike_heap, alike_spot, row_other, row_same, still_refers, with_third}
-use Rattle.cb_trace.specs.Marks.{IsSameButMarks}
+use Rattle.cb_partheap.proofs.Alike.{HasContents, IsAlike, alike_heap, alike_spot, still_refers}
+use Rattle.cb_partheap.proofs.Inner.{row_other, row_same}
+use Rattle.cb_partheap.proofs.Marked.{with_third}
+use Rattle.cb_partheap.specs.Marks.{IsSameButMarks}
 
 -- nothing was marked yet
 pub alike_itself : (parts : Parted) → IsAlike parts parts

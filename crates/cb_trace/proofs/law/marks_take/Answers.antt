@@ -1,5 +1,0 @@
-use Rattle.cb_trace.proofs.Takes as takes
-use Rattle.cb_trace.proofs.law.marks_take.Goals as goal
-
-pub returns : goal.returns
-returns c = takes.marks_take
