@@ -1,0 +1,16 @@
+mod Carried
+mod Collects
+mod Compacts
+mod Ending
+mod Forwards
+mod Moves
+mod NewHeap
+mod Objects
+mod Order
+mod Parts
+mod Puts
+mod Rewriting
+mod RootWords
+mod Roots
+mod Sets
+mod Walk

@@ -1,0 +1,4 @@
+pub mod Collected
+pub mod Compact
+pub mod Slid
+pub mod Sliding
