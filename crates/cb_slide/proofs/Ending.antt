@@ -16,7 +16,7 @@ use Rattle.cb_partheap.specs.Spots.{IsSpot, Spot}
 use Rattle.cb_partheap.specs.Whole.{IsHeap}
 use Rattle.cb_partheap.proofs.Laws.{taken}
 use Rattle.cb_slide.specs.Slid.{place_after}
-use Rattle.cb_slide.specs.Sliding.{ForwardedTo, Given, IsForwarded, IsGiven, IsLeft, IsRewritten, RewrittenTo, SlidTo, words_before}
+use Rattle.cb_slide.specs.Sliding.{ForwardedTo, Given, HasOtherWords, IsForwarded, IsGiven, IsLeft, IsRewritten, RewrittenTo, SlidTo, words_before}
 use Rattle.cb_slide.proofs.Compacts.{compacted}
 use Rattle.cb_slide.proofs.Forwards.{forwarded}
 use Rattle.cb_slide.proofs.NewHeap.{left_after, new_heap, objects_after, unmarked_after}
@@ -58,6 +58,7 @@ pub record Outcome (now new : Heap) (roots roots' : Roots) (set : List Bool) (st
   pub unmarked : IsUnmarked new
   pub outside : (part : ℕ) → marked set part ≡ false → row new.memory.words part ≡ row now.memory.words part
   pub places : (spot : Spot) → IsSpot now.memory spot → marked set spot.part ≡ false → IsLeft now new spot
+  pub rest_is : HasOtherWords now new
   pub steps_are : steps' ≤ steps + length (entries roots) + 2 * words_in_set now set (objects_in now)
 
 outcome : {heap : Heap} {roots : Roots} {set : List Bool} (roots' : Roots) (rewritten memory : Parted) (steps after_roots after_set steps' : ℕ) → IsGiven (given_by heap roots set) →
@@ -75,6 +76,7 @@ outcome {heap} {roots} {set} roots' rewritten memory steps after_roots after_set
       unmarked = unmarked_after given memory g slid;
       outside = slid.outside;
       places = λ spot here out. left_after given memory g slid spot here out;
+      rest_is = record { blocks = slid.blocks; parts = slid.count; rest = refl };
       steps_are = omega (arith, counted, counted', counted'', words_all given (length set) g g.set.parts);
     }
 

@@ -7,7 +7,7 @@ use Rattle.cb_heap.specs.Closed.{IsClosed}
 use Rattle.cb_dag.specs.Marks.{marked}
 use Rattle.cb_blocks.specs.Parted.{IsParted, Parted, index_of}
 use Rattle.cb_blocks.specs.Rows.{row}
-use Rattle.cb_partheap.specs.Heaps.{Heap, index_in}
+use Rattle.cb_partheap.specs.Heaps.{Heap, index_in, with_memory}
 use Rattle.cb_partheap.specs.Marks.{IsClosedSet, IsMarked, MarksReached}
 use Rattle.cb_partheap.specs.Spots.{IsSpot, Spot, place_of, words_by}
 use Rattle.cb_partheap.specs.Whole.{IsHeap}
@@ -121,6 +121,12 @@ pub record SlidTo (given : Given) (before memory : Parted) (part : ℕ) : Type 0
 pub record CompactScan (given : Given) (before start memory : Parted) (part free first scan : ℕ) : Type 0 where
   pub moving : IsMoving (row given.heap.memory.words part) (row before.words part) (row memory.words part) free first scan
   pub only : IsOnly start memory part
+
+-- nothing of a heap is another but the words of parts and which blocks they have
+pub record HasOtherWords (old new : Heap) : Type 0 where
+  pub blocks : new.memory.blocks ≡ old.memory.blocks
+  pub parts : length new.memory.words ≡ length old.memory.words
+  pub rest : new ≡ with_memory old new.memory
 
 -- an object has the place that it had, and is found there
 pub record IsLeft (old new : Heap) (spot : Spot) : Type 0 where

@@ -11,7 +11,7 @@ ghost use Rattle.cb_partheap.specs.Marks.{IsClosedSet, IsUnmarked, MarksReached,
 ghost use Rattle.cb_heap.specs.Taking.{IsTaken};
 ghost use Rattle.cb_partheap.specs.MarkLaws.{sites_of, words_in_set};
 ghost use Rattle.cb_partheap.specs.Spots.{IsSpot, Spot};
-ghost use Rattle.cb_slide.specs.Sliding.{IsLeft};
+ghost use Rattle.cb_slide.specs.Sliding.{HasOtherWords, IsLeft};
 
 use crate::forwarding::forward;
 use crate::moving::compact;
@@ -35,6 +35,7 @@ pub fn slide<L: Ledger>(heap: &mut PartHeap, roots: &mut Roots, set: &Set, steps
     ensures unmarked { IsUnmarked heap.new }
     ensures outside { (part : ℕ) → marked set.now part ≡ false → row heap.new.memory.words part ≡ row heap.old.memory.words part }
     ensures places { (spot : Spot) → IsSpot heap.old.memory spot → marked set.now spot.part ≡ false → IsLeft heap.old heap.new spot }
+    ensures rest { HasOtherWords heap.old heap.new }
     ensures next { heap.new.next ≡ heap.old.next }
     ensures granted { heap.new.granted ≡ heap.old.granted }
     ensures settings { settings_in heap.new ≡ settings_in heap.old }

@@ -82,6 +82,14 @@ returns-clause-places g c =
     (λ is. c.rewrite_set.ensures _ (rewrites_from is (c.forward.ensures _ (forward_begins _ is) refl)) refl refl)
     (λ is. c.compact.ensures _ (rewritten_all is (c.rewrite_set.ensures _ (rewrites_from is (c.forward.ensures _ (forward_begins _ is) refl)) refl refl).0) refl)).places
 
+pub returns-clause-rest : goal.returns-clause-rest
+returns-clause-rest g c =
+    (all_slid c.rewrite_roots.new.roots.roots c.rewrite_set.new.words c.compact.new.words c.args.steps.now c.rewrite_roots.new.steps c.rewrite_set.new.steps c.compact.new.steps c.heap.invariant c.heap.view_is
+    (record { set_is = c.requires.set; view = c.requires.closed; marks = c.requires.marked }) c.rewrite_roots.ensures.rest
+    (λ is. c.rewrite_roots.ensures.entries _ (forwarded_all is (c.forward.ensures _ (forward_begins _ is) refl)) refl refl) c.rewrite_roots.ensures.counted
+    (λ is. c.rewrite_set.ensures _ (rewrites_from is (c.forward.ensures _ (forward_begins _ is) refl)) refl refl)
+    (λ is. c.compact.ensures _ (rewritten_all is (c.rewrite_set.ensures _ (rewrites_from is (c.forward.ensures _ (forward_begins _ is) refl)) refl refl).0) refl)).rest_is
+
 pub returns-clause-steps : goal.returns-clause-steps
 returns-clause-steps g c =
     (all_slid c.rewrite_roots.new.roots.roots c.rewrite_set.new.words c.compact.new.words c.args.steps.now c.rewrite_roots.new.steps c.rewrite_set.new.steps c.compact.new.steps c.heap.invariant c.heap.view_is
