@@ -1,6 +1,7 @@
 -- Marking and sliding leave together what a take leaves.
 use Rattle.std.proofs.Common.{◌≡◌, ◌∙◌, ℕ, Bool, List, Option, ap, subst}
 use Rattle.cb_plain.specs.State.{Object, Roots}
+use Rattle.cb_heap.specs.Closed.{Collects}
 use Rattle.cb_heap.specs.Kept.{keep}
 use Rattle.cb_heap.specs.Reading.{View, read_roots, seen}
 use Rattle.cb_heap.specs.Taking.{IsTaken, left_of}
@@ -22,6 +23,7 @@ both_collect set old marked new roots roots' m s =
     record {
       stays = staying set marked;
       taken = subst (λ v. IsTaken (sites_of old set) v (staying set marked)) same (subst (λ taken. IsTaken taken (view_of marked roots) (staying set marked)) sites s.taken);
+      collects = subst (λ v. Collects v (view_of new roots')) same s.collects;
       left =
           ap (λ r. let v : View = record { roots = r; objects = objects_in new } in v) s.roots_are
           ∙ ap made s.objects ∙ ap (λ (v : View). left_of v (staying set marked)) same;

@@ -1,20 +1,21 @@
 -- What sliding leaves.
-use Rattle.std.proofs.Common.{◌≡◌, ℕ, ◌+◌, ◌*◌, ◌≤◌, false, Bool, List, length, map, refl, sym, arith, subst}
+use Rattle.std.proofs.Common.{◌≡◌, ◌∙◌, ℕ, ◌+◌, ◌*◌, ◌≤◌, false, Bool, List, length, map, refl, sym, ap, arith, subst}
 use Rattle.cb_plain.specs.State.{Roots}
 use Rattle.cb_frames.specs.Entries.{entries, without_references}
-use Rattle.cb_heap.specs.Closed.{IsClosed}
+use Rattle.cb_heap.specs.Closed.{Collects, IsClosed}
 use Rattle.cb_heap.specs.Kept.{keep}
-use Rattle.cb_heap.specs.Reading.{read_roots, seen}
-use Rattle.cb_heap.specs.Taking.{IsTaken}
+use Rattle.cb_heap.specs.Reading.{View, read_roots, seen}
+use Rattle.cb_heap.specs.Taking.{IsTaken, left_of}
+use Rattle.cb_heap.proofs.Laws.{takes_collect}
 use Rattle.cb_dag.specs.Marks.{marked}
 use Rattle.cb_blocks.specs.Parted.{Parted}
 use Rattle.cb_blocks.specs.Rows.{row}
-use Rattle.cb_partheap.specs.Heaps.{Heap, index_in, objects_in, with_memory}
+use Rattle.cb_partheap.specs.Heaps.{Heap, index_in, objects_in, settings_in, with_memory}
 use Rattle.cb_partheap.specs.MarkLaws.{sites_of, words_in_set}
 use Rattle.cb_partheap.specs.Marks.{IsClosedSet, IsUnmarked, MarksReached, staying}
 use Rattle.cb_partheap.specs.Spots.{IsSpot, Spot}
 use Rattle.cb_partheap.specs.Whole.{IsHeap}
-use Rattle.cb_partheap.proofs.Laws.{taken}
+use Rattle.cb_partheap.proofs.Laws.{follows, predecessors, taken, view_in}
 use Rattle.cb_slide.specs.Slid.{place_after}
 use Rattle.cb_slide.specs.Sliding.{ForwardedTo, Given, HasOtherWords, IsForwarded, IsGiven, IsLeft, IsRewritten, RewrittenTo, SlidTo, words_before}
 use Rattle.cb_slide.proofs.Compacts.{compacted}
@@ -53,6 +54,7 @@ module _ {heap : Heap} {roots : Roots} {set : List Bool} (g : IsGiven (given_by 
 pub record Outcome (now new : Heap) (roots roots' : Roots) (set : List Bool) (steps steps' : ℕ) : Type 0 where
   pub heap_is : IsHeap new
   pub taken_is : IsTaken (sites_of now set) (seen (index_in now) (objects_in now) roots) (staying set now)
+  pub collects_is : Collects (view_in now roots) (seen (index_in new) (objects_in new) roots')
   pub objects_are : objects_in new ≡ keep (staying set now) (objects_in now)
   pub roots_are : read_roots (index_in new) roots' ≡ read_roots (index_in now) roots
   pub unmarked : IsUnmarked new
@@ -68,11 +70,21 @@ outcome : {heap : Heap} {roots : Roots} {set : List Bool} (roots' : Roots) (rewr
 outcome {heap} {roots} {set} roots' rewritten memory steps after_roots after_set steps' g same are counted counted' s counted'' =
     let given : Given = given_by heap roots set in
     let slid = compacted (length set) s (omega (arith, g.set.parts)) in
+    let new : Heap = with_memory heap memory in
+    let takes = taken heap set (view_in heap roots) g.heap refl g.marks in
+    let objects = objects_after given memory g slid in
+    let reads = roots_after given memory roots' g slid same are in
+    let left : seen (index_in new) (objects_in new) roots' ≡ left_of (view_in heap roots) (staying set heap) =
+    ap (λ held. let v : View = record { roots = held; objects = objects_in new } in v) reads
+    ∙ ap (λ held. let v : View = record { roots = read_roots (index_in heap) roots; objects = held } in v) objects in
     record {
       heap_is = new_heap given memory g slid;
-      taken_is = taken heap set (seen (index_in heap) (objects_in heap) roots) g.heap refl g.marks;
-      objects_are = objects_after given memory g slid;
-      roots_are = roots_after given memory roots' g slid same are;
+      taken_is = takes;
+      collects_is =
+          subst (Collects (view_in heap roots)) (sym left)
+          (takes_collect (settings_in heap).allows (sites_of heap set) (view_in heap roots) (staying set heap) g.view (follows heap g.heap) (predecessors heap set g.set) takes).0;
+      objects_are = objects;
+      roots_are = reads;
       unmarked = unmarked_after given memory g slid;
       outside = slid.outside;
       places = λ spot here out. left_after given memory g slid spot here out;

@@ -2,7 +2,7 @@
 ghost use Rattle.std.specs.Prelude.{◌≡◌, ◌+◌, ◌*◌, ◌≤◌, false, ℕ, length};
 ghost use Rattle.cb_frames.specs.Entries.{entries};
 ghost use Rattle.cb_dag.specs.Marks.{marked};
-ghost use Rattle.cb_heap.specs.Closed.{IsClosed};
+ghost use Rattle.cb_heap.specs.Closed.{Collects, IsClosed};
 ghost use Rattle.cb_heap.specs.Kept.{keep};
 ghost use Rattle.cb_heap.specs.Reading.{read_roots, seen};
 ghost use Rattle.cb_blocks.specs.Rows.{row};
@@ -29,6 +29,7 @@ pub fn slide<L: Ledger>(heap: &mut PartHeap, roots: &mut Roots, set: &Set, steps
     requires set { IsClosedSet heap.old set.now }
     requires closed { IsClosed (seen (index_in heap.old) (objects_in heap.old) roots.old.roots) }
     requires marked { MarksReached set.now (seen (index_in heap.old) (objects_in heap.old) roots.old.roots) heap.old }
+    ensures collects { Collects (seen (index_in heap.old) (objects_in heap.old) roots.old.roots) (seen (index_in heap.new) (objects_in heap.new) roots.new.roots) }
     ensures taken { IsTaken (sites_of heap.old set.now) (seen (index_in heap.old) (objects_in heap.old) roots.old.roots) (staying set.now heap.old) }
     ensures objects { objects_in heap.new ≡ keep (staying set.now heap.old) (objects_in heap.old) }
     ensures roots { read_roots (index_in heap.new) roots.new.roots ≡ read_roots (index_in heap.old) roots.old.roots }

@@ -34,6 +34,14 @@ invariant_of-heap g c =
     (λ is. c.rewrite_set.ensures _ (rewrites_from is (c.forward.ensures _ (forward_begins _ is) refl)) refl refl)
     (λ is. c.compact.ensures _ (rewritten_all is (c.rewrite_set.ensures _ (rewrites_from is (c.forward.ensures _ (forward_begins _ is) refl)) refl refl).0) refl)).heap_is
 
+pub returns-clause-collects : goal.returns-clause-collects
+returns-clause-collects g c =
+    (all_slid c.rewrite_roots.new.roots.roots c.rewrite_set.new.words c.compact.new.words c.args.steps.now c.rewrite_roots.new.steps c.rewrite_set.new.steps c.compact.new.steps c.heap.invariant c.heap.view_is
+    (record { set_is = c.requires.set; view = c.requires.closed; marks = c.requires.marked }) c.rewrite_roots.ensures.rest
+    (λ is. c.rewrite_roots.ensures.entries _ (forwarded_all is (c.forward.ensures _ (forward_begins _ is) refl)) refl refl) c.rewrite_roots.ensures.counted
+    (λ is. c.rewrite_set.ensures _ (rewrites_from is (c.forward.ensures _ (forward_begins _ is) refl)) refl refl)
+    (λ is. c.compact.ensures _ (rewritten_all is (c.rewrite_set.ensures _ (rewrites_from is (c.forward.ensures _ (forward_begins _ is) refl)) refl refl).0) refl)).collects_is
+
 pub returns-clause-taken : goal.returns-clause-taken
 returns-clause-taken g c =
     (all_slid c.rewrite_roots.new.roots.roots c.rewrite_set.new.words c.compact.new.words c.args.steps.now c.rewrite_roots.new.steps c.rewrite_set.new.steps c.compact.new.steps c.heap.invariant c.heap.view_is
