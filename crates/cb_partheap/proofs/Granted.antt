@@ -11,6 +11,7 @@ use Rattle.cb_heap.specs.Occupancy.{HasRoom, blocks, blocks_of, used, wanted}
 use Rattle.cb_blocks.specs.Parted.{taken}
 use Rattle.cb_blocks.specs.Rows.{row}
 use Rattle.cb_partheap.specs.Heaps.{Heap, index_in, objects_in, part_of, settings_in, with_granted}
+use Rattle.cb_partheap.specs.Marks.{IsUnmarked}
 use Rattle.cb_partheap.specs.Whole.{IsHeap, blocks_with}
 use Rattle.cb_partheap.proofs.Occupied.{used_is}
 use Rattle.cb_partheap.proofs.Rooms.{granted_least, range_same}
@@ -100,3 +101,6 @@ same_objects {heap} {now} granted same = granted_objects heap granted ∙ ap obj
 
 pub same_index : {heap now : Heap} (granted : List Want) → heap ≡ now → index_in (with_granted heap granted) ≡ index_in now
 same_index {heap} {now} granted same = granted_index heap granted ∙ ap index_in same
+
+pub granted_unmarked : {heap now : Heap} (granted : List Want) → heap ≡ now → IsUnmarked now → IsUnmarked (with_granted heap granted)
+granted_unmarked {heap} {now} granted same none = let before = subst IsUnmarked (sym same) none in record { each = before.each }

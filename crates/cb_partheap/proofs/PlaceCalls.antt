@@ -11,6 +11,7 @@ use Rattle.cb_blocks.specs.Parted.{IsTooMuch, Parted}
 use Rattle.cb_partheap.specs.Added.{IsAdded}
 use Rattle.cb_partheap.specs.Heaps.{Heap, index_in, objects_in, part_of, with_object}
 use Rattle.cb_partheap.specs.Spots.{place_of}
+use Rattle.cb_partheap.specs.Marks.{IsUnmarked}
 use Rattle.cb_partheap.specs.Whole.{IsHeap}
 use Rattle.cb_partheap.specs.Words.{blank_words}
 use Rattle.cb_partheap.proofs.Adds.{spot_at_end}
@@ -19,6 +20,7 @@ use Rattle.cb_partheap.proofs.PlacedHeap.{new_heap}
 use Rattle.cb_partheap.proofs.PlacedObjects.{objects_new, place_new, places_stay}
 use Rattle.cb_partheap.proofs.Reading.{length_objects}
 use Rattle.cb_partheap.proofs.Rooms.{not_too_much}
+use Rattle.cb_partheap.proofs.Unmarked.{placed}
 
 -- a site for whose objects there is room is known, and there is
 known_site : {heap now : Heap} (site size : ℕ) → IsHeap heap → heap ≡ now → words_of size ≤ words_at now.granted site → site < length heap.site_parts
@@ -45,6 +47,7 @@ pub record Placing (heap now : Heap) (memory : Parted) (granted : List Want) (at
   pub places : ReadsAsBefore (objects_in now) (index_in now) (index_in (after heap memory granted))
   pub words : IsAdded now.memory memory (part_of now.site_parts site) (blank_words kind size now.next site)
   pub rest : after heap memory granted ≡ with_object now memory site size
+  pub unmarked : IsUnmarked now → IsUnmarked (after heap memory granted)
 
 placing_new : (heap : Heap) (memory : Parted) (granted : List Want) (at site kind size : ℕ) → IsNew heap memory site kind size → granted ≡ spent heap.granted site (words_of size) → at ≡ place_of memory (spot_at_end heap.memory (part_of heap.site_parts site)) →
     Placing heap heap memory granted at site kind size
@@ -57,6 +60,7 @@ placing_new heap memory granted at site kind size n left place =
       places = subst (λ h. ReadsAsBefore (objects_in heap) (index_in heap) (index_in h)) same (places_stay heap memory site kind size n);
       words = n.added;
       rest = sym same;
+      unmarked = λ none. subst IsUnmarked same (placed heap memory site kind size n.is none n.fits n.narrow n.added);
     }
 
 pub placing : {heap now : Heap} (site kind size part at : ℕ) (memory : Parted) (granted : List Want) → IsHeap heap → heap ≡ now → words_of size ≤ words_at now.granted site → IsTrue (has_size now.shapes kind size) → kind < 2 ^ 32 →

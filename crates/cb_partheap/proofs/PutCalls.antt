@@ -10,11 +10,13 @@ use Rattle.cb_heap.specs.Store.{may_point}
 use Rattle.cb_blocks.specs.Parted.{Parted, with_words}
 use Rattle.cb_partheap.specs.Headers.{IsWord}
 use Rattle.cb_partheap.specs.Heaps.{Heap, content_of, index_in, marks_at, may_refer, object_by, objects_in, part_of, settings_in, with_memory, with_word}
+use Rattle.cb_partheap.specs.Marks.{IsUnmarked}
 use Rattle.cb_partheap.specs.Spots.{IsSpot, Spot, place_of, words_by}
 use Rattle.cb_partheap.specs.Whole.{IsHeap, MayHold}
 use Rattle.cb_partheap.proofs.Calls.{FoundWord, found_word, number_in, reference_in, word_found}
 use Rattle.cb_partheap.proofs.Found.{place_apart}
 use Rattle.cb_partheap.proofs.Reading.{Found, found}
+use Rattle.cb_partheap.proofs.Unmarked.{written}
 use Rattle.cb_partheap.proofs.Written.{IsContent, put_heap, put_index, put_objects}
 
 -- the words that are left
@@ -27,6 +29,7 @@ pub record Put (heap now : Heap) (at i word : ℕ) (memory : Parted) (content : 
   pub objects : objects_in (with_memory heap memory) ≡ with_content (objects_in now) (serial_of (index_in now) at) i content
   pub index : index_in (with_memory heap memory) ≡ index_in now
   pub words : (spot : Spot) → IsSpot now.memory spot → place_of now.memory spot ≡ at → with_memory heap memory ≡ with_word now spot i word
+  pub unmarked : IsUnmarked now → IsUnmarked (with_memory heap memory)
 
 put_found : (test : Option Content → Bool) (heap : Heap) (at i word : ℕ) (memory : Parted) (content : Content) → IsHeap heap → (here : FoundWord test heap at i) → Writes heap at i word memory →
     (marks_at heap.shapes (words_by heap.memory here.found.spot) here.found.spot.start i ≡ true → MayHold heap here.found.spot.part word) →
@@ -41,6 +44,7 @@ put_found test heap at i word memory content is here writes may same =
           ∙ ap (with_content (objects_in heap) (serial_of (index_in heap) at) i) same;
       index = ap index_in (sym new) ∙ put_index heap spot i word c;
       words = λ other there place. sym new ∙ ap (λ s. with_word heap s i word) (place_apart heap.memory spot other is.parted here.found.is there (here.found.place ∙ sym place));
+      unmarked = λ none. subst IsUnmarked new (written heap spot i word is none here.found.is here.below);
     }
 
 -- a number

@@ -16,6 +16,7 @@ ghost use Rattle.cb_blocks.specs.Rows.{row};
 ghost use Rattle.cb_partheap.specs.Added.{IsAdded};
 ghost use Rattle.cb_partheap.specs.Heaps.{index_in, objects_in, part_of, settings_in, with_granted, with_object, with_word};
 ghost use Rattle.cb_partheap.specs.Made.{IsMade};
+ghost use Rattle.cb_partheap.specs.Marks.{IsUnmarked};
 ghost use Rattle.cb_partheap.specs.Words.{blank_words};
 ghost use Rattle.cb_partheap.specs.Spots.{IsSpot, Spot, place_of};
 
@@ -101,6 +102,7 @@ impl PartHeap {
         ensures places { index_in self.new ≡ index_in self.old }
         ensures room { IsErr result ↔ ¬ HasRoom (length self.old.memory.words) (part_of self.old.site_parts) (objects_in self.old) request.now self.old.memory.blocks }
         ensures bounded { OnOk result (IsBounded true (length (objects_in self.new)) request.now) }
+        ensures unmarked { IsUnmarked self.old → IsUnmarked self.new }
     {
         let more = blocks_more(&self.words, &self.site_parts, request);
         if more > self.words.blocks_free() as u128 {
@@ -123,6 +125,7 @@ impl PartHeap {
         ensures rest { self.new ≡ with_object self.old self.new.memory site size }
         ensures granted { self.new.granted ≡ spent self.old.granted site (words_of size) }
         ensures settings { settings_in self.new ≡ settings_in self.old }
+        ensures unmarked { IsUnmarked self.old → IsUnmarked self.new }
     {
         let part = *self.site_parts.get(site as usize);
         let serial = self.next;
@@ -193,6 +196,7 @@ impl PartHeap {
         ensures words { (spot : Spot) → IsSpot self.old.memory spot → place_of self.old.memory spot ≡ at → self.new ≡ with_word self.old spot i word }
         ensures granted { self.new.granted ≡ self.old.granted }
         ensures settings { settings_in self.new ≡ settings_in self.old }
+        ensures unmarked { IsUnmarked self.old → IsUnmarked self.new }
     {
         set_word_at(&mut self.words, at, 3 + i as u64, word);
     }
@@ -207,6 +211,7 @@ impl PartHeap {
         ensures words { (spot : Spot) → IsSpot self.old.memory spot → place_of self.old.memory spot ≡ at → self.new ≡ with_word self.old spot i to }
         ensures granted { self.new.granted ≡ self.old.granted }
         ensures settings { settings_in self.new ≡ settings_in self.old }
+        ensures unmarked { IsUnmarked self.old → IsUnmarked self.new }
     {
         set_word_at(&mut self.words, at, 3 + i as u64, to);
     }

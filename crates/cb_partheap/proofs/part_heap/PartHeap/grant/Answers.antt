@@ -1,5 +1,5 @@
 use Rattle.std.proofs.Common.{refl}
-use Rattle.cb_partheap.proofs.Granted.{bounded, granted_is, has_no_room, has_room, same_index, same_objects}
+use Rattle.cb_partheap.proofs.Granted.{bounded, granted_is, granted_unmarked, has_no_room, has_room, same_index, same_objects}
 use Rattle.cb_partheap.proofs.part_heap.PartHeap.grant.Goals as goal
 
 pub returns-then-more-blocks_free-clause-room : goal.returns-then-more-blocks_free-clause-room
@@ -25,3 +25,6 @@ returns-clause-kept c = same_objects c.copy_from.new.self c.self.view_is
 
 pub returns-clause-places : goal.returns-clause-places
 returns-clause-places c = same_index c.copy_from.new.self c.self.view_is
+
+pub returns-clause-unmarked : goal.returns-clause-unmarked
+returns-clause-unmarked c none = granted_unmarked c.copy_from.new.self c.self.view_is none

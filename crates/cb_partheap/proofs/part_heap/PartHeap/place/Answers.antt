@@ -22,3 +22,6 @@ returns-clause-places c = (placing c.args.site c.args.kind c.args.size c.get-par
 
 pub returns-clause-words : goal.returns-clause-words
 returns-clause-words c = (placing c.args.site c.args.kind c.args.size c.get-part.result.now c.add_object.result c.add_object.new.words c.spend.new.self c.self.invariant c.self.view_is c.requires.granted c.requires.shaped (omega arith) c.get-part.ensures c.add_object.ensures.added c.add_object.ensures.place c.spend.ensures).words
+
+pub returns-clause-unmarked : goal.returns-clause-unmarked
+returns-clause-unmarked c = (placing c.args.site c.args.kind c.args.size c.get-part.result.now c.add_object.result c.add_object.new.words c.spend.new.self c.self.invariant c.self.view_is c.requires.granted c.requires.shaped (omega arith) c.get-part.ensures c.add_object.ensures.added c.add_object.ensures.place c.spend.ensures).unmarked

@@ -18,3 +18,6 @@ returns-clause-places c = (put_number c.args.at c.args.i c.args.word c.set_word_
 
 pub returns-clause-words : goal.returns-clause-words
 returns-clause-words c = (put_number c.args.at c.args.i c.args.word c.set_word_at.new.words c.self.invariant c.self.view_is c.requires c.set_word_at.ensures).words
+
+pub returns-clause-unmarked : goal.returns-clause-unmarked
+returns-clause-unmarked c = (put_number c.args.at c.args.i c.args.word c.set_word_at.new.words c.self.invariant c.self.view_is c.requires c.set_word_at.ensures).unmarked

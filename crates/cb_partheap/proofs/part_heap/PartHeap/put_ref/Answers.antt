@@ -18,3 +18,6 @@ returns-clause-places c = (put_reference c.args.at c.args.i c.args.to c.set_word
 
 pub returns-clause-words : goal.returns-clause-words
 returns-clause-words c = (put_reference c.args.at c.args.i c.args.to c.set_word_at.new.words c.self.invariant c.self.view_is c.requires.there c.requires.held c.requires.allowed c.set_word_at.ensures).words
+
+pub returns-clause-unmarked : goal.returns-clause-unmarked
+returns-clause-unmarked c = (put_reference c.args.at c.args.i c.args.to c.set_word_at.new.words c.self.invariant c.self.view_is c.requires.there c.requires.held c.requires.allowed c.set_word_at.ensures).unmarked
