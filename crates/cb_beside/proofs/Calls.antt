@@ -1,7 +1,7 @@
 -- Calls, beside another input and other printed bytes, by whether they read.
 use Rattle.std.proofs.Common.{inr, inl, ◌⊎◌, ◌≡◌, ◌∙◌, ap, refl, sym, ℕ, List, [], ◌∷◌, ◌++◌, reverse, Bool, true, false, Option, Some, None, zero, suc, ◌&&◌, if◌then◌else◌}
 use Rattle.std.specs.Prelude.{option_and_then, option_map, slice_get}
-use Rattle.std.proofs.lemmas.Bool.{false≢true}
+use Rattle.std.specs.List.{flat_map, fold}
 use Rattle.cb_classfile.specs.declared.body.Body.{Body}
 use Rattle.cb_classfile.specs.declared.method.Method.{Method}
 use Rattle.cb_hierarchy.specs.declared.selected.Selected.{Selected}
@@ -21,21 +21,23 @@ use Rattle.cb_machine.specs.Initialising.{begun_upon}
 use Rattle.cb_machine.specs.Machine.{class_declaring, method_numbered}
 use Rattle.cb_machine.specs.Natives.{native_of, performed}
 use Rattle.cb_machine.specs.Performing.{Performed, Gives, Stops}
-use Rattle.cb_machine.specs.Plans.{Plan, with_left}
+use Rattle.cb_machine.specs.Plans.{Placing, Plan, wants_of, with_left}
 use Rattle.cb_machine.specs.Sites.{abstract_method, incompatible_class_change, no_class_definition}
 use Rattle.cb_machine.specs.Standing.{Now, at_place, named_here, taken, with_stack}
+use Rattle.cb_machine.specs.Steps.{asked_of}
 use Rattle.cb_machine.specs.Throwing.{throws}
 use Rattle.cb_plain.specs.declared.class_state.ClassState.{ClassState}
 use Rattle.cb_plain.specs.declared.class_state.ClassState.TheVariants as states
 use Rattle.cb_plain.specs.declared.value.Value.{Value}
 use Rattle.cb_plain.specs.declared.value.Value.TheVariants as values
-use Rattle.cb_plain.specs.State.{Object, OfMethod}
+use Rattle.cb_plain.specs.Requests.{add_want}
+use Rattle.cb_plain.specs.State.{MethodFrame, Object, OfMethod}
 use Rattle.cb_plain.specs.Updates.{object_at, with_frames}
 use Rattle.cb_shapes.specs.declared.sort.Sort.TheVariants as sorts
 use Rattle.cb_beside.specs.Asking.{is_reader, is_ready, reads_by_body, reads_by_class, reads_by_method, reads_called, reads_interface, reads_on, reads_received, reads_selected, reads_special, reads_static, reads_taken, reads_virtual}
 use Rattle.cb_beside.specs.Beside.{beside, now_in, performed_beside, plan_beside}
 use Rattle.cb_beside.proofs.Going.{Same, map_same}
-use Rattle.cb_beside.proofs.Goes.{GivesOne, Goes, Quiet, TakesOne, and_goes, is_given, plain}
+use Rattle.cb_beside.proofs.Goes.{GivesBare, GivesOne, Goes, Quiet, TakesOne, and_goes, plain}
 use Rattle.cb_beside.proofs.Initial.{begun_same, entered_same}
 use Rattle.cb_beside.proofs.NativesGo.{native_goes}
 
@@ -133,10 +135,21 @@ module _ (now : Now) where
       record { said = goes.said; same = λ input printed. ap (option_and_then (by_native now rest)) (goes.same input printed) ∙ native_after rest input (printed ++ goes.said) own }
 
   -- a byte that a native takes is taken, unless there is no instruction behind the call: then there is no step, whatever the input
-  never : (rest : List Value) → after now ≡ None → (found : Option Performed) → is_given found ≡ true → option_and_then (by_native now rest) found ≡ None
-  never rest is None given = absurd (false≢true given)
-  never rest is (Some (Stops plan)) given = absurd (false≢true given)
+  never : (rest : List Value) → after now ≡ None → (found : Option Performed) → GivesBare found → option_and_then (by_native now rest) found ≡ None
+  never rest is None given = absurd given
+  never rest is (Some (Stops plan)) given = absurd given
   never rest is (Some (Gives plan answer)) given = rw is refl
+
+  -- and what takes one places nothing
+  frame_asks : (plan : Plan) → plan.placed ≡ [] → (found : Option MethodFrame)
+      → asked_of (option_map (λ frame. with_left plan (with_frames plan.left (OfMethod frame ∷ now.below))) found) ≡ []
+  frame_asks plan bare None = refl
+  frame_asks plan bare (Some frame) = ap (λ (placed : List Placing). fold add_want [] (flat_map wants_of placed)) bare
+
+  bare_asks : (rest : List Value) (found : Option Performed) → GivesBare found → asked_of (option_and_then (by_native now rest) found) ≡ []
+  bare_asks rest None given = absurd given
+  bare_asks rest (Some (Stops plan)) given = absurd given
+  bare_asks rest (Some (Gives plan answer)) given = frame_asks plan given (answered now.machine.program (with_stack now.frame rest) answer)
 
   performed_takes : (rest : List Value) (piece : List ℕ → List ℕ → Option Performed) (own : Option Performed) → GivesOne piece own → (next : Option ℕ) → after now ≡ next
       → Quiet plan_beside (λ input printed. option_and_then (by_native now rest) (piece input printed)) (option_and_then (by_native now rest) own)
@@ -152,6 +165,8 @@ module _ (now : Now) where
         left = with_left takes.left
             (with_frames takes.left.left (OfMethod (at_place (with_stack now.frame rest) pc now.frame.locals (takes.answer ++ rest)) ∷ now.below));
         takes = λ printed. ap (option_and_then (by_native now rest)) (takes.takes printed) ∙ rw is refl;
+        each = λ input printed. bare_asks rest (piece input printed) (takes.each input printed);
+        asks = bare_asks rest own takes.given;
       })
 
   performed_goes : (reads : Bool) (rest : List Value) (piece : List ℕ → List ℕ → Option Performed) (own : Option Performed)

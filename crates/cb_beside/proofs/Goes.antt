@@ -4,6 +4,7 @@ use Rattle.std.specs.Prelude.{option_and_then, option_map}
 use Rattle.std.proofs.lemmas.List.{append-nil}
 use Rattle.cb_machine.specs.Performing.{Performed, Gives, Stops}
 use Rattle.cb_machine.specs.Plans.{Plan}
+use Rattle.cb_machine.specs.Steps.{asked_of}
 use Rattle.cb_plain.specs.declared.value.Value.{Value}
 use Rattle.cb_beside.specs.Beside.{plan_beside}
 
@@ -27,23 +28,25 @@ abbrev pub Goes : {X : Type 0} → Bool → (List ℕ → List ℕ → X → X) 
 Goes false lay Takes input piece own = Quiet lay piece own
 Goes true lay Takes input piece own = Asks lay Takes input piece own
 
--- a plan takes a byte where it is given one: it leaves none
+-- a plan takes a byte where it is given one: it leaves none. It asks for no room, whatever the input
 pub record TakesOne (piece : List ℕ → List ℕ → Option Plan) (own : Option Plan) : Type 0 where
   pub left : Plan
   pub takes : (printed : List ℕ) → piece (0 ∷ []) printed ≡ Some (plan_beside [] printed left)
+  pub each : (input printed : List ℕ) → asked_of (piece input printed) ≡ []
+  pub asks : asked_of own ≡ []
 
--- and so does a native, which gives an answer beside any input
-abbrev pub is_given : Option Performed → Bool
-is_given (Some (Gives plan answer)) = true
-is_given (Some (Stops plan)) = false
-is_given None = false
+-- and so does a native, which gives an answer beside any input, and places nothing
+abbrev pub GivesBare : Option Performed → Type 0
+GivesBare (Some (Gives plan answer)) = plan.placed ≡ []
+GivesBare (Some (Stops plan)) = ⊥
+GivesBare None = ⊥
 
 pub record GivesOne (piece : List ℕ → List ℕ → Option Performed) (own : Option Performed) : Type 0 where
   pub left : Plan
   pub answer : List Value
   pub takes : (printed : List ℕ) → piece (0 ∷ []) printed ≡ Some (Gives (plan_beside [] printed left) answer)
-  pub each : (input printed : List ℕ) → is_given (piece input printed) ≡ true
-  pub given : is_given own ≡ true
+  pub each : (input printed : List ℕ) → GivesBare (piece input printed)
+  pub given : GivesBare own
 
 -- one that neither reads nor prints
 pub silent : {X : Type 0} (lay : List ℕ → List ℕ → X → X) (piece : List ℕ → List ℕ → Option X) (own : Option X)

@@ -10,7 +10,7 @@ use Rattle.cb_plain.specs.State.{State}
 use Rattle.cb_plain.specs.Updates.{with_input, with_printed}
 use Rattle.cb_beside.specs.Asking.{asks_input}
 use Rattle.cb_beside.specs.Beside.{beside, plan_beside, saying}
-use Rattle.cb_beside.specs.Laws.{Reads, Says, TakesByte, Unread}
+use Rattle.cb_beside.specs.Laws.{AsksAlike, Reads, Says, TakesByte, Unread}
 use Rattle.cb_beside.proofs.Goes.{Asks, Goes, Quiet, TakesOne}
 use Rattle.cb_beside.proofs.StepsGo.{plan_goes}
 
@@ -124,3 +124,15 @@ module _ (machine : Machine) (state : State) where
 
   pub unread_or_takes : Unread machine state ⊎ TakesByte machine state
   unread_or_takes = either_if (asks_input machine.program state) (plan_goes machine state)
+
+  -- what takes a byte places nothing
+  quiet_asks : Quiet plan_beside Piece (plan machine state) → AsksAlike machine state
+  quiet_asks goes = λ input printed. ap asked_of (goes.same input printed) ∙ asked_same input (printed ++ goes.said) (plan machine state)
+
+  alike_if : (reads : Bool) → Goes reads plan_beside TakesOne state.input Piece (plan machine state) → AsksAlike machine state
+  alike_if false goes = quiet_asks goes
+  alike_if true goes =
+      elim goes.turns [ inl quiet ↦ quiet_asks quiet | inr takes ↦ λ input printed. takes.each input printed ∙ sym takes.asks ]
+
+  pub asks_alike : AsksAlike machine state
+  asks_alike = alike_if (asks_input machine.program state) (plan_goes machine state)

@@ -16,7 +16,7 @@ use Rattle.cb_plain.specs.State.{Object}
 use Rattle.cb_plain.specs.Updates.{object_at, with_contents_at, with_input, with_printed}
 use Rattle.cb_beside.specs.Asking.{is_reader}
 use Rattle.cb_beside.specs.Beside.{beside, performed_beside}
-use Rattle.cb_beside.proofs.Goes.{Asks, GivesOne, Goes, and_goes, either_goes, is_given, plain}
+use Rattle.cb_beside.proofs.Goes.{Asks, GivesBare, GivesOne, Goes, and_goes, either_goes, plain}
 
 -- what is printed, and what is read
 abbrev prints : Call → List ℕ → Option Performed
@@ -56,12 +56,12 @@ none_taken : (count : ℕ) → take {A = ℕ} count [] ≡ []
 none_taken zero = refl
 none_taken (suc count) = refl
 
--- an answer is given, whatever is read
-read_given : (call : Call) (bytes : List ℕ) → is_given (reads call bytes) ≡ true
+-- an answer is given and nothing placed, whatever is read
+read_given : (call : Call) (bytes : List ℕ) → GivesBare (reads call bytes)
 read_given call [] = refl
 read_given call (byte ∷ bytes) = refl
 
-into_given : (call : Call) (serial : ℕ) (array : Object) (from : ℕ) (bytes : List ℕ) → is_given (some_into call serial array from bytes) ≡ true
+into_given : (call : Call) (serial : ℕ) (array : Object) (from : ℕ) (bytes : List ℕ) → GivesBare (some_into call serial array from bytes)
 into_given call serial array from [] = refl
 into_given call serial array from (byte ∷ bytes) = refl
 

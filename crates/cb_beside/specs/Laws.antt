@@ -26,6 +26,10 @@ pub record Unread (machine : Machine) (state : State) : Type 0 where
   pub steps : (input printed : List ℕ) → step machine (beside state input printed) ≡ option_map (λ next. beside next input (printed ++ said)) (step machine state)
   pub requests : (input printed : List ℕ) → request machine (beside state input printed) ≡ request machine state
 
+-- A step asks for the same room beside any input, whether it reads or not, and whatever was printed: what takes bytes places nothing.
+abbrev pub AsksAlike : Machine → State → Type 0
+AsksAlike machine state = (input printed : List ℕ) → request machine (beside state input printed) ≡ request machine state
+
 -- A step takes a byte: given one as its input, it leaves none.
 pub record TakesByte (machine : Machine) (state : State) : Type 0 where
   pub next : State

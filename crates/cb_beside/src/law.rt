@@ -6,7 +6,7 @@ ghost use Rattle.cb_machine.specs.Runs.{outcome};
 ghost use Rattle.cb_plain.specs.State.{State};
 ghost use Rattle.cb_beside.specs.Asking.{asks_input};
 ghost use Rattle.cb_beside.specs.Beside.{beside};
-ghost use Rattle.cb_beside.specs.Laws.{Reads, Says, TakesByte, Unread};
+ghost use Rattle.cb_beside.specs.Laws.{AsksAlike, Reads, Says, TakesByte, Unread};
 
 /// A step prints the same bytes behind whatever was printed before, asks for the same room, and leaves the same otherwise. There is one
 /// exactly where there was one.
@@ -30,6 +30,11 @@ pub fn reads_a_front()
 /// A step that doesn't take a byte where it is given one as its input leaves any input as it is, and does the same beside each.
 pub fn takes_or_leaves()
     ensures { (machine : Machine) (state : State) → Unread machine state ⊎ TakesByte machine state }
+{}
+
+/// A step asks for the same room beside any input, whether it reads or not, and whatever was printed before.
+pub fn requests_alike()
+    ensures { (machine : Machine) (state : State) → AsksAlike machine state }
 {}
 
 /// Neither whether a step reads nor how a run has ended is seen of the input or of printed bytes.

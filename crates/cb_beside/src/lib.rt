@@ -4,9 +4,11 @@
 //!
 //! It is laws alone. `Beside` says what such a state and its plan are, `Asking` which step reads, and `Laws` what steps keep: `prints_behind` holds
 //! of each step, `leaves_unread` of those that don't read, and `reads_a_front` of those that do. `takes_or_leaves` says it without `Asking`: a step
-//! takes a byte where it is given one, or looks at none.
+//! takes a byte where it is given one, or looks at none. What room a step asks for is seen of neither (`requests_alike`), also where it reads.
 #![tactic(auto)]
 
 mod law;
 
-pub use law::{ends_alike, leaves_unread, prints_behind, reads_a_front, takes_or_leaves};
+pub use law::{
+    ends_alike, leaves_unread, prints_behind, reads_a_front, requests_alike, takes_or_leaves,
+};
