@@ -24,3 +24,4 @@ pub mod Placed
 pub mod Coded
 pub mod Bodied
 pub mod Zipped
+pub mod Making

@@ -1,5 +1,5 @@
 -- The table in parts: the rows of parts that were gone through, and all of them.
-use Rattle.std.proofs.Common.{◌≡◌, ◌∙◌, ap, sym, subst, arith, ℕ, zero, suc, ◌+◌, ◌<◌, ◌≤◌, List, [], ◌∷◌, ◌++◌, length, map, take, get_or, append-nil}
+use Rattle.std.proofs.Common.{◌≡◌, ◌∙◌, ap, refl, sym, subst, arith, ℕ, zero, suc, ◌+◌, ◌<◌, ◌≤◌, List, [], ◌∷◌, ◌++◌, length, map, take, get_or, append-nil}
 use Rattle.std.specs.List.{AllByRecursion, AllZip}
 use Rattle.std.proofs.lemmas.Grind.{flat_map-append}
 use Rattle.std.proofs.lemmas.List.{append_assoc, map-append, take_more}
@@ -7,6 +7,7 @@ use denote.Ref.{Bor}
 use Rattle.cb_classfile.specs.declared.class.ClassFile.{ClassFile}
 use Rattle.cb_core.specs.declared.row.CoreClass.{CoreClass}
 use Rattle.cb_core.specs.Built.{IsBuilt}
+use Rattle.cb_core.specs.Recorded.{core_records, record_of}
 use Rattle.cb_core.specs.Rowed.{class_row, part_rows}
 use Rattle.cb_core.specs.Sound.{IsSound}
 use Rattle.cb_classfile.specs.Library.{AreLibrary, IsReadable, IsRecordOf}
@@ -58,3 +59,33 @@ are_library rows classes same built = zip_each IsBuilt IsRecordOf (λ row class 
 
 pub all_readable : (rows : List Row) (classes : List ClassFile) → rows ≡ core_classes → AllZip IsBuilt rows classes → AllByRecursion IsReadable classes
 all_readable rows classes same built = zip_of IsSound IsBuilt IsReadable (λ row class sound is. readable row class sound is) rows classes (rows_sound rows same) built
+
+-- records as the definition makes them
+pub made_more : (before classes more : List ClassFile) (rows : List CoreClass) (i : ℕ) (d : CoreClass) (class : ClassFile) → i < length rows → more ≡ classes ++ class ∷ []
+    → classes ≡ before ++ map record_of (map class_row (take i rows)) → class ≡ record_of (class_row (get_or rows i d)) → more ≡ before ++ map record_of (map class_row (take (i + 1) rows))
+made_more before classes more rows i d class below pushed so_far is =
+    let front : List ClassFile = map record_of (map class_row (take i rows)) in
+    let these : map record_of (map class_row (take (i + 1) rows)) ≡ front ++ record_of (class_row (get_or rows i d)) ∷ [] =
+    ap (λ (rows : List CoreClass). map record_of (map class_row rows)) (take_more rows i d below) ∙ ap (map record_of) (map-append class_row (take i rows) (get_or rows i d ∷ []))
+    ∙ map-append record_of (map class_row (take i rows)) (class_row (get_or rows i d) ∷ []) in
+    pushed ∙ ap (λ classes. classes ++ class ∷ []) so_far ∙ append_assoc before front (class ∷ []) ∙ ap (λ rest. before ++ rest) (ap (λ class. front ++ class ∷ []) is ∙ sym these)
+
+pub made_all : (before classes : List ClassFile) (rows : List CoreClass) (i : ℕ) → length rows ≤ i → classes ≡ before ++ map record_of (map class_row (take i rows))
+    → classes ≡ before ++ map record_of (map class_row rows)
+made_all before classes rows i past so_far = so_far ∙ ap (λ rows. before ++ map record_of (map class_row rows)) (take_past rows i past)
+
+pub part_made : (classes more : List ClassFile) (parts : List (Bor (List CoreClass))) (i : ℕ) (d : Bor (List CoreClass)) → i < length parts → classes ≡ map record_of (part_rows (take i parts))
+    → more ≡ classes ++ map record_of (map class_row (get_or parts i d).now) → more ≡ map record_of (part_rows (take (i + 1) parts))
+part_made classes more parts i d below so_far added =
+    added ∙ ap (λ classes. classes ++ map record_of (map class_row (get_or parts i d).now)) so_far
+    ∙ sym (ap (map record_of) (parts_more parts i d below) ∙ map-append record_of (part_rows (take i parts)) (map class_row (get_or parts i d).now))
+
+pub parts_made : (classes : List ClassFile) (parts : List (Bor (List CoreClass))) (i : ℕ) → length parts ≤ i → classes ≡ map record_of (part_rows (take i parts)) → classes ≡ map record_of (part_rows parts)
+parts_made classes parts i past so_far = so_far ∙ ap (λ parts. map record_of (part_rows parts)) (take_past parts i past)
+
+pub records_are : core_records ≡ map record_of core_classes
+unfolding core_records
+records_are = refl
+
+pub records_made : (rows : List Row) (classes : List ClassFile) → rows ≡ core_classes → classes ≡ map record_of rows → classes ≡ core_records
+records_made rows classes same made = made ∙ ap (map record_of) same ∙ sym records_are

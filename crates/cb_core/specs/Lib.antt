@@ -1,5 +1,6 @@
 pub mod Built
 pub mod Entered
+pub mod Recorded
 pub mod Rowed
 pub mod Sound
 -- what the public clauses cite of the crates below

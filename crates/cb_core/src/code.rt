@@ -5,6 +5,7 @@ ghost use Rattle.cb_core.specs.Built.{places_from, size_of};
 ghost use Rattle.cb_core.specs.Entered.{HasCode, HasRoom, Puts};
 ghost use Rattle.cb_core.specs.Rowed.{insn_row};
 ghost use Rattle.cb_core.specs.Sound.{IsSoundInsn, code_room};
+ghost use Rattle.cb_core.specs.Recorded.{entered, with_code};
 
 use crate::insn::insn_of;
 use crate::row::Instruction;
@@ -51,7 +52,8 @@ pub(crate) fn code_of(
     requires room { HasRoom (code_room (map insn_row rows.now)) pool.old }
     requires placed { places.now ≡ places_from 0 (map insn_row rows.now) }
     requires sound { AllByRecursion (IsSoundInsn (length rows.now)) (map insn_row rows.now) }
-    ensures { IfOk result (Puts (code_room (map insn_row rows.now)) (HasCode (map insn_row rows.now)) pool.old pool.new) }
+    ensures put { IfOk result (Puts (code_room (map insn_row rows.now)) (HasCode (map insn_row rows.now)) pool.old pool.new) }
+    ensures made { IfOk result (λ code. with_code places.now (map insn_row rows.now) pool.old ≡ entered pool.new code) }
 {
     let mut code = Code::new(alloc);
     for (i, row) in rows.iter().enumerate() {

@@ -2,6 +2,7 @@
 ghost use Rattle.std.specs.Prelude.{◌≡◌, ◌+◌, IfOk, Some, length};
 ghost use Rattle.cb_core.specs.Entered.{HasRoom, IsCallable, IsClassOf, IsFieldOf, IsMethodOf, IsNameAndType, IsStringOf, IsTextOf, MayEnter, MayName, Puts, Stands};
 ghost use Rattle.cb_core.specs.Sound.{IsShort, IsSoundClassName, IsSoundFieldDescriptor, IsSoundFieldName, IsSoundMethodDescriptor, IsSoundMethodName};
+ghost use Rattle.cb_core.specs.Recorded.{entered, with_class, with_constant, with_field, with_method, with_name_and_type, with_string, with_text};
 
 use cb_classfile::{Constant, Pool, Units};
 use cb_plain::OutOfMemory;
@@ -12,6 +13,7 @@ fn enter(pool: &mut Pool, constant: Constant) -> Result<u16, OutOfMemory>
     requires { MayEnter pool.old constant }
     ensures put { IfOk result (Puts 1 (Stands constant) pool.old pool.new) }
     ensures next { IfOk result (λ index. index ≡ length pool.old + 1) }
+    ensures made { IfOk result (λ index. with_constant constant pool.old ≡ entered pool.new index) }
 {
     // What stands there is a pool, so it is one with the constant behind it too.
     let _ = pool.constants();
@@ -36,6 +38,7 @@ pub(crate) fn enter_text(alloc: Global, pool: &mut Pool, text: &str) -> Result<u
     requires short { IsShort text.now }
     ensures put { IfOk result (Puts 1 (IsTextOf text.now) pool.old pool.new) }
     ensures next { IfOk result (λ index. index ≡ length pool.old + 1) }
+    ensures made { IfOk result (λ index. with_text text.now pool.old ≡ entered pool.new index) }
 {
     let units = units_of(alloc, text)?;
     enter(pool, Constant::Utf8(units))
@@ -45,7 +48,8 @@ pub(crate) fn enter_text(alloc: Global, pool: &mut Pool, text: &str) -> Result<u
 pub(crate) fn enter_class(alloc: Global, pool: &mut Pool, name: &str) -> Result<u16, OutOfMemory>
     requires room { HasRoom 2 pool.old }
     requires sound { IsSoundClassName name.now }
-    ensures { IfOk result (Puts 2 (IsClassOf name.now) pool.old pool.new) }
+    ensures put { IfOk result (Puts 2 (IsClassOf name.now) pool.old pool.new) }
+    ensures made { IfOk result (λ index. with_class name.now pool.old ≡ entered pool.new index) }
 {
     let text = enter_text(alloc, pool, name)?;
     enter(pool, Constant::Class(text))
@@ -55,7 +59,8 @@ pub(crate) fn enter_class(alloc: Global, pool: &mut Pool, name: &str) -> Result<
 pub(crate) fn enter_string(alloc: Global, pool: &mut Pool, text: &str) -> Result<u16, OutOfMemory>
     requires room { HasRoom 2 pool.old }
     requires short { IsShort text.now }
-    ensures { IfOk result (Puts 2 (IsStringOf text.now) pool.old pool.new) }
+    ensures put { IfOk result (Puts 2 (IsStringOf text.now) pool.old pool.new) }
+    ensures made { IfOk result (λ index. with_string text.now pool.old ≡ entered pool.new index) }
 {
     let text = enter_text(alloc, pool, text)?;
     enter(pool, Constant::String(text))
@@ -70,7 +75,8 @@ fn enter_name_and_type(
 ) -> Result<u16, OutOfMemory>
     requires room { HasRoom 3 pool.old }
     requires named { MayName name.now descriptor.now }
-    ensures { IfOk result (Puts 3 (IsNameAndType name.now descriptor.now) pool.old pool.new) }
+    ensures put { IfOk result (Puts 3 (IsNameAndType name.now descriptor.now) pool.old pool.new) }
+    ensures made { IfOk result (λ index. with_name_and_type name.now descriptor.now pool.old ≡ entered pool.new index) }
 {
     let name = enter_text(alloc, pool, name)?;
     let descriptor = enter_text(alloc, pool, descriptor)?;
@@ -89,7 +95,8 @@ pub(crate) fn enter_field(
     requires class { IsSoundClassName class.now }
     requires name { IsSoundFieldName name.now }
     requires descriptor { IsSoundFieldDescriptor descriptor.now }
-    ensures { IfOk result (Puts 6 (IsFieldOf class.now name.now descriptor.now) pool.old pool.new) }
+    ensures put { IfOk result (Puts 6 (IsFieldOf class.now name.now descriptor.now) pool.old pool.new) }
+    ensures made { IfOk result (λ index. with_field class.now name.now descriptor.now pool.old ≡ entered pool.new index) }
 {
     let holder = enter_class(alloc, pool, class)?;
     let member = enter_name_and_type(alloc, pool, name, descriptor)?;
@@ -107,7 +114,8 @@ pub(crate) fn enter_method(
     requires room { HasRoom 6 pool.old }
     requires class { IsSoundClassName class.now }
     requires names { IsCallable name.now descriptor.now }
-    ensures { IfOk result (Puts 6 (IsMethodOf class.now name.now descriptor.now) pool.old pool.new) }
+    ensures put { IfOk result (Puts 6 (IsMethodOf class.now name.now descriptor.now) pool.old pool.new) }
+    ensures made { IfOk result (λ index. with_method class.now name.now descriptor.now pool.old ≡ entered pool.new index) }
 {
     let holder = enter_class(alloc, pool, class)?;
     let member = enter_name_and_type(alloc, pool, name, descriptor)?;

@@ -4,6 +4,7 @@ ghost use Rattle.cb_classfile.specs.Library.{SaysInsn, with_operand};
 ghost use Rattle.cb_core.specs.Entered.{HasRoom, Puts};
 ghost use Rattle.cb_core.specs.Rowed.{insn_row};
 ghost use Rattle.cb_core.specs.Sound.{IsSoundInsn, insn_room};
+ghost use Rattle.cb_core.specs.Recorded.{entered, with_insn};
 
 use crate::constants::{enter_class, enter_field, enter_method, enter_string};
 use crate::row::Instruction;
@@ -20,8 +21,9 @@ pub(crate) fn insn_of(
 ) -> Result<Insn, OutOfMemory>
     requires room { HasRoom (insn_room (insn_row row.now)) pool.old }
     requires sound { IsSoundInsn (length places.now) (insn_row row.now) }
-    ensures { IfOk result (Puts (insn_room (insn_row row.now))
+    ensures put { IfOk result (Puts (insn_room (insn_row row.now))
         (λ pool insn. SaysInsn pool places.now (insn_row row.now) insn) pool.old pool.new) }
+    ensures made { IfOk result (λ insn. with_insn places.now (insn_row row.now) pool.old ≡ entered pool.new insn) }
 {
     match row {
         Instruction::Plain(opcode) => Ok(with_operand(*opcode, Operand::Nothing)),

@@ -7,6 +7,7 @@ ghost use Rattle.cb_core.specs.Built.{IsBuilt};
 ghost use Rattle.cb_core.specs.Entered.{HasRoom, IsNewPool, Puts};
 ghost use Rattle.cb_core.specs.Rowed.{class_row};
 ghost use Rattle.cb_core.specs.Sound.{IsSound, IsSoundClassName};
+ghost use Rattle.cb_core.specs.Recorded.{entered, new_pool, record_of, with_class, with_each, with_superclass};
 
 use crate::constants::{enter_class, enter_text};
 use crate::members::{fields_of, methods_of};
@@ -21,7 +22,8 @@ const VERSION: u16 = 52;
 /// The record of a row. Takes time in the size of the row.
 pub(crate) fn record(alloc: Global, row: &CoreClass) -> Result<ClassFile, OutOfMemory>
     requires { IsSound (class_row row.now) }
-    ensures { IfOk result (IsBuilt (class_row row.now)) }
+    ensures built { IfOk result (IsBuilt (class_row row.now)) }
+    ensures made { IfOk result (λ class. class ≡ record_of (class_row row.now)) }
 {
     let mut pool = new_pool(alloc)?;
     let this_class = enter_class(alloc, &mut pool, row.name)?;
@@ -44,7 +46,8 @@ pub(crate) fn record(alloc: Global, row: &CoreClass) -> Result<ClassFile, OutOfM
 
 /// A pool that has the names of the two attributes.
 fn new_pool(alloc: Global) -> Result<Pool, OutOfMemory>
-    ensures { IfOk result IsNewPool }
+    ensures built { IfOk result IsNewPool }
+    ensures made { IfOk result (λ pool. pool ≡ new_pool) }
 {
     let mut pool = Pool::new(alloc);
     enter_text(alloc, &mut pool, "Code")?;
@@ -56,7 +59,8 @@ fn new_pool(alloc: Global) -> Result<Pool, OutOfMemory>
 fn superclass_of(alloc: Global, pool: &mut Pool, name: &Option<&str>) -> Result<u16, OutOfMemory>
     requires room { HasRoom 2 pool.old }
     requires sound { IfSome (option_map (λ name. name.now) name.now) IsSoundClassName }
-    ensures { IfOk result (Puts 2 (λ pool index. SaysSuperclass pool (option_map (λ name. name.now) name.now) index) pool.old pool.new) }
+    ensures put { IfOk result (Puts 2 (λ pool index. SaysSuperclass pool (option_map (λ name. name.now) name.now) index) pool.old pool.new) }
+    ensures made { IfOk result (λ index. with_superclass (option_map (λ name. name.now) name.now) pool.old ≡ entered pool.new index) }
 {
     match name {
         Some(name) => enter_class(alloc, pool, name),
@@ -68,8 +72,9 @@ fn superclass_of(alloc: Global, pool: &mut Pool, name: &Option<&str>) -> Result<
 fn interfaces_of(alloc: Global, pool: &mut Pool, names: &[&str]) -> Result<Numbers, OutOfMemory>
     requires room { HasRoom (2 * length names.now) pool.old }
     requires sound { AllByRecursion IsSoundClassName (map (λ name. name.now) names.now) }
-    ensures { IfOk result (Puts (2 * length names.now)
+    ensures put { IfOk result (Puts (2 * length names.now)
         (λ pool indices. AllZip (λ name index. class_at pool index ≡ Some name) (map (λ name. name.now) names.now) indices) pool.old pool.new) }
+    ensures made { IfOk result (λ indices. with_each with_class (map (λ name. name.now) names.now) pool.old ≡ entered pool.new indices) }
 {
     let mut indices = Numbers::with_capacity(alloc, names.len())?;
     for name in names {

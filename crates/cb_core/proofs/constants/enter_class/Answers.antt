@@ -1,5 +1,6 @@
 use Rattle.std.proofs.Common.{arith}
 use Rattle.cb_core.proofs.Named.{class_put, may_class, ok_then}
+use Rattle.cb_core.proofs.Making.{class_made}
 use Rattle.cb_core.proofs.constants.enter_class.Goals as goal
 
 pub enter_text-requires : goal.enter_text-requires
@@ -8,5 +9,8 @@ enter_text-requires c = record { room = omega (arith, c.requires.room); short = 
 pub enter-requires : goal.enter-requires
 enter-requires c = may_class _ _ _ _ c.requires.room c.requires.sound c.in_ok-text.ensures.put
 
-pub returns : goal.returns
-returns c = ok_then _ _ _ c.enter.ensures.put (λ index put. class_put _ _ _ _ _ index c.in_ok-text.ensures.put put)
+pub returns-clause-put : goal.returns-clause-put
+returns-clause-put c = ok_then _ _ _ c.enter.ensures.put (λ index put. class_put _ _ _ _ _ index c.in_ok-text.ensures.put put)
+
+pub returns-clause-made : goal.returns-clause-made
+returns-clause-made c = class_made _ _ _ _ _ c.enter.result c.in_ok-text.ensures.made c.enter.ensures.made
