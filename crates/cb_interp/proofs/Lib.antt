@@ -34,14 +34,15 @@ mod QuickData
 mod QuickPlaces
 mod QuickPlain
 mod QuickSteps
+mod RunBeside
 mod RunBy
 mod RunCounts
+mod RunEnds
+mod RunGoes
 mod RunGrown
 mod RunHere
 mod RunLoop
-mod RunQuick
 mod RunReads
-mod RunStrays
 mod RunTurns
 mod RunTyped
 mod SuitedCalls

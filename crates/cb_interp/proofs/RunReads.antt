@@ -1,6 +1,5 @@
 -- Turns of a run that don't ask the input, and those in which a call of it failed.
 use Rattle.std.proofs.Common.{◌≡◌, refl, subst, ℕ, List, Option}
-use Rattle.std.proofs.KnownBytes.{Keeps-refl}
 use Rattle.std.specs.Prelude.{IfErr}
 use Rattle.std.specs.declared.result.Result.{Result}
 use Rattle.std.specs.declared.result.Result.TheVariants.{Err, Ok}
@@ -32,13 +31,13 @@ module _ {Facts : Type 0} (rules : Rules Facts) (machine : Machine) (before afte
   fails_read (Ok done) is = tt
   fails_read (Err stop) is = fail_reads stop is
 
-  still : (left : Option (List ℕ)) (stop : Stop) → StopsBy rules machine stop before after → LosesBy machine before.state stop left left
-  still left stops.InputFault is = absurd is
-  still left other is = Keeps-refl left
+  still : {In : Type 0} (left : In → Option (List ℕ)) (gave : In → ℕ → List ℕ → In → Type 0) (source : In) (stop : Stop) → StopsBy rules machine stop before after → LosesBy left gave machine before.state stop source source
+  still left gave source stops.InputFault is = absurd is
+  still left gave source other is = refl
 
-  pub stays_still : (left : Option (List ℕ)) (result : Result (Unit {0}) Stop) → IfErr result (λ stop. StopsBy rules machine stop before after) → IfErr result (λ stop. LosesBy machine before.state stop left left)
-  stays_still left (Ok done) is = tt
-  stays_still left (Err stop) is = still left stop is
+  pub stays_still : {In : Type 0} (left : In → Option (List ℕ)) (gave : In → ℕ → List ℕ → In → Type 0) (source : In) (result : Result (Unit {0}) Stop) → IfErr result (λ stop. StopsBy rules machine stop before after) → IfErr result (λ stop. LosesBy left gave machine before.state stop source source)
+  stays_still left gave source (Ok done) is = tt
+  stays_still left gave source (Err stop) is = still left gave source stop is
 
   never : (stop : Stop) → StopsBy rules machine stop before after → stop ≡ stops.InputFault → ⊥
   never stop is same = subst (λ stop. StopsBy rules machine stop before after) same is
@@ -84,8 +83,8 @@ never_room machine state (Ok done) fails same = cc same
 never_room machine state (Err stop) fails same = only_input machine state stop fails (cc same)
 
 -- no call of the input failed
-pub unasked_still : (machine : Machine) (state : State) (left : Option (List ℕ)) (result : Result (Unit {0}) Stop) → (result ≡ Err stops.InputFault → ⊥)
-    → IfErr result (λ stop. LosesBy machine state stop left left)
-unasked_still machine state left (Ok done) never = tt
-unasked_still machine state left (Err stops.InputFault) never = absurd (never refl)
-unasked_still machine state left (Err other) never = Keeps-refl left
+pub unasked_still : {In : Type 0} (left : In → Option (List ℕ)) (gave : In → ℕ → List ℕ → In → Type 0) (source : In) (machine : Machine) (state : State) (result : Result (Unit {0}) Stop)
+    → (result ≡ Err stops.InputFault → ⊥) → IfErr result (λ stop. LosesBy left gave machine state stop source source)
+unasked_still left gave source machine state (Ok done) never = tt
+unasked_still left gave source machine state (Err stops.InputFault) never = absurd (never refl)
+unasked_still left gave source machine state (Err other) never = refl

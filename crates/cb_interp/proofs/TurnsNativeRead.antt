@@ -20,6 +20,7 @@ use Rattle.cb_machine.specs.Steps.{plan}
 use Rattle.cb_machine.specs.Throwing.{throws}
 use Rattle.cb_natives.proofs.Laws.{byte_performed, empty_performed, range_performed}
 use Rattle.cb_natives.specs.Exceptions.{site_of}
+use Rattle.cb_natives.specs.Asking.{NoCall}
 use Rattle.cb_natives.specs.Input.{IsRange, Loses, PlansRange, ReadsByte, ReadsRange, byte_number, count_number, with_bytes}
 use Rattle.cb_natives.specs.declared.answers.Answer.{Answer}
 use Rattle.cb_natives.specs.declared.answers.Answer.TheVariants as answers
@@ -39,14 +40,18 @@ use Rattle.cb_interp.proofs.NativesRead.{GivesSo, reader_goes, reader_takes, rea
 use Rattle.cb_interp.proofs.TurnsNeed.{steps_on}
 
 -- a failed call left what was there
-pub kept_fails : (machine : Machine) (state : State) (left leaves : Option (List ℕ)) → TakesInput machine state → Keeps left leaves → Fails machine state left leaves
-kept_fails machine state left leaves takes kept = record { front = []; consumes = Consumes-kept left left leaves [] (Consumes-nil left) kept; takes = takes }
+pub kept_fails : {In : Type 0} (left : In → Option (List ℕ)) (gave : In → ℕ → List ℕ → In → Type 0) (machine : Machine) (state : State) (source behind : In) → TakesInput machine state → Keeps (left source) (left behind)
+    → Fails left gave machine state source behind
+kept_fails left gave machine state source behind takes kept =
+    record { front = []; mid = source; calls = NoCall; consumes = Consumes-kept (left source) (left source) (left behind) [] (Consumes-nil (left source)) kept; takes = takes }
 
 -- or one behind others that took fewer bytes than the step does
-pub loses_fails : {In : Type 0} (gave : In → ℕ → List ℕ → In → Type 0) (first : In) (machine : Machine) (state : State) (count : ℕ) (left leaves : Option (List ℕ)) → ((bytes : List ℕ) → length bytes ≤ count → Takes machine state bytes)
-    → Loses gave count first left leaves → Fails machine state left leaves
-loses_fails gave first machine state count left leaves takes loses = record {
+pub loses_fails : {In : Type 0} (left : In → Option (List ℕ)) (gave : In → ℕ → List ℕ → In → Type 0) (machine : Machine) (state : State) (count : ℕ) (source behind : In) → ((bytes : List ℕ) → length bytes ≤ count → Takes machine state bytes)
+    → Loses gave count source (left source) (left behind) → Fails left gave machine state source behind
+loses_fails left gave machine state count source behind takes loses = record {
   front = loses.front;
+  mid = loses.mid;
+  calls = loses.calls;
   consumes = loses.consumes;
   takes = takes (loses.front ++ 0 ∷ []) (omega (arith, loses.few, length-append loses.front (0 ∷ [])));
 }
@@ -95,12 +100,13 @@ module _ (program : Linked) (index : ℕ → ℕ) (objects : List (Option Object
         reader_takes program index objects limit held outside decoded method at asks natives.ReadByte is 1 (omega arith) (λ bytes. objects) (λ bytes. answers.Int (byte_number bytes)) byte_gives
         (0 ∷ []) (omega arith)
 
-    pub byte_turned : {Facts : Type 0} (rules : Rules Facts) (facts : Facts) (pc : ℕ) → decoded.next ≡ Some pc → {In : Type 0} (gave : In → ℕ → List ℕ → In → Type 0) (first last : In) (left leaves : Option (List ℕ)) (answer : Answer) → ReadsByte gave first last left leaves answer
-        → (roots : Roots) → roots ≡ behind_answer 1 (answer_values answer) pc held → TurnedIn rules machine outside view (seen index objects roots) facts facts left leaves
-    byte_turned rules facts pc next gave first last left leaves answer reads roots behind =
+    pub byte_turned : {Facts In : Type 0} (left : In → Option (List ℕ)) (gave : In → ℕ → List ℕ → In → Type 0) (rules : Rules Facts) (facts : Facts) (pc : ℕ) → decoded.next ≡ Some pc → (source behind : In) (answer : Answer)
+        → ReadsByte gave source behind (left source) (left behind) answer
+        → (roots : Roots) → roots ≡ behind_answer 1 (answer_values answer) pc held → TurnedIn left gave rules machine outside view (seen index objects roots) facts facts source behind
+    byte_turned left gave rules facts pc next source behind answer reads roots leaves =
         reader_turn program index objects limit held outside decoded method at asks natives.ReadByte is 1 (omega arith) (λ bytes. objects) (λ bytes. answers.Int (byte_number bytes)) byte_gives
-        linked fits typed rules facts pc next left leaves reads.bytes reads.took index objects facts roots refl refl refl
-        (behind ∙ ap (λ (count : ℕ). behind_answer count (answer_values answer) pc held) (sym one_counted)
+        linked fits typed left gave rules facts pc next source behind reads.bytes reads.took reads.asked index objects facts roots refl refl refl
+        (leaves ∙ ap (λ (count : ℕ). behind_answer count (answer_values answer) pc held) (sym one_counted)
         ∙ ap (λ (answer : Answer). behind_answer (argument_count program decoded) (answer_values answer) pc held) reads.gives)
 
   -- ---- a range
@@ -150,11 +156,11 @@ module _ (program : Linked) (index : ℕ → ℕ) (objects : List (Option Object
             reader_takes program index objects limit held outside decoded method at asks natives.ReadRange is count some (with_bytes objects array from)
             (λ bytes. answers.Int (count_number (length bytes))) range_gives
 
-        pub range_turned : {Facts : Type 0} (rules : Rules Facts) (facts : Facts) (pc : ℕ) → decoded.next ≡ Some pc → {In : Type 0} (gave : In → ℕ → List ℕ → In → Type 0) (first last : In) (left leaves : Option (List ℕ)) (answer : Answer)
-            → (index-now : ℕ → ℕ) (kept : List (Option Object)) (now : Facts) (roots : Roots) → ReadsRange gave first last left leaves count objects kept array from answer → index-now ≡ index → now ≡ facts
-            → roots ≡ behind_answer 4 (answer_values answer) pc held → TurnedIn rules machine outside view (seen index-now kept roots) facts now left leaves
-        range_turned rules facts pc next gave first last left leaves answer index-now kept now roots reads places knows behind =
+        pub range_turned : {Facts In : Type 0} (left : In → Option (List ℕ)) (gave : In → ℕ → List ℕ → In → Type 0) (rules : Rules Facts) (facts : Facts) (pc : ℕ) → decoded.next ≡ Some pc → (source behind : In) (answer : Answer)
+            → (index-now : ℕ → ℕ) (kept : List (Option Object)) (now : Facts) (roots : Roots) → ReadsRange gave source behind (left source) (left behind) count objects kept array from answer → index-now ≡ index → now ≡ facts
+            → roots ≡ behind_answer 4 (answer_values answer) pc held → TurnedIn left gave rules machine outside view (seen index-now kept roots) facts now source behind
+        range_turned left gave rules facts pc next source behind answer index-now kept now roots reads places knows leaves =
             reader_turn program index objects limit held outside decoded method at asks natives.ReadRange is count some (with_bytes objects array from)
-            (λ bytes. answers.Int (count_number (length bytes))) range_gives linked fits typed rules facts pc next left leaves reads.bytes reads.took index-now kept now roots places reads.stand knows
-            (behind ∙ ap (λ (count : ℕ). behind_answer count (answer_values answer) pc held) (sym four_counted)
+            (λ bytes. answers.Int (count_number (length bytes))) range_gives linked fits typed left gave rules facts pc next source behind reads.bytes reads.took reads.asked index-now kept now roots places reads.stand knows
+            (leaves ∙ ap (λ (count : ℕ). behind_answer count (answer_values answer) pc held) (sym four_counted)
             ∙ ap (λ (answer : Answer). behind_answer (argument_count program decoded) (answer_values answer) pc held) reads.gives)

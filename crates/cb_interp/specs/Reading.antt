@@ -1,6 +1,6 @@
--- What a run reads: what an input tells of what it has left, which step asks it for bytes, and what is left of it then.
-use Rattle.std.specs.Prelude.{◌≡◌, ◌&&◌, ◌++◌, ◌⊎◌, ℕ, Bool, true, false, List, [], ◌∷◌, nat_lt, Option, None, Some, if◌then◌else◌}
-use Rattle.std.specs.Io.KnownBytes.{Consumes, Keeps}
+-- What a run reads: what an input tells of what it has left, which step asks it for bytes, and what that is given.
+use Rattle.std.specs.Prelude.{◌≡◌, ◌<◌, ◌&&◌, ◌++◌, ◌⊎◌, ℕ, Bool, true, false, List, [], ◌∷◌, length, nat_lt, Option, None, Some, if◌then◌else◌}
+use Rattle.std.specs.Io.KnownBytes.{Consumes, IsAtEnd}
 use Rattle.cb_act.specs.Turning.{Outside, TurnMade, moment_of, state_of}
 use Rattle.cb_heap.specs.Reading.{View}
 use Rattle.cb_heap.specs.Rules.{Rules}
@@ -8,6 +8,7 @@ use Rattle.cb_library.specs.declared.native.Native.{Native}
 use Rattle.cb_library.specs.declared.native.Native.TheVariants as natives
 use Rattle.cb_machine.specs.Machine.{Machine}
 use Rattle.cb_machine.specs.Steps.{step}
+use Rattle.cb_natives.specs.Asking.{Calls, GaveNone}
 use Rattle.cb_plain.specs.State.{State}
 use Rattle.cb_plain.specs.Updates.{with_input}
 use Rattle.cb_safety.specs.States.{IsInput}
@@ -43,33 +44,40 @@ TakesInput machine state = Takes machine state (0 ∷ [])
 abbrev pub with_given : Outside → List ℕ → Outside
 with_given outside given = record { input = given; printed = outside.printed }
 
--- a turn is made that prints nothing, and what it reads came from the input. The input is given as it is told; where it isn't told, a step
--- that asks it may be given another one
-pub record TurnedIn {Facts : Type 0} (rules : Rules Facts) (machine : Machine) (outside : Outside) (before after : View) (facts now : Facts)
-    (left leaves : Option (List ℕ)) : Type 0 where
-  pub given : List ℕ
-  pub asks : (given ≡ outside.input) ⊎ TakesInput machine (state_of before outside)
-  pub told : left ≡ Some outside.input → given ≡ outside.input
-  pub bytes : IsInput outside.input → IsInput given
-  pub rest : List ℕ
-  pub read : List ℕ
-  pub made : TurnMade rules machine (moment_of before (with_given outside given) facts) (moment_of after (with_given outside rest) now)
-  pub whole : given ≡ read ++ rest
-  pub consumes : Consumes left leaves read
+-- a step that asks an input is given what its calls gave: all that it takes, so that more may stand behind it, or fewer bytes, where a call
+-- gave none. Where the input tells its bytes, it has lost these
+pub record IsGiven {In : Type 0} (left : In → Option (List ℕ)) (gave : In → ℕ → List ℕ → In → Type 0) (source behind : In) (read rest : List ℕ) : Type 0 where
+  pub mid : In
+  pub calls : Calls gave source read mid
+  pub ends : ((0 < length rest) × (behind ≡ mid)) ⊎ ((rest ≡ []) × GaveNone gave mid behind)
+  pub bytes : IsInput (read ++ rest)
+  pub consumes : Consumes (left source) (left behind) read
+  pub end : rest ≡ [] → IsAtEnd (left behind)
+
+-- a turn is made that prints nothing: it doesn't ask the input, or it is given what calls gave
+pub data TurnedIn {Facts In : Type 0} (left : In → Option (List ℕ)) (gave : In → ℕ → List ℕ → In → Type 0) (rules : Rules Facts) (machine : Machine) (outside : Outside)
+    (before after : View) (facts now : Facts) (source behind : In) : Type 0 where
+  Silent : TurnMade rules machine (moment_of before outside facts) (moment_of after outside now) → behind ≡ source
+      → TurnedIn left gave rules machine outside before after facts now source behind
+  Reading : (read rest : List ℕ) → TakesInput machine (state_of before outside) → IsGiven left gave source behind read rest
+      → TurnMade rules machine (moment_of before (with_given outside (read ++ rest)) facts) (moment_of after (with_given outside rest) now)
+      → TurnedIn left gave rules machine outside before after facts now source behind
 
 -- why a turn that reads isn't made: a call of the input failed, which the step asks
 abbrev pub InputFails : Machine → State → Stop → Type 0
 InputFails machine state stops.InputFault = TakesInput machine state
 InputFails machine state other = ⊥
 
--- a call of the input failed: others of the same step may have taken some bytes before, but none that the step doesn't take, and fewer than it
+-- a call of the input failed: others of the same step may have given some bytes before, but none that the step doesn't take, and fewer than it
 -- takes
-pub record Fails (machine : Machine) (state : State) (left leaves : Option (List ℕ)) : Type 0 where
+pub record Fails {In : Type 0} (left : In → Option (List ℕ)) (gave : In → ℕ → List ℕ → In → Type 0) (machine : Machine) (state : State) (source behind : In) : Type 0 where
   pub front : List ℕ
-  pub consumes : Consumes left leaves front
+  pub mid : In
+  pub calls : Calls gave source front mid
+  pub consumes : Consumes (left source) (left behind) front
   pub takes : Takes machine state (front ++ 0 ∷ [])
 
--- what is left of the input where no turn is made
-abbrev pub LosesBy : Machine → State → Stop → (left leaves : Option (List ℕ)) → Type 0
-LosesBy machine state stops.InputFault left leaves = Fails machine state left leaves
-LosesBy machine state other left leaves = Keeps left leaves
+-- what becomes of the input where no turn is made
+abbrev pub LosesBy : {In : Type 0} → (In → Option (List ℕ)) → (In → ℕ → List ℕ → In → Type 0) → Machine → State → Stop → (source behind : In) → Type 0
+LosesBy left gave machine state stops.InputFault source behind = Fails left gave machine state source behind
+LosesBy left gave machine state other source behind = behind ≡ source

@@ -1,14 +1,13 @@
 // Runs over a store.
 ghost use Rattle.cb_heap.specs.Storage.{view_in};
-ghost use Rattle.std.specs.Prelude.{◌≡◌, ◌⊎◌, ◌+◌, ◌*◌, ◌^◌, ◌<◌, ℕ, true, length, IfSome, IsTrue, List};
+ghost use Rattle.std.specs.Prelude.{◌≡◌, ◌+◌, ◌*◌, ◌^◌, ◌<◌, ℕ, true, length, IsTrue, List, []};
 ghost use Rattle.cb_heap.specs.Kept.{is_kept};
 ghost use Rattle.cb_heap.specs.Reading.{serial_of};
 ghost use Rattle.cb_io.specs.Faults.{CountsFaults};
 ghost use Rattle.cb_plain.specs.State.{State};
 ghost use Rattle.cb_safety.specs.States.{IsTypedState};
 ghost use Rattle.std.specs.Io.KnownBytes.{Appends};
-ghost use Rattle.cb_interp.specs.Reading.{as_bytes};
-ghost use Rattle.cb_interp.specs.Running.{Ended, IsEndOf, IsThrownAt, IsUncaught, Ready, Strays, outside_of};
+ghost use Rattle.cb_interp.specs.Running.{Ended, IsEndOf, IsThrownAt, IsUncaught, Ready, outside_of};
 ghost use Rattle.cb_act.specs.Turning.{StandsAt, machine_of, moment_of, most_at_once};
 ghost use Rattle.cb_interp.specs.declared.end.End.TheVariants as ends;
 ghost use Rattle.cb_interp.specs.declared.stop.Stop.TheVariants as stops;
@@ -23,8 +22,8 @@ use cb_link::Program;
 use cb_plain::Request;
 
 /// Runs a program from where roots and store stand, for at most so many steps. Each is a turn: room is made for what the step places, the step
-/// is made, and the store collects where that calls `System.gc`. `full` is the state of the machine that never frees for which they stand;
-/// where the input tells its bytes, it has these. Takes no memory but what the store takes.
+/// is made, and the store collects where that calls `System.gc`. `full` is the state of the machine that never frees for which they stand, without
+/// an input: a step that asks it is given what its calls give. Takes no memory but what the store takes.
 pub fn run<S: Store, I: Source, O: Sink>(
     program: &Program,
     store: &mut S,
@@ -38,12 +37,10 @@ pub fn run<S: Store, I: Source, O: Sink>(
     requires whole { IsTypedState program.now full }
     requires stands { StandsAt (moment_of (view_in (S.storage store.old) roots.old.roots) (outside_of full) (S.storage store.old).facts) full }
     requires few { S.rules.fixed ≡ true → length (S.storage store.old).kept + (steps + 1) * most_at_once < 2 ^ 63 }
-    requires told { IfSome (as_bytes (I.left input.old)) (λ left. full.input ≡ left) }
-    ensures ended { Ended S.rules (machine_of program.now roots.old.limit) steps result full
+    requires unread { full.input ≡ [] }
+    ensures ended { Ended I.left I.gave S.rules (machine_of program.now roots.old.limit) steps result full
         (moment_of (view_in (S.storage store.old) roots.old.roots) (outside_of full) (S.storage store.old).facts)
-        (view_in (S.storage store.new) roots.new.roots) (S.storage store.new).facts (O.taken out.old) (O.taken out.new) (I.left input.old) (I.left input.new)
-        ⊎ Strays S.rules (machine_of program.now roots.old.limit) steps full
-        (moment_of (view_in (S.storage store.old) roots.old.roots) (outside_of full) (S.storage store.old).facts) (I.left input.old) }
+        (view_in (S.storage store.new) roots.new.roots) (S.storage store.new).facts (O.taken out.old) (O.taken out.new) input.old input.new }
     ensures place { (class at : ℕ) → result ≡ ends.Uncaught class at → at ≡ roots.new.roots.pending }
     ensures thrown { (class at : ℕ) → result ≡ ends.Uncaught class at → IsThrownAt program.now (S.storage store.new).kept (serial_of (S.storage store.new).index at) }
     ensures appends { (said : List ℕ) × Appends (O.taken out.old) (O.taken out.new) said }
@@ -62,7 +59,6 @@ pub fn run<S: Store, I: Source, O: Sink>(
             input,
             out,
             steps - made,
-            made,
         ) {
             Ok(more) => made += more,
             Err(stop) => return stopped(store, roots, stop),

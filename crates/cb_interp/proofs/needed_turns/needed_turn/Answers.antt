@@ -19,15 +19,15 @@ returns-in_default g c =
     let facts = (g.S.Store.storage c.args.store.now).facts in
     let after = (g.S.Store.storage c.need_turn.new.store).facts in
     let taken = g.O.Sink.taken c.args.out.now in
-    let left = g.I.Source.left c.args.input.now in
+    let source = c.args.input.now in
     let faults = g.I.Source.faults c.args.input.now in
     record {
-      made = silent_advance g.S.Store.rules machine g.outside view behind facts after taken left
+      made = silent_advance g.S.Store.rules machine g.outside view behind facts after taken g.I.Source.left g.I.Source.gave source
           (need_still machine (state_of view g.outside) c.args.decoded.now c.requires.1.1.1.1.0 c.args.need c.requires.1.1.1.1.1.0 c.in_default.not-Performs)
           c.need_turn.result c.need_turn.ensures.made;
       stopped = silent_stops g.S.Store.rules machine g.outside view behind facts after taken c.need_turn.result c.need_turn.ensures.stopped;
       left = silences g.S.Store.rules machine g.outside view behind facts after taken c.need_turn.result c.need_turn.ensures.stopped;
-      lost = stays_still g.S.Store.rules machine (moment_of view g.outside facts) (moment_of behind g.outside after) left c.need_turn.result c.need_turn.ensures.stopped;
+      lost = stays_still g.S.Store.rules machine (moment_of view g.outside facts) (moment_of behind g.outside after) g.I.Source.left g.I.Source.gave source c.need_turn.result c.need_turn.ensures.stopped;
       counted = c.need_turn.ensures.counted;
       output = counts_as (g.O.Sink.faults c.args.out.now) (g.O.Sink.faults c.args.out.now) (λ never. absurd never)
           (never_output g.S.Store.rules machine g.outside view behind facts after taken c.need_turn.result c.need_turn.ensures.stopped) (counts_none (g.O.Sink.faults c.args.out.now));
@@ -47,7 +47,7 @@ returns-in-Some-clause-made g c =
     silent_advance g.S.Store.rules (machine_of c.args.program.now c.args.roots.now.limit) g.outside
     (view_in (g.S.Store.storage c.args.store.now) c.args.roots.now.roots)
     (view_in (g.S.Store.storage c.answer_turn.new.store) c.answer_turn.new.roots.roots)
-    (g.S.Store.storage c.args.store.now).facts (g.S.Store.storage c.answer_turn.new.store).facts (g.O.Sink.taken c.args.out.now) (g.I.Source.left c.args.input.now)
+    (g.S.Store.storage c.args.store.now).facts (g.S.Store.storage c.answer_turn.new.store).facts (g.O.Sink.taken c.args.out.now) g.I.Source.left g.I.Source.gave c.args.input.now
     (native_still (machine_of c.args.program.now c.args.roots.now.limit) (state_of (view_in (g.S.Store.storage c.args.store.now) c.args.roots.now.roots) g.outside) c.args.decoded.now c.requires.1.1.1.1.0 c.in-Performs.method
     (c.requires.1.1.1.1.1.0 ∙ ap (λ need. Some (Asks need)) c.in-Performs.is) (ap is_gc c.in-Some.ensures.is ∙ other_native gives_answer refl c.in-Some.native c.in-Some.ensures.gives))
     c.answer_turn.result c.answer_turn.ensures.made
@@ -66,7 +66,7 @@ returns-in-Some-clause-lost g c =
     stays_still g.S.Store.rules (machine_of c.args.program.now c.args.roots.now.limit)
     (moment_of (view_in (g.S.Store.storage c.args.store.now) c.args.roots.now.roots) g.outside (g.S.Store.storage c.args.store.now).facts)
     (moment_of (view_in (g.S.Store.storage c.answer_turn.new.store) c.answer_turn.new.roots.roots) g.outside (g.S.Store.storage c.answer_turn.new.store).facts)
-    (g.I.Source.left c.args.input.now) c.answer_turn.result c.answer_turn.ensures.stopped
+    g.I.Source.left g.I.Source.gave c.args.input.now c.answer_turn.result c.answer_turn.ensures.stopped
 
 pub returns-in-Some-clause-read : goal.returns-in-Some-clause-read
 returns-in-Some-clause-read g c =

@@ -20,7 +20,7 @@ returns-in-Some-clause-made g c =
     silent_advance g.S.Store.rules (machine_of c.args.program.now c.args.roots.now.limit) g.outside
     (view_in (g.S.Store.storage c.args.store.now) c.args.roots.now.roots)
     (view_in (g.S.Store.storage c.perform_turn.new.store) c.perform_turn.new.roots.roots)
-    (g.S.Store.storage c.args.store.now).facts (g.S.Store.storage c.perform_turn.new.store).facts (g.O.Sink.taken c.args.out.now) (g.I.Source.left c.args.input.now)
+    (g.S.Store.storage c.args.store.now).facts (g.S.Store.storage c.perform_turn.new.store).facts (g.O.Sink.taken c.args.out.now) g.I.Source.left g.I.Source.gave c.args.input.now
     (native_still (machine_of c.args.program.now c.args.roots.now.limit) (state_of (view_in (g.S.Store.storage c.args.store.now) c.args.roots.now.roots) g.outside) c.args.decoded.now c.requires.1.1.1.1.0 c.args.method c.requires.1.1.1.1.1.0
     (ap is_gc c.in-Some.ensures.is ∙ other_native makes refl c.in-Some.native c.in-Some.ensures.makes))
     c.perform_turn.result c.perform_turn.ensures.made
@@ -39,7 +39,7 @@ returns-in-Some-clause-lost g c =
     stays_still g.S.Store.rules (machine_of c.args.program.now c.args.roots.now.limit)
     (moment_of (view_in (g.S.Store.storage c.args.store.now) c.args.roots.now.roots) g.outside (g.S.Store.storage c.args.store.now).facts)
     (moment_of (view_in (g.S.Store.storage c.perform_turn.new.store) c.perform_turn.new.roots.roots) g.outside (g.S.Store.storage c.perform_turn.new.store).facts)
-    (g.I.Source.left c.args.input.now) c.perform_turn.result c.perform_turn.ensures.stopped
+    g.I.Source.left g.I.Source.gave c.args.input.now c.perform_turn.result c.perform_turn.ensures.stopped
 
 pub returns-in-Some-clause-read : goal.returns-in-Some-clause-read
 returns-in-Some-clause-read g c =

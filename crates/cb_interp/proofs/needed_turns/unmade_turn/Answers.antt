@@ -20,7 +20,7 @@ returns-in-Some-clause-made g c =
     read_advance g.S.Store.rules (machine_of c.args.program.now c.args.roots.now.limit) g.outside
     (view_in (g.S.Store.storage c.args.store.now) c.args.roots.now.roots)
     (view_in (g.S.Store.storage c.read_turn.new.store) c.read_turn.new.roots.roots)
-    (g.S.Store.storage c.args.store.now).facts (g.S.Store.storage c.read_turn.new.store).facts (g.O.Sink.taken c.args.out.now) (g.I.Source.left c.args.input.now) (g.I.Source.left c.read_turn.new.input)
+    (g.S.Store.storage c.args.store.now).facts (g.S.Store.storage c.read_turn.new.store).facts (g.O.Sink.taken c.args.out.now) g.I.Source.left g.I.Source.gave c.args.input.now c.read_turn.new.input
     (native_still (machine_of c.args.program.now c.args.roots.now.limit) (state_of (view_in (g.S.Store.storage c.args.store.now) c.args.roots.now.roots) g.outside) c.args.decoded.now c.requires.1.1.1.1.0 c.args.method c.requires.1.1.1.1.1.0
     (ap is_gc c.in-Some.ensures.is ∙ other_native reads refl c.in-Some.native c.in-Some.ensures.reads))
     c.read_turn.result c.read_turn.ensures.made
@@ -53,10 +53,10 @@ returns-in-None-clause-made g c =
     unread_advance g.S.Store.rules (machine_of c.args.program.now c.args.roots.now.limit) g.outside
     (view_in (g.S.Store.storage c.args.store.now) c.args.roots.now.roots)
     (view_in (g.S.Store.storage c.unread_turn.new.store) c.unread_turn.new.roots.roots)
-    (g.S.Store.storage c.args.store.now).facts (g.S.Store.storage c.unread_turn.new.store).facts (g.O.Sink.taken c.args.out.now) (g.O.Sink.taken c.unread_turn.new.out) (g.I.Source.left c.args.input.now) c.unread_turn.result c.unread_turn.ensures.made
+    (g.S.Store.storage c.args.store.now).facts (g.S.Store.storage c.unread_turn.new.store).facts (g.O.Sink.taken c.args.out.now) (g.O.Sink.taken c.unread_turn.new.out) g.I.Source.left g.I.Source.gave c.args.input.now c.unread_turn.result c.unread_turn.ensures.made
 
 pub returns-in-None-clause-lost : goal.returns-in-None-clause-lost
-returns-in-None-clause-lost g c = unasked_still (machine_of c.args.program.now c.args.roots.now.limit) (state_of (view_in (g.S.Store.storage c.args.store.now) c.args.roots.now.roots) g.outside) (g.I.Source.left c.args.input.now) c.unread_turn.result c.unread_turn.ensures.unasked
+returns-in-None-clause-lost g c = unasked_still g.I.Source.left g.I.Source.gave c.args.input.now (machine_of c.args.program.now c.args.roots.now.limit) (state_of (view_in (g.S.Store.storage c.args.store.now) c.args.roots.now.roots) g.outside) c.unread_turn.result c.unread_turn.ensures.unasked
 
 pub returns-in-None-clause-read : goal.returns-in-None-clause-read
 returns-in-None-clause-read g c =

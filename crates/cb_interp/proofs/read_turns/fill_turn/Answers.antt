@@ -27,7 +27,7 @@ returns-in-Ok-clause-made g c =
     c.requires.1.1.1.0 c.requires.1.1.1.1.0 c.requires.1.1.1.1.1.0 c.requires.1.1.0.linked c.requires.1.1.0.fits c.requires.1.1.0.typed
     (c.linked_has_natives.ensures c.args.program.now c.requires.1.1.0.linked c.requires.1.1.0.fits) (serial_of (g.S.Store.storage c.args.store.now).index c.args.range.at) c.args.range.from c.args.range.count
     c.requires.1.1.1.1.1.1.0 c.requires.1.1.1.1.1.1.1
-    g.S.Store.rules (g.S.Store.storage c.args.store.now).facts c.in-Some.next c.in-Some.is g.I.Source.gave c.args.input.now c.read_into.new.input (g.I.Source.left c.args.input.now) (g.I.Source.left c.read_into.new.input) c.in-Ok.answer
+    g.I.Source.left g.I.Source.gave g.S.Store.rules (g.S.Store.storage c.args.store.now).facts c.in-Some.next c.in-Some.is c.args.input.now c.read_into.new.input c.in-Ok.answer
     (g.S.Store.storage c.read_into.new.store).index (g.S.Store.storage c.read_into.new.store).kept (g.S.Store.storage c.read_into.new.store).facts c.leave_answer.new.roots.roots
     c.in-Ok.ensures.read c.in-Ok.ensures.places c.in-Ok.ensures.facts (ap (λ (held : Limited). held.roots) c.leave_answer.ensures)
 
@@ -41,7 +41,7 @@ returns-in-Err-clause-fails g c =
 
 pub returns-in-Err-clause-lost : goal.returns-in-Err-clause-lost
 returns-in-Err-clause-lost g c =
-    loses_fails g.I.Source.gave c.args.input.now (machine_of c.args.program.now c.args.roots.now.limit) (state_of (view_in (g.S.Store.storage c.args.store.now) c.args.roots.now.roots) g.outside) c.args.range.count (g.I.Source.left c.args.input.now) (g.I.Source.left c.read_into.new.input)
+    loses_fails g.I.Source.left g.I.Source.gave (machine_of c.args.program.now c.args.roots.now.limit) (state_of (view_in (g.S.Store.storage c.args.store.now) c.args.roots.now.roots) g.outside) c.args.range.count c.args.input.now c.read_into.new.input
     (λ bytes few. range_takes c.args.program.now (g.S.Store.storage c.args.store.now).index (g.S.Store.storage c.args.store.now).kept c.args.roots.now.limit c.args.roots.now.roots g.outside c.args.decoded.now c.args.method
     c.requires.1.1.1.0 c.requires.1.1.1.1.0 c.requires.1.1.1.1.1.0 c.requires.1.1.0.linked c.requires.1.1.0.fits c.requires.1.1.0.typed
     (c.linked_has_natives.ensures c.args.program.now c.requires.1.1.0.linked c.requires.1.1.0.fits) (serial_of (g.S.Store.storage c.args.store.now).index c.args.range.at) c.args.range.from c.args.range.count

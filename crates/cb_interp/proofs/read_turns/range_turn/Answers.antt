@@ -119,10 +119,10 @@ returns-in-Ok-clause-counted g c =
 
 pub returns-in-Err-clause-made : goal.returns-in-Err-clause-made
 returns-in-Err-clause-made g c =
-    silent_ins g.S.Store.rules (machine_of c.args.program.now c.args.roots.now.limit) g.outside
+    silent_ins g.I.Source.left g.I.Source.gave g.S.Store.rules (machine_of c.args.program.now c.args.roots.now.limit) g.outside
     (view_in (g.S.Store.storage c.args.store.now) c.args.roots.now.roots)
     (view_in (g.S.Store.storage c.throw_of.new.store) c.throw_of.new.roots.roots)
-    (g.S.Store.storage c.args.store.now).facts (g.S.Store.storage c.throw_of.new.store).facts (g.I.Source.left c.args.input.now) c.throw_of.result c.throw_of.ensures.made
+    (g.S.Store.storage c.args.store.now).facts (g.S.Store.storage c.throw_of.new.store).facts c.args.input.now c.throw_of.result c.throw_of.ensures.made
 
 pub returns-in-Err-clause-stopped : goal.returns-in-Err-clause-stopped
 returns-in-Err-clause-stopped g c =
@@ -136,7 +136,7 @@ returns-in-Err-clause-lost g c =
     stays_still g.S.Store.rules (machine_of c.args.program.now c.args.roots.now.limit)
     (moment_of (view_in (g.S.Store.storage c.args.store.now) c.args.roots.now.roots) g.outside (g.S.Store.storage c.args.store.now).facts)
     (moment_of (view_in (g.S.Store.storage c.throw_of.new.store) c.throw_of.new.roots.roots) g.outside (g.S.Store.storage c.throw_of.new.store).facts)
-    (g.I.Source.left c.args.input.now) c.throw_of.result c.throw_of.ensures.stopped
+    g.I.Source.left g.I.Source.gave c.args.input.now c.throw_of.result c.throw_of.ensures.stopped
 
 pub returns-in-Err-clause-read : goal.returns-in-Err-clause-read
 returns-in-Err-clause-read g c =

@@ -1,21 +1,19 @@
 use Rattle.cb_heap.specs.Storage.{view_in}
 use Rattle.std.proofs.Common.{◌≡◌, ◌≤◌, ◌-◌, ◌+◌, ◌*◌, length, true}
-use Rattle.cb_interp.specs.Running.{outside_of}
+use Rattle.cb_interp.specs.Running.{outside_of, somewhere}
 use Rattle.cb_act.specs.Turning.{machine_of, moment_of, most_at_once}
 use Rattle.cb_io.specs.Faults.{CountsFaults}
-use Rattle.cb_machine.specs.Runs.{after}
-use Rattle.cb_interp.proofs.RunStrays.{Gone}
+use Rattle.cb_interp.proofs.RunGoes.{HasCome}
 use Rattle.cb_interp.proofs.running.run.Given as goal
 
 abbrev pub ghost-turns : goal.ghost-turns
-ghost-turns g a = outside_of (after (machine_of a.program.now a.roots.now.limit) a.number g.full)
+ghost-turns g a = somewhere
 
 abbrev pub invariant-loop-made : goal.invariant-loop-made
 invariant-loop-made g l = record {
-  ran : Gone g.S.Store.rules (machine_of l.program l.fn.roots.limit) g.full l.made
-      (moment_of (view_in (g.S.Store.storage l.fn.store) l.fn.roots.roots) (outside_of g.full) (g.S.Store.storage l.fn.store).facts)
-      (view_in (g.S.Store.storage l.store) l.roots.roots) (g.S.Store.storage l.store).facts (g.O.Sink.taken l.fn.out) (g.O.Sink.taken l.out)
-      (g.I.Source.left l.fn.input) (g.I.Source.left l.input);
+  come : HasCome g.I.Source.left g.I.Source.gave g.S.Store.rules (machine_of l.program l.fn.roots.limit)
+      (moment_of (view_in (g.S.Store.storage l.fn.store) l.fn.roots.roots) (outside_of g.full) (g.S.Store.storage l.fn.store).facts) g.full l.fn.input l.made
+      (view_in (g.S.Store.storage l.store) l.roots.roots) (g.S.Store.storage l.store).facts l.input (g.O.Sink.taken l.fn.out) (g.O.Sink.taken l.out);
   low : l.made ≤ l.steps;
   few : g.S.Store.rules.fixed ≡ true → length (g.S.Store.storage l.store).kept ≤ length (g.S.Store.storage l.fn.store).kept + l.made * most_at_once;
   limit : l.roots.limit ≡ l.fn.roots.limit;

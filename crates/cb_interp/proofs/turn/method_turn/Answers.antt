@@ -98,7 +98,7 @@ returns-in-Ok-clause-made g c =
     whole_advance g.S.Store.rules (machine_of c.args.program.now c.args.roots.now.limit) g.outside
     (view_in (g.S.Store.storage c.args.store.now) c.args.roots.now.roots)
     (view_in (g.S.Store.storage c.act_turn.new.store) c.act_turn.new.roots.roots)
-    (g.S.Store.storage c.args.store.now).facts (g.S.Store.storage c.act_turn.new.store).facts (g.O.Sink.taken c.args.out.now) (g.I.Source.left c.args.input.now) c.in-Ok.ensures.made
+    (g.S.Store.storage c.args.store.now).facts (g.S.Store.storage c.act_turn.new.store).facts (g.O.Sink.taken c.args.out.now) g.I.Source.left g.I.Source.gave c.args.input.now c.in-Ok.ensures.made
 
 pub returns-in-Err : goal.returns-in-Err
 returns-in-Err g c =
@@ -115,12 +115,12 @@ returns-in-Err g c =
     let facts = (g.S.Store.storage c.needed_turn.new.store).facts in
     let taken = g.O.Sink.taken c.args.out.now in
     let takes = g.O.Sink.taken c.needed_turn.new.out in
-    let left = g.I.Source.left c.args.input.now in
-    let leaves = g.I.Source.left c.needed_turn.new.input in
+    let source = c.args.input.now in
+    let last = c.needed_turn.new.input in
     record {
-      made = subst (λ facts_before. OnOk c.needed_turn.result (Advanced g.S.Store.rules (machine_of program limit) g.outside view behind facts_before facts taken takes left leaves)) c.in-Err.ensures.facts
-          (subst (λ view. OnOk c.needed_turn.result (Advanced g.S.Store.rules (machine_of program limit) g.outside view behind (g.S.Store.storage c.act_turn.new.store).facts facts taken takes left leaves)) same
-          (subst (λ limit. OnOk c.needed_turn.result (Advanced g.S.Store.rules (machine_of program limit) g.outside later behind (g.S.Store.storage c.act_turn.new.store).facts facts taken takes left leaves))
+      made = subst (λ facts_before. OnOk c.needed_turn.result (Advanced g.I.Source.left g.I.Source.gave g.S.Store.rules (machine_of program limit) g.outside view behind facts_before facts taken takes source last)) c.in-Err.ensures.facts
+          (subst (λ view. OnOk c.needed_turn.result (Advanced g.I.Source.left g.I.Source.gave g.S.Store.rules (machine_of program limit) g.outside view behind (g.S.Store.storage c.act_turn.new.store).facts facts taken takes source last)) same
+          (subst (λ limit. OnOk c.needed_turn.result (Advanced g.I.Source.left g.I.Source.gave g.S.Store.rules (machine_of program limit) g.outside later behind (g.S.Store.storage c.act_turn.new.store).facts facts taken takes source last))
           c.act_turn.ensures.limit c.needed_turn.ensures.made));
       stopped = subst (λ (moment : Moment g.S.Store.Facts). IfErr c.needed_turn.result (λ stop. TurnStops g.S.Store.rules (machine_of program limit) stop moment after))
           (ap₂ (λ (view : View) facts. moment_of view g.outside facts) same c.in-Err.ensures.facts)
@@ -128,8 +128,8 @@ returns-in-Err g c =
           c.act_turn.ensures.limit c.needed_turn.ensures.stopped);
       left = subst (λ view. IfErr c.needed_turn.result (λ stop. SaysBy (machine_of program limit) (state_of view g.outside) stop taken takes)) same
           (subst (λ limit. IfErr c.needed_turn.result (λ stop. SaysBy (machine_of program limit) (state_of later g.outside) stop taken takes)) c.act_turn.ensures.limit c.needed_turn.ensures.left);
-      lost = subst (λ view. IfErr c.needed_turn.result (λ stop. LosesBy (machine_of program limit) (state_of view g.outside) stop left leaves)) same
-          (subst (λ limit. IfErr c.needed_turn.result (λ stop. LosesBy (machine_of program limit) (state_of later g.outside) stop left leaves)) c.act_turn.ensures.limit c.needed_turn.ensures.lost);
+      lost = subst (λ view. IfErr c.needed_turn.result (λ stop. LosesBy g.I.Source.left g.I.Source.gave (machine_of program limit) (state_of view g.outside) stop source last)) same
+          (subst (λ limit. IfErr c.needed_turn.result (λ stop. LosesBy g.I.Source.left g.I.Source.gave (machine_of program limit) (state_of later g.outside) stop source last)) c.act_turn.ensures.limit c.needed_turn.ensures.lost);
       counted = subst (λ count. CountsFaults count (g.S.Store.storage c.needed_turn.new.store).faults (IsErrOf c.needed_turn.result (stops.NoRoom rooms.ReportFault))) c.act_turn.ensures.faults
           c.needed_turn.ensures.counted;
       output = c.needed_turn.ensures.output;
