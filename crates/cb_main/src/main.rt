@@ -114,9 +114,9 @@ fn exit_code<F: Folder, S: Source, O: Sink, E: Sink>(
     err: &mut E,
 ) -> ExitCode
     requires { AreFew (map string_bytes words.now) }
-    ensures answer { (cause : Cause) × (exit_status result ≡ status_of cause) × IsAnswer (map string_bytes words.now)
-        (record { files = F.files folder.old; left = S.left input.old; out = O.taken out.old; err = E.taken err.old })
-        (record { files = F.files folder.new; left = S.left input.new; out = O.taken out.new; err = E.taken err.new })
+    ensures answer { (cause : Cause) × (exit_status result ≡ status_of cause) × IsAnswer S.left S.gave (map string_bytes words.now)
+        (record { files = F.files folder.old; input = input.old; out = O.taken out.old; err = E.taken err.old })
+        (record { files = F.files folder.new; input = input.new; out = O.taken out.new; err = E.taken err.new })
         (record { folder = F.faults folder.old; input = S.faults input.old; out = O.faults out.old; err = E.faults err.old })
         (record { folder = F.faults folder.new; input = S.faults input.new; out = O.faults out.new; err = E.faults err.new })
         cause }

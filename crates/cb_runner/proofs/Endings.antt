@@ -3,9 +3,10 @@ use Rattle.std.proofs.Common.{ap, ◌≡◌, inl, inr, ◌↔◌, if◌then◌el
 use Rattle.std.specs.Prelude.{◌+◌, Result, String, Vec}
 use Rattle.std.specs.declared.alloc.Global.{Global}
 use Rattle.std.specs.FinMap.{get}
-use Rattle.std.specs.Io.KnownBytes.{Appends}
+use Rattle.std.specs.Io.KnownBytes.{Appends, Consumes}
 use Rattle.std.proofs.lemmas.Bool.{false≢true}
 use Rattle.std.proofs.lemmas.List.{append-nil, length-replicate}
+use Rattle.std.proofs.Math.Seq.{drop-append_seam}
 use Rattle.cb_io.specs.Faults.{CountsFaults}
 use Rattle.cb_io.specs.Folder.{Files, Finds, FindsAt, IsWithin}
 use Rattle.cb_io.specs.Sink.{IsProperPrefix}
@@ -18,10 +19,10 @@ use Rattle.cb_runner.specs.declared.stop.Stop.{Stop}
 use Rattle.cb_runner.specs.declared.stop.Stop.TheVariants.{Exited, Returned, Usage, Refused, Told, FolderFault, InputFault, OutputFault, OutOfMemory}
 use Rattle.cb_runner.specs.Answer.{Answers, Ends, EndsIn, IsCutShort, MayStandAt, OfMemory, OfFolder, OfInput, OfOutput}
 use Rattle.cb_runner.specs.Ending.{Ending, out_of_memory, output_fault, refused, returned}
-use Rattle.cb_runner.specs.Inner.{IsCarriedOut, IsReady, IsRefusal, IsUnfound, Makes, PrintsMade, RunsTo, StopsAtOnce, StopsBy, TellsWhole, cause_of, ending_of}
+use Rattle.cb_runner.specs.Inner.{IsCarriedOut, IsReady, IsRefusal, IsUnfound, ListsTo, Makes, PrintsMade, RunsTo, StopsAtOnce, StopsBy, TellsWhole, cause_of, ending_of}
 use Rattle.cb_runner.specs.List.{ListsFile}
 use Rattle.cb_runner.specs.Messages.{Reason}
-use Rattle.cb_runner.specs.Run.{IsRunnable, RunsClass, Typed, file_limit}
+use Rattle.cb_runner.specs.Run.{IsRefusedRun, IsRunnable, Typed, Unrun, file_limit}
 use Rattle.cb_runner.specs.Words.{Command, Run, RunIn, ListOf, Says, SaysNone}
 use Rattle.cb_runner.proofs.Laws.{cause_whole, ends_run_whole}
 
@@ -99,53 +100,75 @@ printed_so MayEnd read (Ok bytes) OutputFault out makes prefix = (returned bytes
 printed_so MayEnd read (Ok bytes) stop out makes prints = absurd prints
 printed_so MayEnd read (Err why) stop out makes (same, nothing) = subst (λ s. StopsBy MayEnd read s out) (sym same) (subst (λ o. StopsBy MayEnd read why o) (sym nothing) (unmade MayEnd read why makes))
 
--- the command ends as it stopped
-pub ends_by : (command : Command) (files : Option Files) (left : Option (List ℕ)) (MayEnd : Ending → Type 0) (read : ℕ) (stop : Stop) (out : List ℕ) → ((ending : Ending) → MayEnd ending → Answers command files left ending) → IsCutShort OfMemory command files left (out_of_memory read)
-    → ((whole : Ending) → Answers command files left whole → (front : List ℕ) → IsProperPrefix front whole.out → IsCutShort OfOutput command files left (output_fault front whole.read))
-    → StopsBy MayEnd read stop out → EndsIn command files left (ending_of stop out read)
-ends_by command files left MayEnd read Returned out answers memory output may = inl (answers (returned out read) may)
-ends_by command files left MayEnd read (Refused text) out answers memory output may = inl (answers (ending_of (Refused text) out read) may)
-ends_by command files left MayEnd read OutputFault out answers memory output (whole, may, prefix, same) =
-    inr (OfOutput, subst (λ read. IsCutShort OfOutput command files left (output_fault out read)) (sym same) (output whole (answers whole may) out prefix))
-ends_by command files left MayEnd read OutOfMemory out answers memory output nothing =
-    inr (OfMemory, subst (λ out. IsCutShort OfMemory command files left (ending_of OutOfMemory out read)) (sym nothing) memory)
-ends_by command files left MayEnd read stop out answers memory output stops = absurd stops
+-- a front of what is left was read
+front_taken : (before now : Option (List ℕ)) (front : List ℕ) → Consumes before now front → IfSome before (λ left. now ≡ Some (drop (length front) left))
+front_taken None now front moved = tt
+front_taken (Some left) None front moved = absurd moved
+front_taken (Some left) (Some rest) front is = ap Some (sym (ap (drop (length front)) is ∙ drop-append_seam front rest))
 
--- a command of a file, and how it ends where the file couldn't be looked for
-pub list_ends : (path : List ℕ) (files : Option Files) (file : Option (List ℕ)) (stop : Stop) (out : List ℕ) → MayStandAt files path file → StopsBy (ListsFile path file) 0 stop out → (left : Option (List ℕ)) → EndsIn (ListOf path) files left (ending_of stop out 0)
-list_ends path files file stop out may stops =
-    λ left. ends_by (ListOf path) files left (ListsFile path file) 0 stop out (λ ending lists. (file, may, lists)) refl (λ whole lists front prefix. (whole, lists, front, prefix, refl)) stops
+pub consumed : (before now : Option (List ℕ)) (front : List ℕ) → Consumes before now front → IfSome (as_bytes before) (λ left. now ≡ Some (drop (length front) left))
+consumed before now front moved = said_bytes before (λ left. now ≡ Some (drop (length front) left)) (front_taken before now front moved)
 
-pub list_unfound : (path : List ℕ) (files : Option Files) (stop : Stop) → IsUnfound stop → (left : Option (List ℕ)) → EndsIn (ListOf path) files left (ending_of stop [] 0)
-list_unfound path files FolderFault is = λ left. inr (OfFolder, refl)
-list_unfound path files OutOfMemory is = λ left. inr (OfMemory, refl)
-list_unfound path files stop is = absurd is
-
--- a run of a class whose program isn't run, and of one whose program is
-pub run_at_once : (folder : List ℕ) (run : Run) (files : Option Files) (left : Option (List ℕ)) (stop : Stop) → StopsAtOnce (RunsClass files left folder run) stop → EndsIn (RunIn folder run) files left (ending_of stop [] 0)
-run_at_once folder run files left (Refused text) stops = inl stops
-run_at_once folder run files left FolderFault stops = inr (OfFolder, refl)
-run_at_once folder run files left OutOfMemory stops = inr (OfMemory, inl refl)
-run_at_once folder run files left stop stops = absurd stops
+-- a run of a class whose program isn't run leaves the input alone
+pub run_at_once : {In : Type 0} (left : In → Option (List ℕ)) (gave : In → ℕ → List ℕ → In → Type 0) (folder : List ℕ) (run : Run) (files : Option Files) (source : In) (stop : Stop)
+    → StopsAtOnce (IsRefusedRun files folder run) stop → EndsIn left gave (RunIn folder run) files source source (ending_of stop [] 0)
+run_at_once left gave folder run files source (Refused text) stops = inl (Unrun stops refl)
+run_at_once left gave folder run files source FolderFault stops = inr (OfFolder, (refl, refl))
+run_at_once left gave folder run files source OutOfMemory stops = inr (OfMemory, inl (refl, refl))
+run_at_once left gave folder run files source stop stops = absurd stops
 
 -- of which no call of input or output ended the one
 pub at_once_quietly : (MayEnd : Ending → Type 0) (stop : Stop) → StopsAtOnce MayEnd stop → (stop ≡ InputFault → ⊥) × (stop ≡ OutputFault → ⊥)
 at_once_quietly MayEnd stop stops = (λ is. subst (StopsAtOnce MayEnd) is stops, λ is. subst (StopsAtOnce MayEnd) is stops)
 
-pub run_ends : (folder : List ℕ) (run : Run) (files : Option Files) (left : Option (List ℕ)) (program : Linked) (stop : Stop) (out : List ℕ) (read : ℕ) → IsRunnable files folder run.main program → RunsTo run program left stop out read → EndsIn (RunIn folder run) files left (ending_of stop out read)
-run_ends folder run files left program OutOfMemory out read runnable (inl (nothing, unread)) =
-    inr (OfMemory, inl (ap (λ out. ending_of OutOfMemory out read) nothing ∙ ap (ending_of OutOfMemory []) unread))
-run_ends folder run files left program OutOfMemory out read runnable (inr cuts) = inr (OfMemory, inr (program, runnable, cuts))
-run_ends folder run files left program InputFault out read runnable runs = inr (OfInput, (program, runnable, runs))
-run_ends folder run files left program OutputFault out read runnable runs = inr (OfOutput, (program, runnable, runs))
-run_ends folder run files left program Returned out read runnable runs = inl (Typed program runnable runs)
-run_ends folder run files left program (Exited status) out read runnable runs = inl (Typed program runnable runs)
-run_ends folder run files left program (Told cause line) out read runnable runs = inl (Typed program runnable runs)
-run_ends folder run files left program stop out read runnable runs = absurd runs
+module _ {In : Type 0} (left : In → Option (List ℕ)) (gave : In → ℕ → List ℕ → In → Type 0) (files : Option Files) (first last : In) where
+  -- the command ends as it stopped
+  pub ends_by : (command : Command) (MayEnd : Ending → Type 0) (read : ℕ) (stop : Stop) (out : List ℕ) → ((ending : Ending) → MayEnd ending → Answers left gave command files first last ending)
+      → IsCutShort left gave OfMemory command files first last (out_of_memory read)
+      → ((whole : Ending) → Answers left gave command files first last whole → (front : List ℕ) → IsProperPrefix front whole.out
+      → IsCutShort left gave OfOutput command files first last (output_fault front whole.read))
+      → StopsBy MayEnd read stop out → EndsIn left gave command files first last (ending_of stop out read)
+  ends_by command MayEnd read Returned out answers memory output may = inl (answers (returned out read) may)
+  ends_by command MayEnd read (Refused text) out answers memory output may = inl (answers (ending_of (Refused text) out read) may)
+  ends_by command MayEnd read OutputFault out answers memory output (whole, may, prefix, same) =
+      inr (OfOutput, subst (λ read. IsCutShort left gave OfOutput command files first last (output_fault out read)) (sym same) (output whole (answers whole may) out prefix))
+  ends_by command MayEnd read OutOfMemory out answers memory output nothing =
+      inr (OfMemory, subst (λ out. IsCutShort left gave OfMemory command files first last (ending_of OutOfMemory out read)) (sym nothing) memory)
+  ends_by command MayEnd read stop out answers memory output stops = absurd stops
 
--- and no call of the folder the other
-pub runs_quietly : (run : Run) (program : Linked) (left : Option (List ℕ)) (stop : Stop) (out : List ℕ) (read : ℕ) → RunsTo run program left stop out read → stop ≡ FolderFault → ⊥
-runs_quietly run program left stop out read runs is = subst (λ stop. RunsTo run program left stop out read) is runs
+  -- a command of a file, and how it ends where the file couldn't be looked for
+  list_unfound : (path : List ℕ) (stop : Stop) → IsUnfound stop → EndsIn left gave (ListOf path) files first last (ending_of stop [] 0)
+  list_unfound path FolderFault is = inr (OfFolder, refl)
+  list_unfound path OutOfMemory is = inr (OfMemory, refl)
+  list_unfound path stop is = absurd is
+
+  pub list_ends : (path : List ℕ) (stop : Stop) (out : List ℕ) → ListsTo path files stop out → EndsIn left gave (ListOf path) files first last (ending_of stop out 0)
+  list_ends path stop out (inl (file, may, stops)) =
+      ends_by (ListOf path) (ListsFile path file) 0 stop out (λ ending lists. (file, may, lists)) refl (λ whole lists front prefix. (whole, lists, front, prefix, refl)) stops
+  list_ends path stop out (inr (nothing, unfound)) =
+      subst (λ out. EndsIn left gave (ListOf path) files first last (ending_of stop out 0)) (sym nothing) (list_unfound path stop unfound)
+
+  -- a run of a class whose program is run
+  pub run_ends : (folder : List ℕ) (run : Run) (program : Linked) (stop : Stop) (out : List ℕ) (read : ℕ) → IsRunnable files folder run.main program
+      → RunsTo left gave run program first last stop out read → EndsIn left gave (RunIn folder run) files first last (ending_of stop out read)
+  run_ends folder run program OutOfMemory out read runnable (inl (nothing, unread, alone)) =
+      inr (OfMemory, inl (ap (λ out. ending_of OutOfMemory out read) nothing ∙ ap (ending_of OutOfMemory []) unread, alone))
+  run_ends folder run program OutOfMemory out read runnable (inr cuts) = inr (OfMemory, inr (program, runnable, cuts))
+  run_ends folder run program InputFault out read runnable runs = inr (OfInput, (program, runnable, runs))
+  run_ends folder run program OutputFault out read runnable runs = inr (OfOutput, (program, runnable, runs))
+  run_ends folder run program Returned out read runnable runs = inl (Typed program runnable runs)
+  run_ends folder run program (Exited status) out read runnable runs = inl (Typed program runnable runs)
+  run_ends folder run program (Told cause line) out read runnable runs = inl (Typed program runnable runs)
+  run_ends folder run program stop out read runnable runs = absurd runs
+
+  -- of which no call of the folder ended the one
+  pub runs_quietly : (run : Run) (program : Linked) (stop : Stop) (out : List ℕ) (read : ℕ) → RunsTo left gave run program first last stop out read → stop ≡ FolderFault → ⊥
+  runs_quietly run program stop out read runs is = subst (λ stop. RunsTo left gave run program first last stop out read) is runs
+
+  -- and its cause is one of a run that nothing cuts short
+  pub runs_tell : (run : Run) (program : Linked) (stop : Stop) (out : List ℕ) (read : ℕ) → RunsTo left gave run program first last stop out read → IsReady stop → TellsWhole stop
+  runs_tell run program (Told cause line) out read runs ready = (ends_run_whole left gave run program first last (ending_of (Told cause line) out read) runs, ready)
+  runs_tell run program stop out read runs ready = tt
 
 -- what a command tells as the cause of a run is none of those that have a stop of their own
 pub refusal_tells : (reason : Reason) (stop : Stop) → IsRefusal reason stop → TellsWhole stop
@@ -163,10 +186,6 @@ stops_tell MayEnd read stop out stops = tt
 pub at_once_tells : (MayEnd : Ending → Type 0) (stop : Stop) → StopsAtOnce MayEnd stop → TellsWhole stop
 at_once_tells MayEnd (Told cause line) stops = absurd stops
 at_once_tells MayEnd stop stops = tt
-
-pub runs_tell : (run : Run) (program : Linked) (left : Option (List ℕ)) (stop : Stop) (out : List ℕ) (read : ℕ) → RunsTo run program left stop out read → IsReady stop → TellsWhole stop
-runs_tell run program left (Told cause line) out read runs ready = (ends_run_whole run program left (ending_of (Told cause line) out read) runs, ready)
-runs_tell run program left stop out read runs ready = tt
 
 -- a count says the same of what comes to the same
 same_count : {One Other : Type 0} (before now : ℕ) → (One ↔ Other) → CountsFaults before now One → CountsFaults before now Other
@@ -242,19 +261,16 @@ pub output_counts : (stop : Stop) (before now : ℕ) → TellsWhole stop → Cou
 output_counts stop before now whole = same_count before now (output_cause stop whole)
 
 -- a command that says what it reads is carried out, and one that asks no input
-pub done_so : (words : List (List ℕ)) (files : Option Files) (before now known taken : Option (List ℕ)) (command : Command) (stop : Stop) → Says words command → IsCarriedOut (EndsIn command files before) before now known taken stop
-    → IsCarriedOut (Ends words files before) before now known taken stop
-done_so words files before now known taken command stop says done =
-    record { printed = done.printed; read = done.read; appends = done.appends; left = done.left; ends = inr (command, says, done.ends) }
+module _ {In : Type 0} (left : In → Option (List ℕ)) (gave : In → ℕ → List ℕ → In → Type 0) (words : List (List ℕ)) (files : Option Files) where
+  pub done_so : (first last : In) (known taken : Option (List ℕ)) (command : Command) (stop : Stop) → Says words command
+      → IsCarriedOut (EndsIn left gave command files first last) (left first) (left last) known taken stop → IsCarriedOut (Ends left gave words files first last) (left first) (left last) known taken stop
+  done_so first last known taken command stop says done =
+      record { printed = done.printed; read = done.read; appends = done.appends; left = done.left; ends = inr (command, says, done.ends) }
 
-pub carried : (words : List (List ℕ)) (files : Option Files) (before known taken : Option (List ℕ)) (command : Command) (stop : Stop) (printed : List ℕ) → Says words command → Appends known taken printed → ((left : Option (List ℕ)) → EndsIn command files left (ending_of stop printed 0)) → IsCarriedOut (Ends words files before) before before known taken stop
-carried words files before known taken command stop printed says appends ends = record {
-  printed = printed;
-  read = 0;
-  appends = appends;
-  left = nothing_read before;
-  ends = inr (command, says, ends before);
-}
+  pub carried : (source : In) (known taken : Option (List ℕ)) (command : Command) (stop : Stop) (printed : List ℕ) → Says words command → Appends known taken printed
+      → EndsIn left gave command files source source (ending_of stop printed 0) → IsCarriedOut (Ends left gave words files source source) (left source) (left source) known taken stop
+  carried source known taken command stop printed says appends ends =
+      record { printed = printed; read = 0; appends = appends; left = nothing_read (left source); ends = inr (command, says, ends) }
 
-pub unsaid : (words : List (List ℕ)) (files : Option Files) (before known : Option (List ℕ)) → SaysNone words → IsCarriedOut (Ends words files before) before before known known Usage
-unsaid words files before known none = record { printed = []; read = 0; appends = Appends-nothing known; left = nothing_read before; ends = inl (none, refl) }
+  pub unsaid : (source : In) (known : Option (List ℕ)) → SaysNone words → IsCarriedOut (Ends left gave words files source source) (left source) (left source) known known Usage
+  unsaid source known none = record { printed = []; read = 0; appends = Appends-nothing known; left = nothing_read (left source); ends = inl (none, refl) }

@@ -9,8 +9,8 @@ use Rattle.cb_runner.specs.Answer.{Answers, Ends, EndsIn, Fault, IsCutShort, IsT
 use Rattle.cb_runner.specs.Asm.{AssemblesText, TooLong, Assembled, Bad}
 use Rattle.cb_runner.specs.Ending.{Ending}
 use Rattle.cb_runner.specs.List.{ListsBytes, ListsFile, OfVersion, OfNoClass, OfItem, Listed}
-use Rattle.cb_runner.specs.Run.{RunsClass, Stopped, Typed, Untyped}
-use Rattle.cb_runner.specs.Running.{EndsBegun, EndsRun, Exits, Returns, Throws, Spends, Fills, ends_begun}
+use Rattle.cb_runner.specs.Run.{IsRefusedRun, RunsClass, Stopped, Typed, Unrun, Untyped}
+use Rattle.cb_runner.specs.Running.{EndsBegun, EndsRun, Exits, Returns, Throws, Spends, Fills}
 use Rattle.cb_runner.specs.Words.{Command, Run, RunIn, ListOf, Assemble, Says, SaysNone, SaysRun}
 
 -- whether an end is whole, its cause says
@@ -21,36 +21,24 @@ pub cause_whole : (one other : Cause) → one ≡ other → IsTrue (ends_whole o
 cause_whole one other is whole = subst (λ cause. IsTrue (ends_whole cause)) is whole
 
 -- a command that nothing cuts short returns or is refused, or the program that it runs ends in another way
-ends_begun_whole : (run : Run) (program : Linked) (input : List ℕ) (ending : Ending) → EndsBegun run program input ending → IsWhole ending
-ends_begun_whole run program input ending (Returns count within had returns is) = whole_by ending _ is refl
-ends_begun_whole run program input ending (Exits count status within had exits is) = whole_by ending _ is refl
-ends_begun_whole run program input ending (Throws count serial object units within had throws there tells is) = whole_by ending _ is refl
-ends_begun_whole run program input ending (Spends had runs is) = whole_by ending _ is refl
-ends_begun_whole run program input ending (Fills count below had fills is) = whole_by ending _ is refl
+ends_begun_whole : {In : Type 0} (left : In → Option (List ℕ)) (gave : In → ℕ → List ℕ → In → Type 0) (run : Run) (program : Linked) (first last : In) (ending : Ending) → EndsBegun left gave run program first last ending → IsWhole ending
+ends_begun_whole left gave run program first last ending (Returns count read state within comes returns is) = whole_by ending _ is refl
+ends_begun_whole left gave run program first last ending (Exits count read state status within comes exits is) = whole_by ending _ is refl
+ends_begun_whole left gave run program first last ending (Throws count read state serial object units within comes throws there tells is) = whole_by ending _ is refl
+ends_begun_whole left gave run program first last ending (Spends read state comes runs is) = whole_by ending _ is refl
+ends_begun_whole left gave run program first last ending (Fills count read state below comes fills is) = whole_by ending _ is refl
 
-cause_begun : (cause : Cause) → IsTrue (ends_begun cause) → IsTrue (ends_whole cause)
-cause_begun Returned begun = refl
-cause_begun (Exited status) begun = refl
-cause_begun (Uncaught class) begun = refl
-cause_begun BudgetSpent begun = refl
-cause_begun HeapFull begun = refl
-cause_begun Usage begun = absurd (false≢true begun)
-cause_begun Refused begun = absurd (false≢true begun)
-cause_begun FolderFault begun = absurd (false≢true begun)
-cause_begun InputFault begun = absurd (false≢true begun)
-cause_begun OutputFault begun = absurd (false≢true begun)
-cause_begun ErrFault begun = absurd (false≢true begun)
-cause_begun OutOfMemory begun = absurd (false≢true begun)
+pub ends_run_whole : {In : Type 0} (left : In → Option (List ℕ)) (gave : In → ℕ → List ℕ → In → Type 0) (run : Run) (program : Linked) (first last : In) (ending : Ending) → EndsRun left gave run program first last ending → IsWhole ending
+ends_run_whole left gave run program first last ending (inl (fills, alone, is)) = whole_by ending _ is refl
+ends_run_whole left gave run program first last ending (inr (begins, ends)) = ends_begun_whole left gave run program first last ending ends
 
-pub ends_run_whole : (run : Run) (program : Linked) (left : Option (List ℕ)) (ending : Ending) → EndsRun run program left ending → IsWhole ending
-ends_run_whole run program left ending (inl (fills, is)) = whole_by ending _ is refl
-ends_run_whole run program left ending (inr (begins, inl (input, may, ends))) = ends_begun_whole run program input ending ends
-ends_run_whole run program left ending (inr (begins, inr (strays, begun))) = cause_begun ending.cause begun
+refused_run_whole : (files : Option Files) (folder : List ℕ) (run : Run) (ending : Ending) → IsRefusedRun files folder run ending → IsWhole ending
+refused_run_whole files folder run ending (Stopped refusal reason stops says is) = whole_by ending _ is refl
+refused_run_whole files folder run ending (Untyped classes method reason loaded good untyped is) = whole_by ending _ is refl
 
-runs_class_whole : (files : Option Files) (left : Option (List ℕ)) (folder : List ℕ) (run : Run) (ending : Ending) → RunsClass files left folder run ending → IsWhole ending
-runs_class_whole files left folder run ending (Stopped library refusal reason known stops says is) = whole_by ending _ is refl
-runs_class_whole files left folder run ending (Untyped library classes method reason known loaded good untyped is) = whole_by ending _ is refl
-runs_class_whole files left folder run ending (Typed program runnable runs) = ends_run_whole run program left ending runs
+runs_class_whole : {In : Type 0} (left : In → Option (List ℕ)) (gave : In → ℕ → List ℕ → In → Type 0) (files : Option Files) (folder : List ℕ) (run : Run) (first last : In) (ending : Ending) → RunsClass left gave files folder run first last ending → IsWhole ending
+runs_class_whole left gave files folder run first last ending (Unrun refused alone) = refused_run_whole files folder run ending refused
+runs_class_whole left gave files folder run first last ending (Typed program runnable runs) = ends_run_whole left gave run program first last ending runs
 
 lists_bytes_whole : (path bytes : List ℕ) (ending : Ending) → ListsBytes path bytes ending → IsWhole ending
 lists_bytes_whole path bytes ending (Listed class listed is) = whole_by ending _ is refl
@@ -68,10 +56,10 @@ assembles_whole text ending (TooLong long is) = whole_by ending _ is refl
 assembles_whole text ending (Assembled short class text_of is) = whole_by ending _ is refl
 assembles_whole text ending (Bad short line stops is) = whole_by ending _ is refl
 
-pub answers_whole : (command : Command) (files : Option Files) (left : Option (List ℕ)) (ending : Ending) → Answers command files left ending → IsWhole ending
-answers_whole (RunIn folder run) files left ending runs = runs_class_whole files left folder run ending runs
-answers_whole (ListOf path) files left ending (file, may, lists) = lists_whole path file ending lists
-answers_whole Assemble files left ending (text, may, assembles) = assembles_whole text ending assembles
+pub answers_whole : {In : Type 0} (left : In → Option (List ℕ)) (gave : In → ℕ → List ℕ → In → Type 0) (command : Command) (files : Option Files) (first last : In) (ending : Ending) → Answers left gave command files first last ending → IsWhole ending
+answers_whole left gave (RunIn folder run) files first last ending runs = runs_class_whole left gave files folder run first last ending runs
+answers_whole left gave (ListOf path) files first last ending (file, may, lists) = lists_whole path file ending lists
+answers_whole left gave Assemble files first last ending (text, may, reads, assembles) = assembles_whole text ending assembles
 
 -- what cuts a command short is its cause
 pub fault_cause : Fault → Cause
@@ -80,24 +68,22 @@ fault_cause OfFolder = FolderFault
 fault_cause OfInput = InputFault
 fault_cause OfOutput = OutputFault
 
-pub cut_cause : (fault : Fault) (command : Command) (files : Option Files) (left : Option (List ℕ)) (ending : Ending) → IsCutShort fault command files left ending → ending.cause ≡ fault_cause fault
+pub cut_cause : {In : Type 0} (left : In → Option (List ℕ)) (gave : In → ℕ → List ℕ → In → Type 0) (fault : Fault) (command : Command) (files : Option Files) (first last : In) (ending : Ending) → IsCutShort left gave fault command files first last ending
+    → ending.cause ≡ fault_cause fault
 unfolding fault_cause
-cut_cause OfMemory (RunIn folder run) files left ending (inl is) = ap (λ e. e.cause) is
-cut_cause OfMemory (RunIn folder run) files left ending (inr (program, runnable, inl (input, may, count, within, had, asks, is))) = ap (λ e. e.cause) is
-cut_cause OfMemory (RunIn folder run) files left ending (inr (program, runnable, inr (strays, is))) = is
-cut_cause OfMemory (ListOf path) files left ending is = ap (λ e. e.cause) is
-cut_cause OfMemory Assemble files left ending (read, may, is) = ap (λ e. e.cause) is
-cut_cause OfFolder (RunIn folder run) files left ending is = ap (λ e. e.cause) is
-cut_cause OfFolder (ListOf path) files left ending is = ap (λ e. e.cause) is
-cut_cause OfFolder Assemble files left ending is = absurd is
-cut_cause OfInput (RunIn folder run) files left ending (program, runnable, inl (input, may, count, front, rest, below, had, whole, takes, is)) = ap (λ e. e.cause) is
-cut_cause OfInput (RunIn folder run) files left ending (program, runnable, inr (strays, is)) = is
-cut_cause OfInput (ListOf path) files left ending is = absurd is
-cut_cause OfInput Assemble files left ending (read, may, is) = ap (λ e. e.cause) is
-cut_cause OfOutput (RunIn folder run) files left ending (program, runnable, inl (input, may, count, more, front, below, had, prints, prefix, is)) = ap (λ e. e.cause) is
-cut_cause OfOutput (RunIn folder run) files left ending (program, runnable, inr (strays, is)) = is
-cut_cause OfOutput (ListOf path) files left ending (whole, answers, front, prefix, is) = ap (λ e. e.cause) is
-cut_cause OfOutput Assemble files left ending (whole, answers, front, prefix, is) = ap (λ e. e.cause) is
+cut_cause left gave OfMemory (RunIn folder run) files first last ending (inl (is, alone)) = ap (λ e. e.cause) is
+cut_cause left gave OfMemory (RunIn folder run) files first last ending (inr (program, runnable, cuts)) = ap (λ e. e.cause) cuts.is
+cut_cause left gave OfMemory (ListOf path) files first last ending is = ap (λ e. e.cause) is
+cut_cause left gave OfMemory Assemble files first last ending (read, may, is) = ap (λ e. e.cause) is
+cut_cause left gave OfFolder (RunIn folder run) files first last ending (is, alone) = ap (λ e. e.cause) is
+cut_cause left gave OfFolder (ListOf path) files first last ending is = ap (λ e. e.cause) is
+cut_cause left gave OfFolder Assemble files first last ending is = absurd is
+cut_cause left gave OfInput (RunIn folder run) files first last ending (program, runnable, cuts) = ap (λ e. e.cause) cuts.is
+cut_cause left gave OfInput (ListOf path) files first last ending is = absurd is
+cut_cause left gave OfInput Assemble files first last ending (read, may, is) = ap (λ e. e.cause) is
+cut_cause left gave OfOutput (RunIn folder run) files first last ending (program, runnable, cuts) = ap (λ e. e.cause) cuts.is
+cut_cause left gave OfOutput (ListOf path) files first last ending (whole, answers, front, prefix, is) = ap (λ e. e.cause) is
+cut_cause left gave OfOutput Assemble files first last ending (whole, answers, front, prefix, is) = ap (λ e. e.cause) is
 
 -- a command that is cut short isn't whole
 pub cut_whole : (fault : Fault) (ending : Ending) → ending.cause ≡ fault_cause fault → IsWhole ending → ⊥
@@ -115,42 +101,42 @@ cut_says OfFolder ending cut cause_is = let no : FolderFault ≡ Usage = sym cut
 cut_says OfInput ending cut cause_is = let no : InputFault ≡ Usage = sym cut ∙ cause_is in cc
 cut_says OfOutput ending cut cause_is = let no : OutputFault ≡ Usage = sym cut ∙ cause_is in cc
 
-pub ends_none : (words : List (List ℕ)) (files : Option Files) (left : Option (List ℕ)) (ending : Ending) → Ends words files left ending → ending.cause ≡ Usage → SaysNone words
-ends_none words files left ending (inl (none, is)) cause_is = none
-ends_none words files left ending (inr (command, says, inl answers)) cause_is = absurd (false≢true (cause_whole ending.cause Usage cause_is (answers_whole command files left ending answers)))
-ends_none words files left ending (inr (command, says, inr (fault, cut))) cause_is = absurd (cut_says fault ending (cut_cause fault command files left ending cut) cause_is)
+pub ends_none : {In : Type 0} (left : In → Option (List ℕ)) (gave : In → ℕ → List ℕ → In → Type 0) (words : List (List ℕ)) (files : Option Files) (first last : In) (ending : Ending) → Ends left gave words files first last ending → ending.cause ≡ Usage → SaysNone words
+ends_none left gave words files first last ending (inl (none, is)) cause_is = none
+ends_none left gave words files first last ending (inr (command, says, inl answers)) cause_is = absurd (false≢true (cause_whole ending.cause Usage cause_is (answers_whole left gave command files first last ending answers)))
+ends_none left gave words files first last ending (inr (command, says, inr (fault, cut))) cause_is = absurd (cut_says fault ending (cut_cause left gave fault command files first last ending cut) cause_is)
 
-pub none_ends : (words : List (List ℕ)) (files : Option Files) (left : Option (List ℕ)) (ending : Ending) → Ends words files left ending → SaysNone words → ending.cause ≡ Usage
-none_ends words files left ending (inl (none, is)) says_none = ap (λ e. e.cause) is
-none_ends words files left ending (inr (command, says, more)) says_none = absurd (says_none command says)
+pub none_ends : {In : Type 0} (left : In → Option (List ℕ)) (gave : In → ℕ → List ℕ → In → Type 0) (words : List (List ℕ)) (files : Option Files) (first last : In) (ending : Ending) → Ends left gave words files first last ending → SaysNone words → ending.cause ≡ Usage
+none_ends left gave words files first last ending (inl (none, is)) says_none = ap (λ e. e.cause) is
+none_ends left gave words files first last ending (inr (command, says, more)) says_none = absurd (says_none command says)
 
 -- the cause of a call tells words that say none
-pub told_none : (words : List (List ℕ)) (files : Option Files) (left before now : Option (List ℕ)) (ending : Ending) (cause : Cause) → Ends words files left ending → IsTold ending cause before now → cause ≡ Usage → SaysNone words
-told_none words files left before now ending cause ends (inl (same, appends)) is = ends_none words files left ending ends (sym same ∙ is)
-told_none words files left before now ending cause ends (inr (fails, appends)) is = let no : ErrFault ≡ Usage = sym fails ∙ is in absurd cc
+pub told_none : {In : Type 0} (left : In → Option (List ℕ)) (gave : In → ℕ → List ℕ → In → Type 0) (words : List (List ℕ)) (files : Option Files) (first last : In) (before now : Option (List ℕ)) (ending : Ending) (cause : Cause) → Ends left gave words files first last ending → IsTold ending cause before now → cause ≡ Usage → SaysNone words
+told_none left gave words files first last before now ending cause ends (inl (same, appends)) is = ends_none left gave words files first last ending ends (sym same ∙ is)
+told_none left gave words files first last before now ending cause ends (inr (fails, appends)) is = let no : ErrFault ≡ Usage = sym fails ∙ is in absurd cc
 
 -- and where they say none it is that, but for a failed write of the last line
-pub none_told : (words : List (List ℕ)) (files : Option Files) (left before now : Option (List ℕ)) (ending : Ending) (cause : Cause) → Ends words files left ending → IsTold ending cause before now → SaysNone words → (cause ≡ Usage) ⊎ (cause ≡ ErrFault)
-none_told words files left before now ending cause ends (inr (fails, appends)) none = inr fails
-none_told words files left before now ending cause (inl (says_none, is)) (inl (same, appends)) none = inl (same ∙ ap (λ e. e.cause) is)
-none_told words files left before now ending cause (inr (command, says, more)) (inl (same, appends)) none = absurd (none command says)
+pub none_told : {In : Type 0} (left : In → Option (List ℕ)) (gave : In → ℕ → List ℕ → In → Type 0) (words : List (List ℕ)) (files : Option Files) (first last : In) (before now : Option (List ℕ)) (ending : Ending) (cause : Cause) → Ends left gave words files first last ending → IsTold ending cause before now → SaysNone words → (cause ≡ Usage) ⊎ (cause ≡ ErrFault)
+none_told left gave words files first last before now ending cause ends (inr (fails, appends)) none = inr fails
+none_told left gave words files first last before now ending cause (inl (says_none, is)) (inl (same, appends)) none = inl (same ∙ ap (λ e. e.cause) is)
+none_told left gave words files first last before now ending cause (inr (command, says, more)) (inl (same, appends)) none = absurd (none command says)
 
 -- a listing doesn't ask the input, and `asm` doesn't ask the folder
-pub asks_input : (path : List ℕ) (files : Option Files) (left : Option (List ℕ)) (ending : Ending) → EndsIn (ListOf path) files left ending → ending.cause ≡ InputFault → ⊥
+pub asks_input : {In : Type 0} (left : In → Option (List ℕ)) (gave : In → ℕ → List ℕ → In → Type 0) (path : List ℕ) (files : Option Files) (first last : In) (ending : Ending) → EndsIn left gave (ListOf path) files first last ending → ending.cause ≡ InputFault → ⊥
 unfolding fault_cause
-asks_input path files left ending (inl answers) is = false≢true (cause_whole ending.cause InputFault is (answers_whole (ListOf path) files left ending answers))
-asks_input path files left ending (inr (OfInput, cut)) is = cut
-asks_input path files left ending (inr (OfMemory, cut)) is = let no : OutOfMemory ≡ InputFault = sym (cut_cause OfMemory (ListOf path) files left ending cut) ∙ is in cc
-asks_input path files left ending (inr (OfFolder, cut)) is = let no : FolderFault ≡ InputFault = sym (cut_cause OfFolder (ListOf path) files left ending cut) ∙ is in cc
-asks_input path files left ending (inr (OfOutput, cut)) is = let no : OutputFault ≡ InputFault = sym (cut_cause OfOutput (ListOf path) files left ending cut) ∙ is in cc
+asks_input left gave path files first last ending (inl answers) is = false≢true (cause_whole ending.cause InputFault is (answers_whole left gave (ListOf path) files first last ending answers))
+asks_input left gave path files first last ending (inr (OfInput, cut)) is = cut
+asks_input left gave path files first last ending (inr (OfMemory, cut)) is = let no : OutOfMemory ≡ InputFault = sym (cut_cause left gave OfMemory (ListOf path) files first last ending cut) ∙ is in cc
+asks_input left gave path files first last ending (inr (OfFolder, cut)) is = let no : FolderFault ≡ InputFault = sym (cut_cause left gave OfFolder (ListOf path) files first last ending cut) ∙ is in cc
+asks_input left gave path files first last ending (inr (OfOutput, cut)) is = let no : OutputFault ≡ InputFault = sym (cut_cause left gave OfOutput (ListOf path) files first last ending cut) ∙ is in cc
 
-pub asks_folder : (files : Option Files) (left : Option (List ℕ)) (ending : Ending) → EndsIn Assemble files left ending → ending.cause ≡ FolderFault → ⊥
+pub asks_folder : {In : Type 0} (left : In → Option (List ℕ)) (gave : In → ℕ → List ℕ → In → Type 0) (files : Option Files) (first last : In) (ending : Ending) → EndsIn left gave Assemble files first last ending → ending.cause ≡ FolderFault → ⊥
 unfolding fault_cause
-asks_folder files left ending (inl answers) is = false≢true (cause_whole ending.cause FolderFault is (answers_whole Assemble files left ending answers))
-asks_folder files left ending (inr (OfFolder, cut)) is = cut
-asks_folder files left ending (inr (OfMemory, cut)) is = let no : OutOfMemory ≡ FolderFault = sym (cut_cause OfMemory Assemble files left ending cut) ∙ is in cc
-asks_folder files left ending (inr (OfInput, cut)) is = let no : InputFault ≡ FolderFault = sym (cut_cause OfInput Assemble files left ending cut) ∙ is in cc
-asks_folder files left ending (inr (OfOutput, cut)) is = let no : OutputFault ≡ FolderFault = sym (cut_cause OfOutput Assemble files left ending cut) ∙ is in cc
+asks_folder left gave files first last ending (inl answers) is = false≢true (cause_whole ending.cause FolderFault is (answers_whole left gave Assemble files first last ending answers))
+asks_folder left gave files first last ending (inr (OfFolder, cut)) is = cut
+asks_folder left gave files first last ending (inr (OfMemory, cut)) is = let no : OutOfMemory ≡ FolderFault = sym (cut_cause left gave OfMemory Assemble files first last ending cut) ∙ is in cc
+asks_folder left gave files first last ending (inr (OfInput, cut)) is = let no : InputFault ≡ FolderFault = sym (cut_cause left gave OfInput Assemble files first last ending cut) ∙ is in cc
+asks_folder left gave files first last ending (inr (OfOutput, cut)) is = let no : OutputFault ≡ FolderFault = sym (cut_cause left gave OfOutput Assemble files first last ending cut) ∙ is in cc
 
 -- what calls `exit` is the program of a run: a listing and an assembly return or are refused
 returned_apart : (ending other : Ending) (status : ℤ) → ending ≡ other → other.cause ≡ Returned → ending.cause ≡ Exited status → ⊥
@@ -182,21 +168,21 @@ cut_apart OfFolder ending status cut exits = let no : FolderFault ≡ Exited sta
 cut_apart OfInput ending status cut exits = let no : InputFault ≡ Exited status = sym cut ∙ exits in cc
 cut_apart OfOutput ending status cut exits = let no : OutputFault ≡ Exited status = sym cut ∙ exits in cc
 
-exits_run : (words : List (List ℕ)) (command : Command) (files : Option Files) (left : Option (List ℕ)) (ending : Ending) (status : ℤ) → Says words command
-    → EndsIn command files left ending → ending.cause ≡ Exited status → SaysRun words
-exits_run words (RunIn folder run) files left ending status says ends exits = (folder, run, says)
-exits_run words (ListOf path) files left ending status says (inl (file, may, lists)) exits = absurd (list_apart path file ending status lists exits)
-exits_run words (ListOf path) files left ending status says (inr (fault, cut)) exits = absurd (cut_apart fault ending status (cut_cause fault (ListOf path) files left ending cut) exits)
-exits_run words Assemble files left ending status says (inl (text, may, assembles)) exits = absurd (text_apart text ending status assembles exits)
-exits_run words Assemble files left ending status says (inr (fault, cut)) exits = absurd (cut_apart fault ending status (cut_cause fault Assemble files left ending cut) exits)
+exits_run : {In : Type 0} (left : In → Option (List ℕ)) (gave : In → ℕ → List ℕ → In → Type 0) (words : List (List ℕ)) (command : Command) (files : Option Files) (first last : In) (ending : Ending) (status : ℤ) → Says words command
+    → EndsIn left gave command files first last ending → ending.cause ≡ Exited status → SaysRun words
+exits_run left gave words (RunIn folder run) files first last ending status says ends exits = (folder, run, says)
+exits_run left gave words (ListOf path) files first last ending status says (inl (file, may, lists)) exits = absurd (list_apart path file ending status lists exits)
+exits_run left gave words (ListOf path) files first last ending status says (inr (fault, cut)) exits = absurd (cut_apart fault ending status (cut_cause left gave fault (ListOf path) files first last ending cut) exits)
+exits_run left gave words Assemble files first last ending status says (inl (text, may, reads, assembles)) exits = absurd (text_apart text ending status assembles exits)
+exits_run left gave words Assemble files first last ending status says (inr (fault, cut)) exits = absurd (cut_apart fault ending status (cut_cause left gave fault Assemble files first last ending cut) exits)
 
 usage_apart : (status : ℤ) → Usage ≡ Exited status → ⊥
 usage_apart status is = cc
 
 -- the cause of a call tells words that say one
-pub told_run : (words : List (List ℕ)) (files : Option Files) (left before now : Option (List ℕ)) (ending : Ending) (cause : Cause) (status : ℤ) → Ends words files left ending
+pub told_run : {In : Type 0} (left : In → Option (List ℕ)) (gave : In → ℕ → List ℕ → In → Type 0) (words : List (List ℕ)) (files : Option Files) (first last : In) (before now : Option (List ℕ)) (ending : Ending) (cause : Cause) (status : ℤ) → Ends left gave words files first last ending
     → IsTold ending cause before now → cause ≡ Exited status → SaysRun words
-told_run words files left before now ending cause status ends (inr (fails, appends)) is = let no : ErrFault ≡ Exited status = sym fails ∙ is in absurd cc
-told_run words files left before now ending cause status (inl (none, ends)) (inl (same, appends)) is =
+told_run left gave words files first last before now ending cause status ends (inr (fails, appends)) is = let no : ErrFault ≡ Exited status = sym fails ∙ is in absurd cc
+told_run left gave words files first last before now ending cause status (inl (none, ends)) (inl (same, appends)) is =
     absurd (usage_apart status (sym (ap (λ e. e.cause) ends) ∙ sym same ∙ is))
-told_run words files left before now ending cause status (inr (command, says, ends)) (inl (same, appends)) is = exits_run words command files left ending status says ends (sym same ∙ is)
+told_run left gave words files first last before now ending cause status (inr (command, says, ends)) (inl (same, appends)) is = exits_run left gave words command files first last ending status says ends (sym same ∙ is)

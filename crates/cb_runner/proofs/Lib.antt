@@ -15,6 +15,8 @@ pub mod Assembling
 pub mod Laws
 pub mod CopiedLists
 pub mod Roomy
+pub mod Reached
+pub mod AtTold
 pub mod Executed
 pub mod Begun
 pub mod Told

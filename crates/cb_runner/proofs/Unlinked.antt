@@ -5,14 +5,14 @@ use Rattle.cb_io.specs.Utf8.{utf8}
 use Rattle.cb_link.specs.declared.refusal.Refusal.{Refusal}
 use Rattle.cb_link.specs.declared.refusal.Refusal.TheVariants as links
 use Rattle.cb_classfile.specs.declared.class.ClassFile.{ClassFile}
-use Rattle.cb_classfile.specs.Library.{AreLibrary}
+use Rattle.cb_core.specs.Recorded.{core_records}
 use Rattle.cb_load.specs.Linking.{Hinders, IsHindered}
 use Rattle.cb_runner.specs.declared.stop.Stop.{Stop}
 use Rattle.cb_runner.specs.declared.stop.Stop.TheVariants.{Refused, OutOfMemory}
 use Rattle.cb_runner.specs.Ending.{Ending, refused}
 use Rattle.cb_runner.specs.Inner.{IsRefusal, IsUnlinked, StopsAtOnce}
 use Rattle.cb_runner.specs.Messages.{Reason, BadHierarchy, MissingClass, MissingMember, Malformed, BadVersion, NoMain, Unsupported, TooLarge}
-use Rattle.cb_runner.specs.Run.{RunsClass, Stopped, reason_of_linking}
+use Rattle.cb_runner.specs.Run.{IsRefusedRun, Stopped, reason_of_linking}
 use Rattle.cb_runner.specs.Words.{Run}
 use Rattle.cb_runner.proofs.Endings.{refusal_is}
 
@@ -22,17 +22,17 @@ refused_at_once MayEnd reason (Refused text) is may = subst MayEnd (refusal_is r
 refused_at_once MayEnd reason OutOfMemory is may = tt
 refused_at_once MayEnd reason stop is may = absurd is
 
-unlinked_for : (files : Option Files) (left : Option (List ℕ)) (root : List ℕ) (run : Run) (library : List ClassFile) (refusal : Refusal) (reason : Reason) (stop : Stop) → AreLibrary library → IsHindered files root library run.main refusal → reason_of_linking refusal ≡ Some reason → IsRefusal reason stop → StopsAtOnce (RunsClass files left root run) stop
-unlinked_for files left root run library refusal reason stop known stops says is = refused_at_once (RunsClass files left root run) reason stop is (Stopped library refusal reason known stops says refl)
+unlinked_for : (files : Option Files) (root : List ℕ) (run : Run) (library : List ClassFile) (refusal : Refusal) (reason : Reason) (stop : Stop) → library ≡ core_records → IsHindered files root library run.main refusal → reason_of_linking refusal ≡ Some reason → IsRefusal reason stop → StopsAtOnce (IsRefusedRun files root run) stop
+unlinked_for files root run library refusal reason stop known stops says is = refused_at_once (IsRefusedRun files root run) reason stop is (Stopped refusal reason (subst (λ library. IsHindered files root library run.main refusal) known stops) says refl)
 
-pub unlinked_so : (files : Option Files) (left : Option (List ℕ)) (root : List ℕ) (run : Run) (library : List ClassFile) (refusal : Refusal) (stop : Stop) → AreLibrary library → Hinders files root library run.main refusal → IsUnlinked refusal stop → StopsAtOnce (RunsClass files left root run) stop
-unlinked_so files left root run library links.FolderFault stop known stops is = subst (StopsAtOnce (RunsClass files left root run)) (sym is) tt
-unlinked_so files left root run library links.OutOfMemory stop known stops is = subst (StopsAtOnce (RunsClass files left root run)) (sym is) tt
-unlinked_so files left root run library (links.MissingClass name) stop known stops is = unlinked_for files left root run library (links.MissingClass name) (MissingClass (utf8 name)) stop known stops refl is
-unlinked_so files left root run library (links.TooLarge what count limit) stop known stops is = unlinked_for files left root run library (links.TooLarge what count limit) (TooLarge what count limit) stop known stops refl is
-unlinked_so files left root run library (links.Malformed class) stop known stops is = unlinked_for files left root run library (links.Malformed class) (Malformed (utf8 class)) stop known stops refl is
-unlinked_so files left root run library (links.BadVersion class major) stop known stops is = unlinked_for files left root run library (links.BadVersion class major) (BadVersion (utf8 class) major) stop known stops refl is
-unlinked_so files left root run library (links.Unsupported class item) stop known stops is = unlinked_for files left root run library (links.Unsupported class item) (Unsupported (utf8 class) item) stop known stops refl is
-unlinked_so files left root run library (links.BadHierarchy class) stop known stops is = unlinked_for files left root run library (links.BadHierarchy class) (BadHierarchy (utf8 class)) stop known stops refl is
-unlinked_so files left root run library (links.MissingMember class member) stop known stops is = unlinked_for files left root run library (links.MissingMember class member) (MissingMember (utf8 class) (utf8 member)) stop known stops refl is
-unlinked_so files left root run library (links.NoMain class) stop known stops is = unlinked_for files left root run library (links.NoMain class) (NoMain (utf8 class)) stop known stops refl is
+pub unlinked_so : (files : Option Files) (root : List ℕ) (run : Run) (library : List ClassFile) (refusal : Refusal) (stop : Stop) → library ≡ core_records → Hinders files root library run.main refusal → IsUnlinked refusal stop → StopsAtOnce (IsRefusedRun files root run) stop
+unlinked_so files root run library links.FolderFault stop known stops is = subst (StopsAtOnce (IsRefusedRun files root run)) (sym is) tt
+unlinked_so files root run library links.OutOfMemory stop known stops is = subst (StopsAtOnce (IsRefusedRun files root run)) (sym is) tt
+unlinked_so files root run library (links.MissingClass name) stop known stops is = unlinked_for files root run library (links.MissingClass name) (MissingClass (utf8 name)) stop known stops refl is
+unlinked_so files root run library (links.TooLarge what count limit) stop known stops is = unlinked_for files root run library (links.TooLarge what count limit) (TooLarge what count limit) stop known stops refl is
+unlinked_so files root run library (links.Malformed class) stop known stops is = unlinked_for files root run library (links.Malformed class) (Malformed (utf8 class)) stop known stops refl is
+unlinked_so files root run library (links.BadVersion class major) stop known stops is = unlinked_for files root run library (links.BadVersion class major) (BadVersion (utf8 class) major) stop known stops refl is
+unlinked_so files root run library (links.Unsupported class item) stop known stops is = unlinked_for files root run library (links.Unsupported class item) (Unsupported (utf8 class) item) stop known stops refl is
+unlinked_so files root run library (links.BadHierarchy class) stop known stops is = unlinked_for files root run library (links.BadHierarchy class) (BadHierarchy (utf8 class)) stop known stops refl is
+unlinked_so files root run library (links.MissingMember class member) stop known stops is = unlinked_for files root run library (links.MissingMember class member) (MissingMember (utf8 class) (utf8 member)) stop known stops refl is
+unlinked_so files root run library (links.NoMain class) stop known stops is = unlinked_for files root run library (links.NoMain class) (NoMain (utf8 class)) stop known stops refl is

@@ -9,7 +9,7 @@ use Rattle.cb_interp.specs.Reading.{as_bytes}
 use Rattle.cb_link.specs.Program.{Linked}
 use Rattle.cb_runner.specs.declared.cause.Cause.{Cause}
 use Rattle.cb_runner.specs.declared.cause.Cause.TheVariants.{BudgetSpent, ErrFault, Exited, FolderFault, HeapFull, InputFault, OutOfMemory, OutputFault, Refused, Returned, Uncaught, Usage}
-use Rattle.cb_runner.specs.Asm.{AssemblesText, text_limit}
+use Rattle.cb_runner.specs.Asm.{AssemblesText, ReadsBefore, ReadsBytes, ReadsText, text_limit}
 use Rattle.cb_runner.specs.Ending.{Ending, folder_fault, input_fault, out_of_memory, output_fault, usage}
 use Rattle.cb_runner.specs.List.{ListsFile}
 use Rattle.cb_runner.specs.Outside.{Content, Failures}
@@ -39,11 +39,11 @@ IsWhole ending = IsTrue (ends_whole ending.cause)
 abbrev pub MayStandAt : Option Files → List ℕ → Option (List ℕ) → Type 0
 MayStandAt files path file = IfSome files (λ files. get files path ≡ file)
 
--- it comes to this end, by what its files may be, or by what may be left of the input
-abbrev pub Answers : Command → Option Files → Option (List ℕ) → Ending → Type 0
-Answers (RunIn folder run) files left ending = RunsClass files left folder run ending
-Answers (ListOf path) files left ending = (file : Option (List ℕ)) × MayStandAt files path file × ListsFile path file ending
-Answers Assemble files left ending = (text : List ℕ) × IfSome left (λ left. left ≡ text) × AssemblesText text ending
+-- it comes to this end, by what its files may be, or by what calls of the input gave, which led from one source to another
+abbrev pub Answers : {In : Type 0} → (In → Option (List ℕ)) → (In → ℕ → List ℕ → In → Type 0) → Command → Option Files → (first last : In) → Ending → Type 0
+Answers left gave (RunIn folder run) files first last ending = RunsClass left gave files folder run first last ending
+Answers left gave (ListOf path) files first last ending = (file : Option (List ℕ)) × MayStandAt files path file × ListsFile path file ending
+Answers left gave Assemble files first last ending = (text : List ℕ) × IfSome (left first) (λ left. left ≡ text) × ReadsText gave first last text × AssemblesText text ending
 
 -- what cuts a command short
 pub data Fault : Type 0 where
@@ -52,40 +52,38 @@ pub data Fault : Type 0 where
   OfInput : Fault
   OfOutput : Fault
 
--- so many bytes of the input may be read, of those that are left
-abbrev pub MayRead : Option (List ℕ) → ℕ → ℕ → Type 0
-MayRead left most read = (read ≤ most) × IfSome left (λ left. read ≤ length left)
+-- a command is cut short before it has printed anything, and has read so much: `list` asks the folder alone, and `asm` the input alone
+abbrev pub StopsShort : {In : Type 0} → (In → Option (List ℕ)) → (In → ℕ → List ℕ → In → Type 0) → Fault → Command → (first last : In) → Ending → Type 0
+StopsShort left gave OfMemory Assemble first last ending = (read : ℕ) × ReadsBytes left gave (text_limit + 1) first last read × (ending ≡ out_of_memory read)
+StopsShort left gave OfMemory command first last ending = ending ≡ out_of_memory 0
+StopsShort left gave OfFolder Assemble first last ending = ⊥
+StopsShort left gave OfFolder command first last ending = ending ≡ folder_fault
+StopsShort left gave OfInput Assemble first last ending = (read : ℕ) × ReadsBefore left gave text_limit first last read × (ending ≡ input_fault read)
+StopsShort left gave fault command first last ending = ⊥
 
--- a command is cut short before it has printed anything, and has read so much: `list`, and `run` before its program runs, ask the folder
--- alone, and `asm` the input alone
-abbrev pub StopsShort : Fault → Command → Option (List ℕ) → Ending → Type 0
-StopsShort OfMemory Assemble left ending = (read : ℕ) × MayRead left (text_limit + 1) read × (ending ≡ out_of_memory read)
-StopsShort OfMemory command left ending = ending ≡ out_of_memory 0
-StopsShort OfFolder Assemble left ending = ⊥
-StopsShort OfFolder command left ending = ending ≡ folder_fault
-StopsShort OfInput Assemble left ending = (read : ℕ) × MayRead left text_limit read × (ending ≡ input_fault read)
-StopsShort fault command left ending = ⊥
-
--- it is cut short so, or within what it prints. A run may be cut short behind each of its steps, and within one that asks the input
-abbrev pub IsCutShort : Fault → Command → Option Files → Option (List ℕ) → Ending → Type 0
-IsCutShort OfMemory (RunIn folder run) files left ending =
-    (ending ≡ out_of_memory 0) ⊎ ((program : Linked) × IsRunnable files folder run.main program × CutsMemory run program left ending)
-IsCutShort OfInput (RunIn folder run) files left ending =
-    (program : Linked) × IsRunnable files folder run.main program × CutsInput run program left ending
-IsCutShort OfOutput (RunIn folder run) files left ending =
-    (program : Linked) × IsRunnable files folder run.main program × CutsOutput run program left ending
-IsCutShort OfOutput command files left ending =
-    (whole : Ending) × Answers command files left whole × (front : List ℕ) × IsProperPrefix front whole.out × (ending ≡ output_fault front whole.read)
-IsCutShort fault command files left ending = StopsShort fault command left ending
+-- it is cut short so, or within what it prints. A run may be cut short before it begins, and then has left the input alone, or behind each of its
+-- steps, and within one that asks the input
+abbrev pub IsCutShort : {In : Type 0} → (In → Option (List ℕ)) → (In → ℕ → List ℕ → In → Type 0) → Fault → Command → Option Files → (first last : In) → Ending → Type 0
+IsCutShort left gave OfMemory (RunIn folder run) files first last ending =
+    ((ending ≡ out_of_memory 0) × (last ≡ first))
+    ⊎ ((program : Linked) × IsRunnable files folder run.main program × CutsMemory left gave run program first last ending)
+IsCutShort left gave OfFolder (RunIn folder run) files first last ending = (ending ≡ folder_fault) × (last ≡ first)
+IsCutShort left gave OfInput (RunIn folder run) files first last ending =
+    (program : Linked) × IsRunnable files folder run.main program × CutsInput left gave run program first last ending
+IsCutShort left gave OfOutput (RunIn folder run) files first last ending =
+    (program : Linked) × IsRunnable files folder run.main program × CutsOutput left gave run program first last ending
+IsCutShort left gave OfOutput command files first last ending =
+    (whole : Ending) × Answers left gave command files first last whole × (front : List ℕ) × IsProperPrefix front whole.out × (ending ≡ output_fault front whole.read)
+IsCutShort left gave fault command files first last ending = StopsShort left gave fault command first last ending
 
 -- a command ends so, whole or cut short, and so do words, which may say none
-abbrev pub EndsIn : Command → Option Files → Option (List ℕ) → Ending → Type 0
-EndsIn command files left ending =
-    Answers command files left ending ⊎ ((fault : Fault) × IsCutShort fault command files left ending)
+abbrev pub EndsIn : {In : Type 0} → (In → Option (List ℕ)) → (In → ℕ → List ℕ → In → Type 0) → Command → Option Files → (first last : In) → Ending → Type 0
+EndsIn left gave command files first last ending =
+    Answers left gave command files first last ending ⊎ ((fault : Fault) × IsCutShort left gave fault command files first last ending)
 
-abbrev pub Ends : List (List ℕ) → Option Files → Option (List ℕ) → Ending → Type 0
-Ends words files left ending =
-    (SaysNone words × (ending ≡ usage)) ⊎ ((command : Command) × Says words command × EndsIn command files left ending)
+abbrev pub Ends : {In : Type 0} → (In → Option (List ℕ)) → (In → ℕ → List ℕ → In → Type 0) → List (List ℕ) → Option Files → (first last : In) → Ending → Type 0
+Ends left gave words files first last ending =
+    (SaysNone words × (ending ≡ usage)) ⊎ ((command : Command) × Says words command × EndsIn left gave command files first last ending)
 
 -- the last line is told, or a write of it failed
 abbrev pub IsTold : Ending → Cause → Option (List ℕ) → Option (List ℕ) → Type 0
@@ -106,12 +104,12 @@ may_read other = true
 
 -- the answer of a call: an end to which the words are carried out, and what the objects hold and have counted then. What is left of an input
 -- that tells bytes is told; words that list or say no command leave it alone
-pub record IsAnswer (words : List (List ℕ)) (before now : Content) (failed fails : Failures) (cause : Cause) : Type 0 where
+pub record IsAnswer {In : Type 0} (left : In → Option (List ℕ)) (gave : In → ℕ → List ℕ → In → Type 0) (words : List (List ℕ)) (before now : Content In) (failed fails : Failures) (cause : Cause) : Type 0 where
   pub ending : Ending
-  pub ends : Ends words before.files before.left ending
+  pub ends : Ends left gave words before.files before.input now.input ending
   pub files : now.files ≡ before.files
-  pub left : IfSome (as_bytes before.left) (λ left. now.left ≡ Some (drop ending.read left))
-  pub alone : ((command : Command) → Says words command → may_read command ≡ false) → (now.left ≡ before.left) × (fails.input ≡ failed.input)
+  pub remains : IfSome (as_bytes (left before.input)) (λ bytes. left now.input ≡ Some (drop ending.read bytes))
+  pub alone : ((command : Command) → Says words command → may_read command ≡ false) → (now.input ≡ before.input) × (fails.input ≡ failed.input)
   pub out : Appends before.out now.out ending.out
   pub err : IsTold ending cause before.err now.err
   pub counts : CountsEach ending cause failed fails

@@ -26,10 +26,10 @@ pub record IsPrepared (run : Run) (program : Linked) (prepared : Prepared) : Typ
   pub given : prepared.given ≡ texts_of run
   pub texts : AreTexts (texts_of run)
 
--- a run has begun, whatever the input: what is kept stands at the start
+-- a run has begun: what is kept stands at the start, without an input
 abbrev pub HasBegun : Run → Linked → List Object → Roots → Type 0
 HasBegun run program objects roots =
-    (input : List ℕ) → BeginsWith rules_of (machine_of run program) (texts_of run) input tt (moment_of (seen pred (map Some objects) roots) (unread input) tt)
+    BeginsWith rules_of (machine_of run program) (texts_of run) [] tt (moment_of (seen pred (map Some objects) roots) (unread []) tt)
 
 -- how a command stops whose run has ended so, or hasn't begun for want of room
 abbrev pub IsStopOver : Run → Linked → List (Option Object) → Result End NoRoom → Stop → Type 0
@@ -46,8 +46,10 @@ MayStop program objects (Ok end) = MayStopAt program objects end
 MayStop program objects (Err reason) = reason ≡ rooms.ReportFault → ⊥
 
 -- however a command stops for the end of a run, it is what the run comes to
-pub record RunsToEnd (run : Run) (program : Linked) (objects : List (Option Object)) (before now known taken : Option (List ℕ)) (end : End) : Type 0 where
-  pub runs : (stop : Stop) → IsStopOf run program objects end stop → HasRunTo run program before now known taken stop
+pub record RunsToEnd {In : Type 0} (left : In → Option (List ℕ)) (gave : In → ℕ → List ℕ → In → Type 0) (run : Run) (program : Linked) (objects : List (Option Object)) (first last : In)
+    (known taken : Option (List ℕ)) (end : End) : Type 0 where
+  pub runs : (stop : Stop) → IsStopOf run program objects end stop → HasRunTo left gave run program first last known taken stop
 
-pub record ComesTo (run : Run) (program : Linked) (objects : List (Option Object)) (before now known taken : Option (List ℕ)) (ended : Result End NoRoom) : Type 0 where
-  pub runs : (stop : Stop) → IsStopOver run program objects ended stop → HasRunTo run program before now known taken stop
+pub record ComesTo {In : Type 0} (left : In → Option (List ℕ)) (gave : In → ℕ → List ℕ → In → Type 0) (run : Run) (program : Linked) (objects : List (Option Object)) (first last : In)
+    (known taken : Option (List ℕ)) (ended : Result End NoRoom) : Type 0 where
+  pub runs : (stop : Stop) → IsStopOver run program objects ended stop → HasRunTo left gave run program first last known taken stop

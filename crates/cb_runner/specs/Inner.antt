@@ -1,5 +1,5 @@
 -- What private contracts and proofs cite: no public clause names this file.
-use Rattle.std.specs.Prelude.{◌≡◌, ◌⊎◌, map, pred, ℕ, ◌+◌, ◌<◌, ◌≤◌, Bool, true, false, List, [], ◌∷◌, ◌++◌, length, drop, codes, string_bytes, Vec, Result, Ok, Err, Option, Some, option_and_then, IfSome, IsSomeAnd, IsTrue, unwrap_or}
+use Rattle.std.specs.Prelude.{◌≡◌, ◌⊎◌, map, pred, ℕ, ◌+◌, ◌<◌, ◌≤◌, Bool, true, false, List, [], ◌∷◌, ◌++◌, length, drop, codes, string_bytes, Vec, Result, Ok, Err, Option, Some, option_and_then, IfSome, IsSomeAnd, IsTrue}
 use Rattle.std.specs.Io.KnownBytes.{Appends, Consumes, IsAtEnd, Keeps}
 use Rattle.std.specs.List.{AllByRecursion}
 use Rattle.std.specs.declared.alloc.Global.{Global}
@@ -11,6 +11,7 @@ use Rattle.cb_interp.specs.Texts.{TellsException, exception_units}
 use Rattle.cb_interp.specs.declared.end.End.{End}
 use Rattle.cb_interp.specs.declared.end.End.TheVariants as ends
 use Rattle.cb_machine.specs.Performing.{most_elements}
+use Rattle.cb_natives.specs.Asking.{Calls, GaveNone}
 use Rattle.cb_machine.specs.Starting.{empty_state}
 use Rattle.cb_plain.specs.State.{Object}
 use Rattle.cb_plain.specs.Updates.{object_in, with_objects}
@@ -20,6 +21,7 @@ use Rattle.cb_safety.specs.Linked.{IsLinked}
 use Rattle.cb_safety.specs.Strings.{IsText}
 use Rattle.cb_verify.specs.Typed.{IsTyped}
 use Rattle.cb_verify.specs.Within.{kind_of_throwable}
+use Rattle.cb_io.specs.Folder.{Files}
 use Rattle.cb_io.specs.Sink.{IsProperPrefix}
 use Rattle.cb_classfile.specs.declared.fault.ClassFault.{ClassFault}
 use Rattle.cb_classfile.specs.declared.fault.ClassFault.TheVariants as faults
@@ -41,7 +43,8 @@ use Rattle.cb_runner.specs.declared.arguments.Arguments.{Arguments}
 use Rattle.cb_runner.specs.declared.run_words.RunWords.{RunWords}
 use Rattle.cb_runner.specs.declared.words.Command.{Command as SaidCommand}
 use Rattle.cb_runner.specs.declared.words.Command.TheVariants as said_commands
-use Rattle.cb_runner.specs.Answer.{ends_whole}
+use Rattle.cb_runner.specs.Answer.{MayStandAt, ends_whole}
+use Rattle.cb_runner.specs.List.{ListsFile}
 use Rattle.cb_runner.specs.Ending.{Ending, returned}
 use Rattle.cb_runner.specs.Messages.{Reason, BadVersion, Malformed, Unsupported, line, reason_of, refusal_text}
 use Rattle.cb_runner.specs.Run.{IsUntyped, reason_of_linking}
@@ -226,28 +229,30 @@ pub record TakesOptions (steps frames : ℕ) (words rest : List (List ℕ)) : Ty
 abbrev pub AreTexts : List (List ℕ) → Type 0
 AreTexts given = AllByRecursion IsText given × (length given ≤ most_elements)
 
--- a program was run, stopped so, printed this and read so many bytes of what may be left of the input
-abbrev pub RunsTo : Run → Linked → Option (List ℕ) → Stop → List ℕ → ℕ → Type 0
-RunsTo run program left OutOfMemory out read = ((out ≡ []) × (read ≡ 0)) ⊎ CutsMemory run program left (ending_of OutOfMemory out read)
-RunsTo run program left InputFault out read = CutsInput run program left (ending_of InputFault out read)
-RunsTo run program left OutputFault out read = CutsOutput run program left (ending_of OutputFault out read)
-RunsTo run program left Returned out read = EndsRun run program left (ending_of Returned out read)
-RunsTo run program left (Exited status) out read = EndsRun run program left (ending_of (Exited status) out read)
-RunsTo run program left (Told cause text) out read = EndsRun run program left (ending_of (Told cause text) out read)
-RunsTo run program left other out read = ⊥
+-- a listing ends so: by what the file at its path may be, or at once
+abbrev pub ListsTo : List ℕ → Option Files → Stop → List ℕ → Type 0
+ListsTo path files stop out =
+    ((file : Option (List ℕ)) × MayStandAt files path file × StopsBy (ListsFile path file) 0 stop out) ⊎ ((out ≡ []) × IsUnfound stop)
+
+-- a program was run, stopped so, printed this and read so many bytes of the input
+abbrev pub RunsTo : {In : Type 0} → (In → Option (List ℕ)) → (In → ℕ → List ℕ → In → Type 0) → Run → Linked → (first last : In) → Stop → List ℕ → ℕ → Type 0
+RunsTo left gave run program first last OutOfMemory out read =
+    ((out ≡ []) × (read ≡ 0) × (last ≡ first)) ⊎ CutsMemory left gave run program first last (ending_of OutOfMemory out read)
+RunsTo left gave run program first last InputFault out read = CutsInput left gave run program first last (ending_of InputFault out read)
+RunsTo left gave run program first last OutputFault out read = CutsOutput left gave run program first last (ending_of OutputFault out read)
+RunsTo left gave run program first last Returned out read = EndsRun left gave run program first last (ending_of Returned out read)
+RunsTo left gave run program first last (Exited status) out read = EndsRun left gave run program first last (ending_of (Exited status) out read)
+RunsTo left gave run program first last (Told cause text) out read = EndsRun left gave run program first last (ending_of (Told cause text) out read)
+RunsTo left gave run program first last other out read = ⊥
 
 -- and what it printed went out, and what it read came from the input
-pub record HasRunTo (run : Run) (program : Linked) (before now known taken : Option (List ℕ)) (stop : Stop) : Type 0 where
+pub record HasRunTo {In : Type 0} (left : In → Option (List ℕ)) (gave : In → ℕ → List ℕ → In → Type 0) (run : Run) (program : Linked) (first last : In) (known taken : Option (List ℕ)) (stop : Stop) : Type 0 where
   pub printed : List ℕ
   pub read : ℕ
   pub appends : Appends known taken printed
-  pub left : IfSome (as_bytes before) (λ left. now ≡ Some (drop read left))
-  pub runs : RunsTo run program before stop printed read
+  pub remains : IfSome (as_bytes (left first)) (λ bytes. left last ≡ Some (drop read bytes))
+  pub runs : RunsTo left gave run program first last stop printed read
   pub ready : IsReady stop
-
--- what the machine that never frees is given for an input: no bytes where it doesn't tell them
-abbrev pub given_input : Option (List ℕ) → List ℕ
-given_input left = unwrap_or (as_bytes left) []
 
 -- a command stops for a cause with this last line
 abbrev pub IsToldAs : Cause → List ℕ → Stop → Type 0
@@ -283,30 +288,65 @@ MayTell program objects (ends.Uncaught class at) =
     IsHeap program objects × IsOfKind program (kinds_of objects) kind_of_throwable (serial_of pred at)
 MayTell program objects other = Unit {0}
 
--- so many bytes were read, at most, and then the input had these left
-abbrev pub HasRead : ℕ → Option (List ℕ) → Option (List ℕ) → ℕ → Type 0
-HasRead most before now read = (front : List ℕ) × Consumes before now front × (length front ≡ read) × (read ≤ most)
+-- calls gave so many bytes at most, and then one may have given none; or one failed
+pub record HasRead {In : Type 0} (left : In → Option (List ℕ)) (gave : In → ℕ → List ℕ → In → Type 0) (most : ℕ) (first last : In) : Type 0 where
+  pub bytes : List ℕ
+  pub mid : In
+  pub calls : Calls gave first bytes mid
+  pub ends : (last ≡ mid) ⊎ GaveNone gave mid last
+  pub consumes : Consumes (left first) (left last) bytes
+  pub few : length bytes ≤ most
 
--- all that the input had was read, or one byte more than the limit, or less where a call failed or there was no memory
-abbrev pub Reads : ℕ → Option (List ℕ) → Option (List ℕ) → Result Input Stop → Type 0
-Reads limit before now (Ok (Whole bytes)) = Consumes before now bytes.items × IsAtEnd now × (length bytes.items ≤ limit)
-Reads limit before now (Ok TooLong) = HasRead (limit + 1) before now (limit + 1)
-Reads limit before now (Err InputFault) = (read : ℕ) × HasRead limit before now read
-Reads limit before now (Err OutOfMemory) = (read : ℕ) × HasRead (limit + 1) before now read
-Reads limit before now (Err other) = ⊥
+pub record HasFailed {In : Type 0} (left : In → Option (List ℕ)) (gave : In → ℕ → List ℕ → In → Type 0) (most : ℕ) (first last : In) : Type 0 where
+  pub bytes : List ℕ
+  pub mid : In
+  pub calls : Calls gave first bytes mid
+  pub consumes : Consumes (left first) (left last) bytes
+  pub few : length bytes ≤ most
+
+-- all that calls give was read, or one byte more than the limit
+pub record HasWhole {In : Type 0} (left : In → Option (List ℕ)) (gave : In → ℕ → List ℕ → In → Type 0) (limit : ℕ) (first last : In) (bytes : List ℕ) : Type 0 where
+  pub mid : In
+  pub calls : Calls gave first bytes mid
+  pub none : GaveNone gave mid last
+  pub consumes : Consumes (left first) (left last) bytes
+  pub end : IsAtEnd (left last)
+  pub short : length bytes ≤ limit
+
+pub record HasMore {In : Type 0} (left : In → Option (List ℕ)) (gave : In → ℕ → List ℕ → In → Type 0) (limit : ℕ) (first last : In) : Type 0 where
+  pub bytes : List ℕ
+  pub calls : Calls gave first bytes last
+  pub consumes : Consumes (left first) (left last) bytes
+  pub size : length bytes ≡ limit + 1
+
+-- an input is read: so, or less where a call failed or there was no memory
+abbrev pub Reads : {In : Type 0} → (In → Option (List ℕ)) → (In → ℕ → List ℕ → In → Type 0) → ℕ → (first last : In) → Result Input Stop → Type 0
+Reads left gave limit first last (Ok (Whole bytes)) = HasWhole left gave limit first last bytes.items
+Reads left gave limit first last (Ok TooLong) = HasMore left gave limit first last
+Reads left gave limit first last (Err InputFault) = HasFailed left gave limit first last
+Reads left gave limit first last (Err OutOfMemory) = HasRead left gave (limit + 1) first last
+Reads left gave limit first last (Err other) = ⊥
 
 -- there were more bytes, or the input is at its end
 abbrev pub IsMore : Bool → List ℕ → Option (List ℕ) → Type 0
 IsMore true piece now = 0 < length piece
 IsMore false piece now = (piece ≡ []) × IsAtEnd now
 
--- a piece was read and put behind the bytes: one byte more than so many at most, and none only at the end
-abbrev pub ReadsPiece : ℕ → Option (List ℕ) → Option (List ℕ) → List ℕ → List ℕ → Result Bool Stop → Type 0
-ReadsPiece most before now old new (Ok more) =
-    (piece : List ℕ) × Consumes before now piece × (length piece ≤ most + 1) × (new ≡ old ++ piece) × IsMore more piece now
-ReadsPiece most before now old new (Err InputFault) = Keeps before now
-ReadsPiece most before now old new (Err OutOfMemory) = (read : ℕ) × HasRead (most + 1) before now read
-ReadsPiece most before now old new (Err other) = ⊥
+-- a call gave a piece: one byte more than so many at most
+pub record GavePiece {In : Type 0} (left : In → Option (List ℕ)) (gave : In → ℕ → List ℕ → In → Type 0) (most : ℕ) (first last : In) (piece : List ℕ) : Type 0 where
+  pub asked : ℕ
+  pub some : 0 < asked
+  pub gives : gave first asked piece last
+  pub consumes : Consumes (left first) (left last) piece
+  pub few : length piece ≤ most + 1
+
+-- which was put behind the bytes. It has none only at the end
+abbrev pub ReadsPiece : {In : Type 0} → (In → Option (List ℕ)) → (In → ℕ → List ℕ → In → Type 0) → ℕ → (first last : In) → List ℕ → List ℕ → Result Bool Stop → Type 0
+ReadsPiece left gave most first last old new (Ok more) =
+    (piece : List ℕ) × GavePiece left gave most first last piece × (new ≡ old ++ piece) × IsMore more piece (left last)
+ReadsPiece left gave most first last old new (Err InputFault) = Keeps (left first) (left last)
+ReadsPiece left gave most first last old new (Err OutOfMemory) = (piece : List ℕ) × GavePiece left gave most first last piece
+ReadsPiece left gave most first last old new (Err other) = ⊥
 
 -- a command stopped so: what it printed, how much of the input it read, and that it may end by this
 pub record IsCarriedOut (MayEnd : Ending → Type 0) (before now known taken : Option (List ℕ)) (stop : Stop) : Type 0 where

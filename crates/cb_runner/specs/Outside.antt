@@ -2,10 +2,10 @@
 use Rattle.std.specs.Prelude.{ℕ, List, Option}
 use Rattle.cb_io.specs.Folder.{Files}
 
--- what they hold, where they tell it: the files of the folder, what is left of the input, and what the outputs took
-pub record Content : Type 0 where
+-- what they hold, where they tell it: the files of the folder, the input itself, and what the outputs took
+pub record Content (In : Type 0) : Type 0 where
   pub files : Option Files
-  pub left : Option (List ℕ)
+  pub input : In
   pub out : Option (List ℕ)
   pub err : Option (List ℕ)
 

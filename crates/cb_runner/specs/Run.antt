@@ -7,7 +7,7 @@ use Rattle.cb_classfile.specs.declared.method.Method.{Method}
 use Rattle.cb_classfile.specs.Pool.{text_at}
 use Rattle.cb_link.specs.declared.refusal.Refusal.{Refusal as LinkRefusal}
 use Rattle.cb_link.specs.declared.refusal.Refusal.TheVariants as link_refusals
-use Rattle.cb_classfile.specs.Library.{AreLibrary}
+use Rattle.cb_core.specs.Recorded.{core_records}
 use Rattle.cb_link.specs.Judging.{IsNoProgram, IsProgram}
 use Rattle.cb_load.specs.Linking.{IsHindered}
 use Rattle.cb_load.specs.Loading.{AreLoaded}
@@ -57,43 +57,38 @@ pub record IsUntyped (program : Linked) (reason : Reason) : Type 0 where
   pub first : FailsFirst program number pc
   pub told : reason_of_typing program number pc ≡ Some reason
 
--- the classes that a main class needs are this program, which is typed. The library's classes are those of its table, whatever the layout
--- of their records
+-- the classes that a main class needs are this program, behind those of the library, and it is typed
 pub record IsRunnable (files : Option Files) (folder main : List ℕ) (program : Linked) : Type 0 where
-  pub library : List ClassFile
   pub classes : List ClassFile
   pub method : ℕ
-  pub known : AreLibrary library
   pub loaded : AreLoaded files folder main classes
-  pub good : IsProgram (library ++ classes) main method
-  pub is : program ≡ linked (library ++ classes) main method
+  pub good : IsProgram (core_records ++ classes) main method
+  pub is : program ≡ linked (core_records ++ classes) main method
   pub typed : IsTyped program
 
--- linking the class stops for a reason, which is told; or its classes are a program that isn't typed, for a reason that is told; or
--- they are one that is, and it is run with what may be left of the input
-pub data RunsClass (files : Option Files) (left : Option (List ℕ)) (folder : List ℕ) (run : Run) (ending : Ending) : Type 0 where
-  Stopped : (library : List ClassFile) (refusal : LinkRefusal) (reason : Reason) → AreLibrary library
-      → IsHindered files folder library run.main refusal → reason_of_linking refusal ≡ Some reason → ending ≡ refused reason 0
-      → RunsClass files left folder run ending
-  Untyped : (library classes : List ClassFile) (method : ℕ) (reason : Reason) → AreLibrary library → AreLoaded files folder run.main classes
-      → IsProgram (library ++ classes) run.main method → IsUntyped (linked (library ++ classes) run.main method) reason → ending ≡ refused reason 0
-      → RunsClass files left folder run ending
-  Typed : (program : Linked) → IsRunnable files folder run.main program → EndsRun run program left ending → RunsClass files left folder run ending
+-- linking the class stops for a reason, which is told; or its classes are a program that isn't typed, for a reason that is told
+pub data IsRefusedRun (files : Option Files) (folder : List ℕ) (run : Run) (ending : Ending) : Type 0 where
+  Stopped : (refusal : LinkRefusal) (reason : Reason) → IsHindered files folder core_records run.main refusal → reason_of_linking refusal ≡ Some reason → ending ≡ refused reason 0
+      → IsRefusedRun files folder run ending
+  Untyped : (classes : List ClassFile) (method : ℕ) (reason : Reason) → AreLoaded files folder run.main classes
+      → IsProgram (core_records ++ classes) run.main method → IsUntyped (linked (core_records ++ classes) run.main method) reason → ending ≡ refused reason 0
+      → IsRefusedRun files folder run ending
 
--- classes that were loaded are a program, whatever the layout of the library's records; or they are none for this reason
+-- it is refused so, and has left the input alone; or its classes are a program that is typed, and it is run
+pub data RunsClass {In : Type 0} (left : In → Option (List ℕ)) (gave : In → ℕ → List ℕ → In → Type 0) (files : Option Files) (folder : List ℕ) (run : Run) (first last : In) (ending : Ending) : Type 0 where
+  Unrun : IsRefusedRun files folder run ending → last ≡ first → RunsClass left gave files folder run first last ending
+  Typed : (program : Linked) → IsRunnable files folder run.main program → EndsRun left gave run program first last ending → RunsClass left gave files folder run first last ending
+
+-- classes that were loaded are a program behind those of the library; or they are none for this reason
 abbrev pub AreProgram : List ClassFile → List ℕ → Type 0
-AreProgram classes main = (library : List ClassFile) → AreLibrary library → (method : ℕ) × IsProgram (library ++ classes) main method
+AreProgram classes main = (method : ℕ) × IsProgram (core_records ++ classes) main method
 
 abbrev pub AreNoProgram : List ClassFile → List ℕ → LinkRefusal → Type 0
-AreNoProgram classes main refusal = (library : List ClassFile) → AreLibrary library → IsNoProgram (library ++ classes) main refusal
+AreNoProgram classes main refusal = IsNoProgram (core_records ++ classes) main refusal
 
--- a program of classes that were loaded is typed, whatever the layout of the library's records; or it isn't, for this reason
+-- a program of classes that were loaded is typed; or it isn't, for this reason
 abbrev pub AreTyped : List ClassFile → List ℕ → Type 0
-AreTyped classes main =
-    (library : List ClassFile) → AreLibrary library → (method : ℕ) → IsProgram (library ++ classes) main method
-    → IsTyped (linked (library ++ classes) main method)
+AreTyped classes main = (method : ℕ) → IsProgram (core_records ++ classes) main method → IsTyped (linked (core_records ++ classes) main method)
 
 abbrev pub AreUntyped : List ClassFile → List ℕ → Reason → Type 0
-AreUntyped classes main reason =
-    (library : List ClassFile) → AreLibrary library → (method : ℕ) → IsProgram (library ++ classes) main method
-    → IsUntyped (linked (library ++ classes) main method) reason
+AreUntyped classes main reason = (method : ℕ) → IsProgram (core_records ++ classes) main method → IsUntyped (linked (core_records ++ classes) main method) reason

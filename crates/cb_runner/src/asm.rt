@@ -23,7 +23,7 @@ const MAX_TEXT_LENGTH: usize = 1_048_576;
 
 /// Prints the class file of the text that the input has.
 pub(crate) fn assemble_input<S: Source, O: Sink>(alloc: Global, input: &mut S, out: &mut O) -> Stop
-    ensures ends { IsCarriedOut (λ ending. (files : Option Files) → EndsIn Assemble files (S.left input.old) ending)
+    ensures ends { IsCarriedOut (λ ending. (files : Option Files) → EndsIn S.left S.gave Assemble files input.old input.new ending)
         (S.left input.old) (S.left input.new) (O.taken out.old) (O.taken out.new) result }
     ensures tells { TellsWhole result }
     ensures input_fault { CountsFaults (S.faults input.old) (S.faults input.new) (result ≡ stops.InputFault) }

@@ -34,9 +34,9 @@ pub fn run_command<F: Folder, S: Source, O: Sink, E: Sink>(
     err: &mut E,
 ) -> Ended
     requires few { AreFew (map string_bytes words.now) }
-    ensures answer { IsAnswer (map string_bytes words.now)
-        (record { files = F.files folder.old; left = S.left input.old; out = O.taken out.old; err = E.taken err.old })
-        (record { files = F.files folder.new; left = S.left input.new; out = O.taken out.new; err = E.taken err.new })
+    ensures answer { IsAnswer S.left S.gave (map string_bytes words.now)
+        (record { files = F.files folder.old; input = input.old; out = O.taken out.old; err = E.taken err.old })
+        (record { files = F.files folder.new; input = input.new; out = O.taken out.new; err = E.taken err.new })
         (record { folder = F.faults folder.old; input = S.faults input.old; out = O.faults out.old; err = E.faults err.old })
         (record { folder = F.faults folder.new; input = S.faults input.new; out = O.faults out.new; err = E.faults err.new })
         result.cause }
@@ -57,12 +57,12 @@ fn carry_out<F: Folder, S: Source, O: Sink>(
     out: &mut O,
 ) -> Stop
     requires few { AreFew (map string_bytes words.now) }
-    ensures ends { IsCarriedOut (Ends (map string_bytes words.now) (F.files folder.old) (S.left input.old))
+    ensures ends { IsCarriedOut (Ends S.left S.gave (map string_bytes words.now) (F.files folder.old) input.old input.new)
         (S.left input.old) (S.left input.new) (O.taken out.old) (O.taken out.new) result }
     ensures kept { F.files folder.new ≡ F.files folder.old }
     ensures tells { TellsWhole result }
     ensures alone { ((command : SaidCommand) → Says (map string_bytes words.now) command → may_read command ≡ false)
-        → (S.left input.new ≡ S.left input.old) × (S.faults input.new ≡ S.faults input.old) }
+        → (input.new ≡ input.old) × (S.faults input.new ≡ S.faults input.old) }
     ensures folder_fault { CountsFaults (F.faults folder.old) (F.faults folder.new) (result ≡ stops.FolderFault) }
     ensures input_fault { CountsFaults (S.faults input.old) (S.faults input.new) (result ≡ stops.InputFault) }
     ensures output_fault { CountsFaults (O.faults out.old) (O.faults out.new) (result ≡ stops.OutputFault) }

@@ -34,7 +34,11 @@ pub(crate) fn stop_of(program: Program, store: MapHeap, asked: &RunWords<'_>, en
             Cause::Uncaught(class),
             Line::Unhandled(Unhandled { program, store, at }),
         ),
-        other => caught(asked, other),
+        other => {
+            drop(store);
+            drop(program);
+            caught(asked, other)
+        }
     }
 }
 

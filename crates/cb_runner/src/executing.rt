@@ -48,13 +48,16 @@ pub(crate) fn run_program<I: Source, O: Sink>(
     requires linked { IsLinked program }
     requires fits { IsTyped program }
     requires few { AreFew (words_of asked.now.arguments) }
-    ensures runs { HasRunTo (run_of asked.now) program (I.left input.old) (I.left input.new) (O.taken out.old) (O.taken out.new) result }
+    ensures runs { HasRunTo I.left I.gave (run_of asked.now) program input.old input.new (O.taken out.old) (O.taken out.new) result }
     ensures fault { CountsFaults (O.faults out.old) (O.faults out.new) (result ≡ stops.OutputFault) }
     ensures read { CountsFaults (I.faults input.old) (I.faults input.new) (result ≡ stops.InputFault) }
 {
     match prepare(alloc, &program, asked) {
         Ok(prepared) => run_prepared(program, prepared, asked, input, out),
-        Err(OutOfMemory) => Stop::OutOfMemory,
+        Err(OutOfMemory) => {
+            drop(program);
+            Stop::OutOfMemory
+        }
     }
 }
 
@@ -86,7 +89,7 @@ fn run_prepared<I: Source, O: Sink>(
     requires linked { IsLinked program }
     requires fits { IsTyped program }
     requires ready { IsPrepared (run_of asked.now) program prepared }
-    ensures runs { HasRunTo (run_of asked.now) program (I.left input.old) (I.left input.new) (O.taken out.old) (O.taken out.new) result }
+    ensures runs { HasRunTo I.left I.gave (run_of asked.now) program input.old input.new (O.taken out.old) (O.taken out.new) result }
     ensures fault { CountsFaults (O.faults out.old) (O.faults out.new) (result ≡ stops.OutputFault) }
     ensures read { CountsFaults (I.faults input.old) (I.faults input.new) (result ≡ stops.InputFault) }
 {
@@ -104,6 +107,8 @@ fn run_prepared<I: Source, O: Sink>(
         input,
         out,
     );
+    drop(given);
+    drop(roots);
     stopped(program, store, asked, ended)
 }
 
@@ -121,7 +126,11 @@ fn stopped(
 {
     match ended {
         Ok(end) => stop_of(program, store, asked, end),
-        Err(reason) => unbegun(reason),
+        Err(reason) => {
+            drop(store);
+            drop(program);
+            unbegun(reason)
+        }
     }
 }
 
@@ -143,7 +152,7 @@ fn run_from<I: Source, O: Sink>(
     requires limit { roots.old.limit ≡ asked.now.frames }
     requires given { given.now ≡ texts (run_of asked.now) }
     requires texts { AreTexts (texts (run_of asked.now)) }
-    ensures comes { ComesTo (run_of asked.now) program.now (map Some store.new.objects) (I.left input.old) (I.left input.new) (O.taken out.old) (O.taken out.new) result }
+    ensures comes { ComesTo I.left I.gave (run_of asked.now) program.now (map Some store.new.objects) input.old input.new (O.taken out.old) (O.taken out.new) result }
     ensures may { MayStop program.now (map Some store.new.objects) result }
     ensures fault { CountsFaults (O.faults out.old) (O.faults out.new) (result ≡ Ok ends.OutputFault) }
     ensures read { CountsFaults (I.faults input.old) (I.faults input.new) (result ≡ Ok ends.InputFault) }
@@ -171,7 +180,7 @@ fn run_on<I: Source, O: Sink>(
     requires limit { roots.old.limit ≡ asked.now.frames }
     requires texts { AreTexts (texts (run_of asked.now)) }
     requires begun { HasBegun (run_of asked.now) program.now store.old.objects roots.old.roots }
-    ensures comes { RunsToEnd (run_of asked.now) program.now (map Some store.new.objects) (I.left input.old) (I.left input.new) (O.taken out.old) (O.taken out.new) result }
+    ensures comes { RunsToEnd I.left I.gave (run_of asked.now) program.now (map Some store.new.objects) input.old input.new (O.taken out.old) (O.taken out.new) result }
     ensures may { MayStop program.now (map Some store.new.objects) (Ok result) }
     ensures fault { CountsFaults (O.faults out.old) (O.faults out.new) (result ≡ ends.OutputFault) }
     ensures read { CountsFaults (I.faults input.old) (I.faults input.new) (result ≡ ends.InputFault) }

@@ -27,7 +27,7 @@ pub(crate) fn read_input<S: Source>(
     input: &mut S,
     limit: usize,
 ) -> Result<Input, Stop>
-    ensures read { Reads limit (S.left input.old) (S.left input.new) result }
+    ensures read { Reads S.left S.gave limit input.old input.new result }
     ensures fault { CountsFaults (S.faults input.old) (S.faults input.new) (IsErrOf result stops.InputFault) }
 {
     let mut bytes = Vec::new(alloc);
@@ -43,7 +43,7 @@ pub(crate) fn read_input<S: Source>(
 
 /// Puts more bytes of an input behind some, one more than `most` at most, and tells whether there were any.
 fn read_piece<S: Source>(input: &mut S, most: usize, bytes: &mut Vec<u8>) -> Result<bool, Stop>
-    ensures read { ReadsPiece most (S.left input.old) (S.left input.new) bytes.old.items bytes.new.items result }
+    ensures read { ReadsPiece S.left S.gave most input.old input.new bytes.old.items bytes.new.items result }
     ensures fault { CountsFaults (S.faults input.old) (S.faults input.new) (IsErrOf result stops.InputFault) }
 {
     let mut piece = [0; PIECE];

@@ -6,6 +6,8 @@
 //!
 //! It links, verifies and runs classes, lists class files and assembles texts. A program runs over a store that never lets an object go, until it
 //! ends, its steps are spent, memory runs out, the heap is full, or the outside fails.
+//!
+//! A program, its store and its roots are let go by calls of `drop`: what that takes is then proved once, and not in each function that has them.
 #![tactic(auto)]
 
 mod arguments;
@@ -39,7 +41,7 @@ pub use command::run_command;
 pub use ended::{Ended, Tally};
 pub use few::are_few;
 pub use law::{
-    asm_exactly, list_exactly, one_command, refused_silently, run_exactly, usage_exactly,
-    whole_exactly,
+    asm_exactly, list_exactly, one_command, refused_silently, run_exactly, told_runs,
+    usage_exactly, whole_exactly,
 };
 pub use refusal::Refusal;

@@ -1,8 +1,8 @@
 // Linking the class that is run.
-ghost use Rattle.std.specs.Prelude.{◌≡◌, ℕ, List, Option, IfErr, IfOk, IsErrOf};
+ghost use Rattle.std.specs.Prelude.{◌≡◌, IfErr, IfOk, IsErrOf};
 ghost use Rattle.cb_io.specs.Faults.{CountsFaults};
 ghost use Rattle.cb_runner.specs.Inner.{IsConverted, IsUnlinked, StopsAtOnce, StopsUntyped, run_of};
-ghost use Rattle.cb_runner.specs.Run.{IsRunnable, RunsClass};
+ghost use Rattle.cb_runner.specs.Run.{IsRefusedRun, IsRunnable};
 ghost use Rattle.cb_safety.specs.Linked.{IsLinked};
 ghost use Rattle.cb_verify.specs.Typed.{IsTyped};
 ghost use Rattle.cb_runner.specs.Words.{internal_name};
@@ -29,7 +29,7 @@ pub(crate) fn link_class<F: Folder>(
     ensures kept { F.files folder.new ≡ F.files folder.old }
     ensures runnable { IfOk result (λ program. IsRunnable (F.files folder.old) asked.now.folder.now (internal_name asked.now.class.now) program) }
     ensures linked { IfOk result IsLinked }
-    ensures stopped { IfErr result (λ stop. (left : Option (List ℕ)) → StopsAtOnce (RunsClass (F.files folder.old) left asked.now.folder.now (run_of asked.now)) stop) }
+    ensures stopped { IfErr result (StopsAtOnce (IsRefusedRun (F.files folder.old) asked.now.folder.now (run_of asked.now))) }
     ensures fault { CountsFaults (F.faults folder.old) (F.faults folder.new) (IsErrOf result stops.FolderFault) }
 {
     linking_links();
@@ -51,8 +51,13 @@ fn verified(alloc: Global, program: Program) -> Result<Program, Stop>
     ensures typed { IfOk result IsTyped }
     ensures stopped { IfErr result (StopsUntyped program) }
 {
-    verify_program(alloc, &program)?;
-    Ok(program)
+    match verify_program(alloc, &program) {
+        Ok(()) => Ok(program),
+        Err(stop) => {
+            drop(program);
+            Err(stop)
+        }
+    }
 }
 
 /// Stops for a refusal of linking.

@@ -3,11 +3,9 @@ ghost use Rattle.std.specs.Prelude.{◌≡◌, ℕ, List, Option};
 ghost use Rattle.std.specs.Io.KnownBytes.{Appends};
 ghost use Rattle.cb_io.specs.Faults.{CountsFaults};
 ghost use Rattle.cb_io.specs.Folder.{FindsAt};
-ghost use Rattle.cb_runner.specs.Answer.{EndsIn};
 ghost use Rattle.cb_runner.specs.List.{ListsBytes, ListsFile};
-ghost use Rattle.cb_runner.specs.Inner.{IsUnlisted, Makes, TellsWhole, ending_of};
+ghost use Rattle.cb_runner.specs.Inner.{IsUnlisted, ListsTo, Makes, TellsWhole};
 ghost use Rattle.cb_runner.specs.Run.{file_limit};
-ghost use Rattle.cb_runner.specs.Words.{ListOf};
 ghost use Rattle.cb_runner.specs.declared.stop.Stop.TheVariants as stops;
 
 use crate::Refusal;
@@ -28,7 +26,7 @@ pub(crate) fn list_file<F: Folder, O: Sink>(
     out: &mut O,
 ) -> Stop
     ensures ends { (printed : List ℕ) × Appends (O.taken out.old) (O.taken out.new) printed
-        × ((left : Option (List ℕ)) → EndsIn (ListOf path.now) (F.files folder.old) left (ending_of result printed 0)) }
+        × ListsTo path.now (F.files folder.old) result printed }
     ensures kept { F.files folder.new ≡ F.files folder.old }
     ensures tells { TellsWhole result }
     ensures folder_fault { CountsFaults (F.faults folder.old) (F.faults folder.new) (result ≡ stops.FolderFault) }

@@ -22,7 +22,7 @@ pub(crate) fn run_class<F: Folder, I: Source, O: Sink>(
     out: &mut O,
 ) -> Stop
     requires few { AreFew (words_of asked.now.arguments) }
-    ensures ends { IsCarriedOut (EndsIn (RunIn asked.now.folder.now (run_of asked.now)) (F.files folder.old) (I.left input.old))
+    ensures ends { IsCarriedOut (EndsIn I.left I.gave (RunIn asked.now.folder.now (run_of asked.now)) (F.files folder.old) input.old input.new)
         (I.left input.old) (I.left input.new) (O.taken out.old) (O.taken out.new) result }
     ensures kept { F.files folder.new ≡ F.files folder.old }
     ensures tells { TellsWhole result }

@@ -74,8 +74,15 @@ impl Stop {
         ensures fault { CountsFaults (E.faults err.old) (E.faults err.new) (result ≡ Cause.ErrFault) }
     {
         match self.write_line(err) {
-            Ok(()) => self.cause(),
-            Err(Failed) => Cause::ErrFault,
+            Ok(()) => {
+                let cause = self.cause();
+                drop(self);
+                cause
+            }
+            Err(Failed) => {
+                drop(self);
+                Cause::ErrFault
+            }
         }
     }
 

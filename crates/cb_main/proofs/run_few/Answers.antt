@@ -1,4 +1,4 @@
-use Rattle.std.proofs.Common.{◌≡◌, ◌⊎◌, inl, inr, ℤ, ℕ, List, refl, sym, ◌∙◌, ap, arith}
+use Rattle.std.proofs.Common.{◌≡◌, ◌⊎◌, inl, inr, ℤ, ℕ, List, Option, refl, sym, ◌∙◌, ap, arith}
 use Rattle.cb_runner.specs.Answer.{IsAnswer}
 use Rattle.cb_runner.specs.Ending.{status_of}
 use Rattle.cb_runner.specs.Outside.{Content, Failures}
@@ -28,24 +28,24 @@ status_told status cause is (inl usage) = inl (is ∙ ap status_of usage)
 status_told status cause is (inr fault) = inr (is ∙ ap status_of fault)
 
 -- by the whole answer of the call
-none_said : (words : List (List ℕ)) (before now : Content) (failed fails : Failures) (cause : Cause) → IsAnswer words before now failed fails cause → cause ≡ Usage → SaysNone words
-none_said words before now failed fails cause answer is = told_none words before.files before.left before.err now.err answer.ending cause answer.ends answer.err is
+none_said : {In : Type 0} (left : In → Option (List ℕ)) (gave : In → ℕ → List ℕ → In → Type 0) (words : List (List ℕ)) (before now : Content In) (failed fails : Failures) (cause : Cause) → IsAnswer left gave words before now failed fails cause → cause ≡ Usage → SaysNone words
+none_said left gave words before now failed fails cause answer is = told_none left gave words before.files before.input now.input before.err now.err answer.ending cause answer.ends answer.err is
 
-said_none : (words : List (List ℕ)) (before now : Content) (failed fails : Failures) (cause : Cause) → IsAnswer words before now failed fails cause → SaysNone words → (cause ≡ Usage) ⊎ (cause ≡ ErrFault)
-said_none words before now failed fails cause answer none = none_told words before.files before.left before.err now.err answer.ending cause answer.ends answer.err none
+said_none : {In : Type 0} (left : In → Option (List ℕ)) (gave : In → ℕ → List ℕ → In → Type 0) (words : List (List ℕ)) (before now : Content In) (failed fails : Failures) (cause : Cause) → IsAnswer left gave words before now failed fails cause → SaysNone words → (cause ≡ Usage) ⊎ (cause ≡ ErrFault)
+said_none left gave words before now failed fails cause answer none = none_told left gave words before.files before.input now.input before.err now.err answer.ending cause answer.ends answer.err none
 
-said_so : (words : List (List ℕ)) (before now : Content) (failed fails : Failures) (cause : Cause) → IsAnswer words before now failed fails cause
+said_so : {In : Type 0} (left : In → Option (List ℕ)) (gave : In → ℕ → List ℕ → In → Type 0) (words : List (List ℕ)) (before now : Content In) (failed fails : Failures) (cause : Cause) → IsAnswer left gave words before now failed fails cause
     → (cause ≡ Usage) ⊎ ((status : ℤ) × (cause ≡ Exited status)) → SaysNone words ⊎ SaysRun words
-said_so words before now failed fails cause answer (inl usage) = inl (none_said words before now failed fails cause answer usage)
-said_so words before now failed fails cause answer (inr (status, exits)) =
-    inr (told_run words before.files before.left before.err now.err answer.ending cause status answer.ends answer.err exits)
+said_so left gave words before now failed fails cause answer (inl usage) = inl (none_said left gave words before now failed fails cause answer usage)
+said_so left gave words before now failed fails cause answer (inr (status, exits)) =
+    inr (told_run left gave words before.files before.input now.input before.err now.err answer.ending cause status answer.ends answer.err exits)
 
 pub returns-clause-usage : goal.returns-clause-usage
 returns-clause-usage c = λ is.
     let (cause, status, answer) = c.exit_code.ensures.answer in
-    said_so _ _ _ _ _ cause answer (usage_alone cause (sym status ∙ is))
+    said_so _ _ _ _ _ _ _ cause answer (usage_alone cause (sym status ∙ is))
 
 pub returns-clause-none : goal.returns-clause-none
 returns-clause-none c = λ none.
     let (cause, status, answer) = c.exit_code.ensures.answer in
-    status_told _ cause status (said_none _ _ _ _ _ cause answer none)
+    status_told _ cause status (said_none _ _ _ _ _ _ _ cause answer none)

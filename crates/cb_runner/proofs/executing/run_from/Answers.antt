@@ -41,7 +41,7 @@ returns-in-Err-clause-comes g c =
     let asks = run_of c.args.asked.now in
     let refused = refused_by asks c.args.program.now c.args.roots.now.limit c.args.given.now c.requires.limit c.requires.given c.in-Err.reason c.in-Err.ensures.refused in
     record {
-      runs = λ stop is. unbegun_so asks c.args.program.now (g.I.Source.left c.args.input.now) (g.O.Sink.taken c.args.out.now) c.in-Err.reason stop (Appends-nothing (g.O.Sink.taken c.args.out.now)) refused is;
+      runs = λ stop is. unbegun_so g.I.Source.left g.I.Source.gave asks c.args.program.now c.args.input.now (g.O.Sink.taken c.args.out.now) c.in-Err.reason stop (Appends-nothing (g.O.Sink.taken c.args.out.now)) refused is;
     }
 
 pub returns-in-Err-clause-may : goal.returns-in-Err-clause-may

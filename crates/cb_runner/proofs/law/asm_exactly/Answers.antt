@@ -1,4 +1,4 @@
-use Rattle.std.proofs.Common.{◌≡◌, ◌↔◌, ℕ, ◌+◌, ◌<◌, ◌≤◌, List, length, Option, Some, sym, ◌∙◌, ap, subst, arith}
+use Rattle.std.proofs.Common.{◌≡◌, ◌↔◌, ℕ, ◌+◌, ◌<◌, ◌≤◌, List, length, IfSome, Option, Some, sym, ◌∙◌, ap, subst, arith}
 use Rattle.cb_asm.specs.Answers.{StopsAt}
 use Rattle.cb_asm_record.specs.Grammar.{Assembles}
 use Rattle.cb_classfile.specs.declared.class.ClassFile.{ClassFile}
@@ -14,8 +14,9 @@ use Rattle.cb_runner.proofs.Digits.{differ, digit, returns_unrefused}
 use Rattle.cb_runner.proofs.law.asm_exactly.Goals as goal
 
 -- by the text that the input tells
-by_text : (text : List ℕ) (files : Option Files) (ending : Ending) → Answers Assemble files (Some text) ending → AssemblesText text ending
-by_text text files ending (told, is, assembles) = subst (λ text. AssemblesText text ending) (sym is) assembles
+by_text : {In : Type 0} (left : In → Option (List ℕ)) (gave : In → ℕ → List ℕ → In → Type 0) (text : List ℕ) (files : Option Files) (first last : In) (ending : Ending) → left first ≡ Some text → Answers left gave Assemble files first last ending → AssemblesText text ending
+by_text left gave text files first last ending tells (told, is, reads, assembles) =
+    subst (λ text. AssemblesText text ending) (sym (subst (λ (left : Option (List ℕ)). IfSome left (λ left. left ≡ told)) tells is)) assembles
 
 too_large : (text : List ℕ) (ending : Ending) → AssemblesText text ending → (ending ≡ refused (TooLarge AssemblyBytes (text_limit + 1) text_limit) (text_limit + 1)) ↔ (text_limit < length text)
 too_large text ending (TooLong long is) = (λ again. long, λ again. is)
@@ -33,10 +34,12 @@ bad_line text ending short none (Assembled short_too class text_of is) = absurd 
 bad_line text ending short none (Bad short_too line stops is) = (line, stops, is)
 
 pub returns-clause-too_large : goal.returns-clause-too_large
-returns-clause-too_large c = λ text files ending answers. too_large text ending (by_text text files ending answers)
+returns-clause-too_large g c = λ text files first last ending tells answers. too_large text ending (by_text g.I.Source.left g.I.Source.gave text files first last ending tells answers)
 
 pub returns-clause-returned : goal.returns-clause-returned
-returns-clause-returned c = λ text class files ending answers short assembles. returned_so text class ending short assembles (by_text text files ending answers)
+returns-clause-returned g c = λ text class files first last ending tells answers short assembles.
+    returned_so text class ending short assembles (by_text g.I.Source.left g.I.Source.gave text files first last ending tells answers)
 
 pub returns-clause-bad_line : goal.returns-clause-bad_line
-returns-clause-bad_line c = λ text files ending answers short none. bad_line text ending short none (by_text text files ending answers)
+returns-clause-bad_line g c = λ text files first last ending tells answers short none.
+    bad_line text ending short none (by_text g.I.Source.left g.I.Source.gave text files first last ending tells answers)

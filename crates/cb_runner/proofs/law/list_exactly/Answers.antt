@@ -20,8 +20,8 @@ use Rattle.cb_runner.proofs.Digits.{differ, digit, returns_unrefused}
 use Rattle.cb_runner.proofs.law.list_exactly.Goals as goal
 
 -- by the file that the folder tells
-by_file : (path : List ℕ) (file : Option (List ℕ)) (files : Files) (left : Option (List ℕ)) (ending : Ending) → Answers (ListOf path) (Some files) left ending → get files path ≡ file → ListsFile path file ending
-by_file path file files left ending (told, is, lists) same = subst (λ file. ListsFile path file ending) (sym is ∙ same) lists
+by_file : {In : Type 0} (left : In → Option (List ℕ)) (gave : In → ℕ → List ℕ → In → Type 0) (path : List ℕ) (file : Option (List ℕ)) (files : Files) (first last : In) (ending : Ending) → Answers left gave (ListOf path) (Some files) first last ending → get files path ≡ file → ListsFile path file ending
+by_file left gave path file files first last ending (told, is, lists) same = subst (λ file. ListsFile path file ending) (sym is ∙ same) lists
 
 by_bytes : (path bytes : List ℕ) (ending : Ending) → ListsFile path (Some bytes) ending → length bytes ≤ file_limit → ListsBytes path bytes ending
 by_bytes path bytes ending (inl (long, is)) short = let none : ⊥ = omega (arith, long, short) in absurd none
@@ -103,25 +103,25 @@ listed_so one path bytes class ending listed (OfItem item leaves is) =
 listed_so one path bytes class ending listed (Listed told listed_too is) = is ∙ ap (λ class. returned (listing class) 0) (one bytes told class listed_too.read.spelled listed.read.spelled)
 
 pub returns-clause-missing : goal.returns-clause-missing
-returns-clause-missing c = λ path files left ending answers. missing path (get files path) ending (by_file path (get files path) files left ending answers refl)
+returns-clause-missing g c = λ path files first last ending answers. missing path (get files path) ending (by_file g.I.Source.left g.I.Source.gave path (get files path) files first last ending answers refl)
 
 pub returns-clause-too_large : goal.returns-clause-too_large
-returns-clause-too_large c = λ path bytes files left ending answers is. too_large path bytes ending (by_file path (Some bytes) files left ending answers is)
+returns-clause-too_large g c = λ path bytes files first last ending answers is. too_large path bytes ending (by_file g.I.Source.left g.I.Source.gave path (Some bytes) files first last ending answers is)
 
 pub returns-clause-bad_version : goal.returns-clause-bad_version
-returns-clause-bad_version c = λ path bytes major files left ending answers is short has other.
-    bad_version path bytes major ending has other (by_bytes path bytes ending (by_file path (Some bytes) files left ending answers is) short)
+returns-clause-bad_version g c = λ path bytes major files first last ending answers is short has other.
+    bad_version path bytes major ending has other (by_bytes path bytes ending (by_file g.I.Source.left g.I.Source.gave path (Some bytes) files first last ending answers is) short)
 
 pub returns-clause-malformed : goal.returns-clause-malformed
-returns-clause-malformed c = λ path bytes files left ending answers is short versions none.
-    malformed path bytes ending versions none (by_bytes path bytes ending (by_file path (Some bytes) files left ending answers is) short)
+returns-clause-malformed g c = λ path bytes files first last ending answers is short versions none.
+    malformed path bytes ending versions none (by_bytes path bytes ending (by_file g.I.Source.left g.I.Source.gave path (Some bytes) files first last ending answers is) short)
 
 pub returns-clause-unsupported : goal.returns-clause-unsupported
 unfolding OneClass
-returns-clause-unsupported c = λ path bytes item files left ending answers is short leaves.
-    unsupported_so c.one_class.ensures path bytes item ending leaves (by_bytes path bytes ending (by_file path (Some bytes) files left ending answers is) short)
+returns-clause-unsupported g c = λ path bytes item files first last ending answers is short leaves.
+    unsupported_so c.one_class.ensures path bytes item ending leaves (by_bytes path bytes ending (by_file g.I.Source.left g.I.Source.gave path (Some bytes) files first last ending answers is) short)
 
 pub returns-clause-returned : goal.returns-clause-returned
 unfolding OneClass
-returns-clause-returned c = λ path bytes class files left ending answers is short listed.
-    listed_so c.one_class.ensures path bytes class ending listed (by_bytes path bytes ending (by_file path (Some bytes) files left ending answers is) short)
+returns-clause-returned g c = λ path bytes class files first last ending answers is short listed.
+    listed_so c.one_class.ensures path bytes class ending listed (by_bytes path bytes ending (by_file g.I.Source.left g.I.Source.gave path (Some bytes) files first last ending answers is) short)

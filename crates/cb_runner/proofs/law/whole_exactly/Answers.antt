@@ -6,9 +6,11 @@ use Rattle.cb_runner.specs.Words.{Command}
 use Rattle.cb_runner.proofs.Laws.{answers_whole, cut_cause, cut_whole}
 use Rattle.cb_runner.proofs.law.whole_exactly.Goals as goal
 
-whole : (command : Command) (files : Option Files) (left : Option (List ℕ)) (ending : Ending) → EndsIn command files left ending → IsWhole ending → Answers command files left ending
-whole command files left ending (inl answers) is_whole = answers
-whole command files left ending (inr (fault, cut)) is_whole = absurd (cut_whole fault ending (cut_cause fault command files left ending cut) is_whole)
+whole : {In : Type 0} (left : In → Option (List ℕ)) (gave : In → ℕ → List ℕ → In → Type 0) (command : Command) (files : Option Files) (first last : In) (ending : Ending) → EndsIn left gave command files first last ending → IsWhole ending
+    → Answers left gave command files first last ending
+whole left gave command files first last ending (inl answers) is_whole = answers
+whole left gave command files first last ending (inr (fault, cut)) is_whole = absurd (cut_whole fault ending (cut_cause left gave fault command files first last ending cut) is_whole)
 
 pub returns : goal.returns
-returns c = λ command files left ending ends. (whole command files left ending ends, answers_whole command files left ending)
+returns g c = λ command files first last ending ends.
+    (whole g.I.Source.left g.I.Source.gave command files first last ending ends, answers_whole g.I.Source.left g.I.Source.gave command files first last ending)

@@ -10,12 +10,12 @@ use Rattle.cb_runner.proofs.linking.link_class.Goals as goal
 pub returns-in-Err-clause-stopped : goal.returns-in-Err-clause-stopped
 returns-in-Err-clause-stopped g c =
     let stops = subst (λ main. Hinders (g.F.Folder.files c.args.folder.now) c.args.asked.now.folder.now c.in-Ok.library main c.in-Err.refusal) c.in-Ok-internal_name.ensures c.in-Err.ensures.refused in
-    λ left. unlinked_so _ left _ (run_of c.args.asked.now) _ c.in-Err.refusal c.unlinked.result c.in-Ok.ensures.records stops c.unlinked.ensures
+    unlinked_so _ _ (run_of c.args.asked.now) _ c.in-Err.refusal c.unlinked.result c.in-Ok.ensures.made stops c.unlinked.ensures
 
 pub returns-in-Ok-link-clause-runnable : goal.returns-in-Ok-link-clause-runnable
 returns-in-Ok-link-clause-runnable g c =
     let links = subst (λ main. IsLinked (g.F.Folder.files c.args.folder.now) c.args.asked.now.folder.now c.in-Ok.library main c.in-Ok-link.program) c.in-Ok-internal_name.ensures c.in-Ok-link.ensures.linked in
-    runnable_by _ _ _ _ c.in-Ok-link.program c.verified.result c.in-Ok.ensures.records links c.verified.ensures.same c.verified.ensures.typed
+    runnable_by _ _ _ _ c.in-Ok-link.program c.verified.result c.in-Ok.ensures.made links c.verified.ensures.same c.verified.ensures.typed
 
 pub returns-in-Ok-link-clause-linked : goal.returns-in-Ok-link-clause-linked
 returns-in-Ok-link-clause-linked g c =
@@ -25,7 +25,7 @@ returns-in-Ok-link-clause-linked g c =
 pub returns-in-Ok-link-clause-stopped : goal.returns-in-Ok-link-clause-stopped
 returns-in-Ok-link-clause-stopped g c =
     let links = subst (λ main. IsLinked (g.F.Folder.files c.args.folder.now) c.args.asked.now.folder.now c.in-Ok.library main c.in-Ok-link.program) c.in-Ok-internal_name.ensures c.in-Ok-link.ensures.linked in
-    stopped_by _ _ (run_of c.args.asked.now) _ c.in-Ok-link.program c.verified.result c.in-Ok.ensures.records links c.verified.ensures.stopped
+    stopped_by _ _ (run_of c.args.asked.now) _ c.in-Ok-link.program c.verified.result c.in-Ok.ensures.made links c.verified.ensures.stopped
 
 pub returns-in-Ok-link-clause-fault : goal.returns-in-Ok-link-clause-fault
 returns-in-Ok-link-clause-fault g c =
