@@ -451,7 +451,7 @@ def main():
         for row in rows:
             count += 1
             print("| " + " ".join(row.given) + (" | " + " ".join(row.told) if tells else ""))
-    for name, row, told in (("string", "", "1 2 104 105 7 1 1"), ("stack", "8 9 7", "7 9 8 none"), ("stack", "", "none")):
+    for name, row, told in (("string", "", "1 2 104 105 7 1 1"), ("trial", "", "2"), ("stack", "8 9 7", "7 9 8 none"), ("stack", "", "none")):
         count += 1
         print(f"\ntable {name}\n|{' ' if row else ''}{row}" + (f" | {told}" if tells else ""))
     print("\ntable timed")
@@ -463,4 +463,5 @@ def main():
         print(f"\n{count} rows")
 
 
-main()
+if __name__ == "__main__":
+    main()

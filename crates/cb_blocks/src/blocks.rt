@@ -110,6 +110,18 @@ impl Blocks {
         block as u64 * 256 + i % 256
     }
 
+    /// The same, where a place is told that may lie in the same block. Where it does no table is looked at but the block's tag.
+    pub fn index_near(&self, part: u32, i: u64, near: u64) -> u64
+        requires part { part < length self.now.words }
+        requires place { i < length (row self.now.words part) }
+        ensures { IsAt self.now part i result }
+    {
+        let block = self
+            .blocks
+            .get_near(part, (i / 256) as u32, (near / 256 % 1_048_576) as u32);
+        block as u64 * 256 + i % 256
+    }
+
     /// The word at a place in the region, where a word of a part stands.
     pub fn region_word(&self, index: u64) -> u64
         requires { (part : ℕ) × (i : ℕ) × IsAt self.now part i index }
@@ -271,17 +283,40 @@ impl Blocks {
         requires inside { from + count ≤ length (row self.old.words part) }
         ensures { self.new ≡ with_words self.old part (copied (row self.old.words part) from to count) }
     {
-        let _used = self.used(part);
-        let mut done = 0;
-        while done < count {
-            let step = piece(from + done, to + done, count - done);
-            self.move_piece(part, from + done, to + done, step);
-            done += step;
-        }
+        let _target = self.move_near(part, from, to, count, (0, 0));
     }
 
-    /// The same of words that stand in one block, to places that are in one block too.
-    fn move_piece(&mut self, part: u32, from: u64, to: u64, count: u64)
+    /// The same, where places are told that may lie in the same blocks as the first word and as its target. Where they do no table is looked at but the blocks'
+    /// tags. Gives a place that mostly lies behind the last word's target.
+    pub fn move_near(&mut self, part: u32, from: u64, to: u64, count: u64, near: (u64, u64)) -> u64
+        requires part { part < length self.old.words }
+        requires order { to ≤ from }
+        requires inside { from + count ≤ length (row self.old.words part) }
+        ensures { self.new ≡ with_words self.old part (copied (row self.old.words part) from to count) }
+    {
+        let _used = self.used(part);
+        let mut done = 0;
+        let mut source = near.0;
+        let mut target = near.1;
+        while done < count {
+            let step = piece(from + done, to + done, count - done);
+            let moved = self.move_piece(part, from + done, to + done, step, (source, target));
+            done += step;
+            source = moved.0.wrapping_add(step);
+            target = moved.1.wrapping_add(step);
+        }
+        target
+    }
+
+    /// The same of words that stand in one block, to places that are in one block too. Gives where the first word stood and stands.
+    fn move_piece(
+        &mut self,
+        part: u32,
+        from: u64,
+        to: u64,
+        count: u64,
+        near: (u64, u64),
+    ) -> (u64, u64)
         requires part { part < length self.old.words }
         requires order { to ≤ from }
         requires inside { from + count ≤ length (row self.old.words part) }
@@ -290,10 +325,11 @@ impl Blocks {
         requires target { to % 256 + count ≤ 256 }
         ensures { self.new ≡ with_words self.old part (copied (row self.old.words part) from to count) }
     {
-        let source = self.index_of(part, from);
-        let target = self.index_of(part, to);
+        let source = self.index_near(part, from, near.0);
+        let target = self.index_near(part, to, near.1);
         self.region
             .slide(source as usize, target as usize, count as usize);
+        (source, target)
     }
 }
 

@@ -134,6 +134,20 @@ impl<R: Rows> Holdings<R> {
         self.rows.get(part, i)
     }
 
+    /// The same, where a number is told that may be it: only where it isn't are the rows looked at.
+    pub(crate) fn get_near(&self, part: u32, i: u32, near: u32) -> u32
+        requires part { part < length self.now.rows }
+        requires place { i < length (row self.now.rows part) }
+        ensures { slice_get (row self.now.rows part) i ≡ Some result }
+    {
+        if near < self.fresh {
+            if self.tags[near as usize] == tag(part, i) {
+                return near;
+            }
+        }
+        self.get(part, i)
+    }
+
     /// Takes a free number to the end of the row of a part, and gives it.
     #[inline(never)]
     pub(crate) fn take(&mut self, part: u32) -> u32

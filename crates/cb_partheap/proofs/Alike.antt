@@ -117,6 +117,7 @@ alike_heap heap memory is a still =
       sites = is.sites;
       site_within = λ site below. omega (arith, is.site_within site below, a.count);
       few_parts = omega (arith, is.few_parts, a.count);
+      grid = is.grid ∙ sym a.count;
       room = subst (λ n. n ≤ memory.blocks) (ap (λ n. blocks n (λ part. length (row heap.memory.words part) + wanted (part_of heap.site_parts) heap.granted part)) (sym a.count)
           ∙ ap (blocks (length memory.words)) (fun_ext (λ part. ap (λ n. n + wanted (part_of heap.site_parts) heap.granted part) (sym (a.long part)))))
           (subst (λ n. blocks (length heap.memory.words) (λ part. length (row heap.memory.words part) + wanted (part_of heap.site_parts) heap.granted part) ≤ n) (sym a.blocks) is.room);

@@ -38,6 +38,7 @@ granted_heap heap wants is room all =
       sites = is.sites;
       site_within = is.site_within;
       few_parts = is.few_parts;
+      grid = is.grid;
       room = room;
       known = λ site. known_of heap wants site all;
       idle = is.idle;

@@ -1,7 +1,9 @@
 mod Adds
 mod Agree
 mod Alike
+mod Asked
 mod Calls
+mod Closed
 mod Edges
 mod Follows
 mod Found

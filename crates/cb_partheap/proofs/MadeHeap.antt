@@ -48,9 +48,9 @@ taken_none : (parts : ℕ) → taken (replicate parts []) ≡ 0
 taken_none zero = refl
 taken_none (suc parts) = sum_by-cons (λ (part : List ℕ). blocks_for (length part)) [] (replicate parts []) ∙ (let rest = taken_none parts in omega (arith, rest))
 
-made_empty : (shapes : List Shape) (site_parts : List ℕ) (graph : Condensed) (blocks : ℕ) (edges : List (List Bool)) → length site_parts ≤ 2 ^ 14 → All (λ part. part < graph.parts) site_parts → IsGraph graph → IsParted (empty_parts blocks graph.parts) →
+made_empty : (shapes : List Shape) (site_parts : List ℕ) (graph : Condensed) (blocks : ℕ) (edges : List (List Bool)) → length site_parts ≤ 2 ^ 14 → All (λ part. part < graph.parts) site_parts → IsGraph graph → IsParted (empty_parts blocks graph.parts) → length edges ≡ graph.parts →
     IsHeap (made (empty_parts blocks graph.parts) shapes site_parts edges [] (record { places = []; room = blocks * 256 / 3 }))
-made_empty shapes site_parts graph blocks edges sites parts is_graph sound =
+made_empty shapes site_parts graph blocks edges sites parts is_graph sound grid =
     let count : length (empty_parts blocks graph.parts).words ≡ graph.parts = length-replicate {A = List ℕ} graph.parts [] in
     record {
       parted = sound;
@@ -62,6 +62,7 @@ made_empty shapes site_parts graph blocks edges sites parts is_graph sound =
       sites = sites;
       site_within = λ site below. omega (arith, parts site 0 below, count);
       few_parts = omega (arith, is_graph.few_parts, count);
+      grid = grid ∙ sym count;
       room = omega (arith, nothing_asked (empty_parts blocks graph.parts).words site_parts, taken_none graph.parts);
       known = λ site some. absurd (omega (arith, some));
       idle = refl;
@@ -74,7 +75,7 @@ made_heap {site_parts} {graph} {blocks} {memory} {edges} {granted} {grey} shapes
     subst (λ (p : Parted). IsHeap (made p shapes site_parts edges granted grey)) (sym m.memory_is)
     (subst (λ g. IsHeap (made (empty_parts blocks graph.parts) shapes site_parts edges g grey)) (sym m.granted_is)
     (subst (λ s. IsHeap (made (empty_parts blocks graph.parts) shapes site_parts edges [] s)) (sym m.grey_is)
-    (made_empty shapes site_parts graph blocks edges m.sites m.parts m.is_graph (subst IsParted m.memory_is m.sound))))
+    (made_empty shapes site_parts graph blocks edges m.sites m.parts m.is_graph (subst IsParted m.memory_is m.sound) m.grid.nodes)))
 
 no_objects : (heap : Heap) → heap.next ≡ 1 → objects_in heap ≡ []
 unfolding objects_in

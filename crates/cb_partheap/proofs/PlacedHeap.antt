@@ -131,6 +131,7 @@ new_heap heap memory site kind size n =
       sites = n.is.sites;
       site_within = λ s below. omega (arith, n.is.site_within s below, count);
       few_parts = omega (arith, n.is.few_parts, count);
+      grid = omega (arith, n.is.grid, count);
       room = subst (λ k. k ≤ memory.blocks) (sym (ap (λ k. blocks k (λ part. length (row memory.words part) + wanted (part_of heap.site_parts) (spent heap.granted site (words_of size)) part)) count
           ∙ ap (blocks (length heap.memory.words)) (fun_ext (λ part. room_at heap memory site kind size part n)))) (subst (λ k. blocks_with heap heap.granted ≤ k) (sym n.added.blocks) n.is.room);
       known = λ s some. n.is.known s (omega (arith, some, words_at_spent heap.granted site (words_of size) s));

@@ -43,6 +43,7 @@ pub record IsHeap (heap : Heap) : Type 0 where
   pub sites : length heap.site_parts ≤ 2 ^ 14
   pub site_within : (site : ℕ) → site < length heap.site_parts → part_of heap.site_parts site < length heap.memory.words
   pub few_parts : length heap.memory.words ≤ 2 ^ 12
+  pub grid : length heap.edges ≡ length heap.memory.words
   pub room : blocks_with heap heap.granted ≤ heap.memory.blocks
   pub known : (site : ℕ) → 0 < words_at heap.granted site → site < length heap.site_parts
   pub idle : heap.grey.places ≡ []

@@ -1,10 +1,11 @@
 // The heap in parts.
 ghost use Rattle.std.specs.Prelude.{[], true, ℕ, ◌≡◌, ◌+◌, ◌<◌, ◌≤◌, ◌^◌, ◌++◌, ◌∷◌, length, option_map, pos, ◌↔◌, IfOk, IsErr, IsTrue, OnErr, OnOk, Some};
 ghost use Rattle.std.specs.Int.{int_wrap, w64};
-ghost use Rattle.std.specs.List.{All, AllByRecursion};
+ghost use Rattle.std.specs.List.{All, AllByRecursion, list_all};
 ghost use Rattle.cb_plain.specs.Requests.{spent, words_at};
 ghost use Rattle.cb_plain.specs.State.{Number, Reference, words_of};
 ghost use Rattle.cb_plain.specs.Updates.{object_in};
+ghost use Rattle.cb_heap.specs.Closed.{references_in};
 ghost use Rattle.cb_heap.specs.Follows.{Follows};
 ghost use Rattle.cb_heap.specs.Grants.{IsBounded};
 ghost use Rattle.cb_heap.specs.Kept.{content_at, is_held, is_kept, is_number, is_reference, with_content};
@@ -216,9 +217,17 @@ impl PartHeap {
         set_word_at(&mut self.words, at, 3 + i as u64, to);
     }
 
-    /// Says that references stay in their part or follow an edge, and that the words of each part are those of the objects that are kept in it.
-    /// Does nothing.
+    /// How many parts there are.
+    pub fn parts(&self) -> u32
+        ensures { result ≡ length self.now.memory.words }
+    {
+        self.edges.nodes()
+    }
+
+    /// Says that references stay in their part or follow an edge, that no object that is kept names one that isn't, and that the words of each part are
+    /// those of the objects that are kept in it. Does nothing.
     pub fn is_whole(&self)
+        ensures closed { IsTrue (list_all (is_held (objects_in self.now)) (references_in (objects_in self.now))) }
         ensures follows { Follows (settings_in self.now).allows (objects_in self.now) }
         ensures used { (part : ℕ) → part < length self.now.memory.words → used (part_of self.now.site_parts) (objects_in self.now) part ≡ length (row self.now.memory.words part) }
     {

@@ -105,3 +105,17 @@ pub fn place_at(words: &Blocks, part: u32, start: u64) -> u64
     let _sound = words.blocks_free();
     part as u64 * SPAN + words.index_of(part, start) + 1
 }
+
+/// The same, where a place is told that is the object's or lies near it, as that of one which ends where the object begins. Where both are in one block no table is
+/// looked at.
+pub fn place_near(words: &Blocks, part: u32, start: u64, near: u64) -> u64
+    requires part { part < length words.now.words }
+    requires few { part < 2 ^ 12 }
+    requires inside { start < length (row words.now.words part) }
+    ensures place { result ≡ place_of words.now (record { part = part; start = start }) }
+    ensures sound { IsParted words.now }
+{
+    let _sound = words.blocks_free();
+    let index = words.index_near(part, start, near.wrapping_sub(1));
+    part as u64 * SPAN + index + 1
+}

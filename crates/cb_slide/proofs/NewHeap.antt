@@ -123,6 +123,7 @@ module _ (given : Given) (new : Parted) (g : IsGiven given) (s : IsSlid given ne
         sites = g.heap.sites;
         site_within = λ site below. omega (arith, g.heap.site_within site below, s.count);
         few_parts = omega (arith, g.heap.few_parts, s.count);
+        grid = g.heap.grid ∙ sym s.count;
         room = room_after;
         known = g.heap.known;
         idle = g.heap.idle;

@@ -3,7 +3,7 @@ ghost use Rattle.std.specs.Prelude.{◌≡◌, ◌<◌, ◌+◌, ◌^◌, ◌≤
 ghost use Rattle.cb_slide.specs.Sliding.{ForwardedTo, Given, IsIn};
 
 use cb_blocks::Blocks;
-use cb_partheap::{mark_at, object_words, place_at, set_mark_at};
+use cb_partheap::{mark_at, object_words, place_near, set_mark_at};
 use cb_plain::{Set, Shapes};
 
 /// Gives each marked object of a set of parts its forwarding place.
@@ -26,14 +26,18 @@ fn forward_part(words: &mut Blocks, shapes: &Shapes, part: u32)
     let end = words.used(part);
     let mut free = 0;
     let mut scan = 0;
+    let mut near = 0;
+    let mut near_free = 0;
     while scan < end {
-        let at = place_at(words, part, scan);
+        let at = place_near(words, part, scan, near);
         let size = object_words(words, shapes, at);
         if mark_at(words, at) != 0 {
-            let to = place_at(words, part, free);
+            let to = place_near(words, part, free, near_free);
             set_mark_at(words, at, to);
             free += size;
+            near_free = to.wrapping_add(size);
         }
         scan += size;
+        near = at.wrapping_add(size);
     }
 }

@@ -6,7 +6,7 @@ ghost use Rattle.cb_raw.specs.Words.{copied};
 ghost use Rattle.cb_slide.specs.Sliding.{Given, IsIn, IsRewritten, SlidTo, words_before};
 
 use cb_blocks::Blocks;
-use cb_partheap::{mark_at, object_words, place_at, set_mark_at};
+use cb_partheap::{mark_at, object_words, place_near, set_mark_at};
 use cb_plain::{Set, Shapes, Steps};
 use std::sync::ledger::Ledger;
 
@@ -38,32 +38,38 @@ fn compact_part<L: Ledger>(words: &mut Blocks, shapes: &Shapes, part: u32, steps
     let mut free = 0;
     let mut first = 0;
     let mut scan = 0;
+    let mut near = 0;
+    let mut run = (0, 0);
     while scan < end {
-        let at = place_at(words, part, scan);
+        let at = place_near(words, part, scan, near);
         let size = object_words(words, shapes, at);
+        near = at.wrapping_add(size);
         if mark_at(words, at) != 0 {
             set_mark_at(words, at, 0);
         } else {
-            move_run(words, part, first, free, scan - first, steps);
+            let behind = move_run(words, part, first, free, scan - first, run, steps);
             free += scan - first;
             first = scan + size;
+            run = (near.wrapping_sub(1), behind);
         }
         scan += size;
     }
-    move_run(words, part, first, free, scan - first, steps);
+    let _behind = move_run(words, part, first, free, scan - first, run, steps);
     words.shrink(part, free + (scan - first));
     let _sound = words.blocks_free();
 }
 
-// Moves so many words of a part, each of which is counted, where they don't stand there already.
+// Moves so many words of a part, each of which is counted, where they don't stand there already. It is told places in the region that may be those of the first
+// word and of its target, and gives one that may be that behind the last target.
 fn move_run<L: Ledger>(
     words: &mut Blocks,
     part: u32,
     from: u64,
     to: u64,
     count: u64,
+    near: (u64, u64),
     steps: &mut Steps<L>,
-)
+) -> u64
     requires part { part < length words.old.words }
     requires order { to ≤ from }
     requires inside { from + count ≤ length (row words.old.words part) }
@@ -71,10 +77,10 @@ fn move_run<L: Ledger>(
     ensures counted { steps.new ≤ steps.old + count }
 {
     if to == from {
-        return;
+        return near.0.wrapping_add(count);
     }
     for _word in 0..count {
         steps.tick();
     }
-    words.move_words(part, from, to, count);
+    words.move_near(part, from, to, count, near)
 }

@@ -13,7 +13,7 @@ ghost use Rattle.cb_plain.specs.State.{words_of};
 use cb_blocks::Blocks;
 use cb_frames::Roots;
 use cb_partheap::{
-    holds, mark_at, may_hold, object_words, part_at, place_at, set_word_at, shape_at, word_at,
+    holds, mark_at, may_hold, object_words, part_at, place_near, set_word_at, shape_at, word_at,
 };
 use cb_plain::{Set, Shapes, Steps};
 use std::sync::ledger::Ledger;
@@ -87,8 +87,9 @@ fn rewrite_part<L: Ledger>(
 {
     let end = words.used(part);
     let mut scan = 0;
+    let mut near = 0;
     while scan < end {
-        let at = place_at(words, part, scan);
+        let at = place_near(words, part, scan, near);
         let size = object_words(words, shapes, at);
         steps.tick();
         steps.tick();
@@ -97,6 +98,7 @@ fn rewrite_part<L: Ledger>(
             rewrite_object(words, shapes, set, at, size - 3, steps);
         }
         scan += size;
+        near = at.wrapping_add(size);
     }
 }
 

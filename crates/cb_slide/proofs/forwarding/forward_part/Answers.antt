@@ -9,60 +9,60 @@ loop-scan-init c given f is = record { so_far = f; edge = edge_first given c.arg
 pub object_words-size-requires : goal.object_words-size-requires
 object_words-size-requires c =
     let less = scan_less c.loop-scan.scan c.used-end.result c.requires.1 c.used-end.ensures c.loop-scan-test.true in
-    (spot_at c.args.part c.loop-scan.scan, header_here (c.loop-scan.invariant c.requires.0 c.requires.1 c.requires.2) c.requires.2 less c.place_at-at.result c.place_at-at.ensures.place)
+    (spot_at c.args.part c.loop-scan.scan, header_here (c.loop-scan.invariant c.requires.0 c.requires.1 c.requires.2) c.requires.2 less c.place_near-at.result c.place_near-at.ensures.place)
 
 pub mark_at-requires : goal.mark_at-requires
 mark_at-requires c =
     let less = scan_less c.loop-scan.scan c.used-end.result c.requires.1 c.used-end.ensures c.loop-scan-test.true in
-    (spot_at c.args.part c.loop-scan.scan, header_here (c.loop-scan.invariant c.requires.0 c.requires.1 c.requires.2) c.requires.2 less c.place_at-at.result c.place_at-at.ensures.place)
+    (spot_at c.args.part c.loop-scan.scan, header_here (c.loop-scan.invariant c.requires.0 c.requires.1 c.requires.2) c.requires.2 less c.place_near-at.result c.place_near-at.ensures.place)
 
-pub place_at-to-requires-clause-inside : goal.place_at-to-requires-clause-inside
-place_at-to-requires-clause-inside c =
+pub place_near-to-requires-clause-inside : goal.place_near-to-requires-clause-inside
+place_near-to-requires-clause-inside c =
     let s = c.loop-scan.invariant c.requires.0 c.requires.1 c.requires.2 in
     let less = scan_less c.loop-scan.scan c.used-end.result c.requires.1 c.used-end.ensures c.loop-scan-test.true in
-    let size = size_here s c.requires.2 less c.place_at-at.result c.place_at-at.ensures.place c.object_words-size.result c.object_words-size.ensures in
-    omega (arith, less, (fits_here s c.requires.2 less c.place_at-at.result c.place_at-at.ensures.place c.object_words-size.result size).3, s.so_far.alike.long c.args.part)
+    let size = size_here s c.requires.2 less c.place_near-at.result c.place_near-at.ensures.place c.object_words-size.result c.object_words-size.ensures in
+    omega (arith, less, (fits_here s c.requires.2 less c.place_near-at.result c.place_near-at.ensures.place c.object_words-size.result size).3, s.so_far.alike.long c.args.part)
 
 pub set_mark_at-requires-clause-there : goal.set_mark_at-requires-clause-there
 set_mark_at-requires-clause-there c =
     let less = scan_less c.loop-scan.scan c.used-end.result c.requires.1 c.used-end.ensures c.loop-scan-test.true in
-    (spot_at c.args.part c.loop-scan.scan, header_here (c.loop-scan.invariant c.requires.0 c.requires.1 c.requires.2) c.requires.2 less c.place_at-at.result c.place_at-at.ensures.place)
+    (spot_at c.args.part c.loop-scan.scan, header_here (c.loop-scan.invariant c.requires.0 c.requires.1 c.requires.2) c.requires.2 less c.place_near-at.result c.place_near-at.ensures.place)
 
 pub overflow_add-free : goal.overflow_add-free
 overflow_add-free c =
     let s = c.loop-scan.invariant c.requires.0 c.requires.1 c.requires.2 in
     let less = scan_less c.loop-scan.scan c.used-end.result c.requires.1 c.used-end.ensures c.loop-scan-test.true in
-    let size = size_here s c.requires.2 less c.place_at-at.result c.place_at-at.ensures.place c.object_words-size.result c.object_words-size.ensures in
-    let fits = fits_here s c.requires.2 less c.place_at-at.result c.place_at-at.ensures.place c.object_words-size.result size in
+    let size = size_here s c.requires.2 less c.place_near-at.result c.place_near-at.ensures.place c.object_words-size.result c.object_words-size.ensures in
+    let fits = fits_here s c.requires.2 less c.place_near-at.result c.place_near-at.ensures.place c.object_words-size.result size in
     omega (arith, fits.0, fits.1, fits.3)
 
 pub overflow_add-scan : goal.overflow_add-scan
 overflow_add-scan c =
     let s = c.loop-scan.invariant c.requires.0 c.requires.1 c.requires.2 in
     let less = scan_less c.loop-scan.scan c.used-end.result c.requires.1 c.used-end.ensures c.loop-scan-test.true in
-    let size = size_here s c.requires.2 less c.place_at-at.result c.place_at-at.ensures.place c.object_words-size.result c.object_words-size.ensures in
-    let fits = fits_here s c.requires.2 less c.place_at-at.result c.place_at-at.ensures.place c.object_words-size.result size in
+    let size = size_here s c.requires.2 less c.place_near-at.result c.place_near-at.ensures.place c.object_words-size.result c.object_words-size.ensures in
+    let fits = fits_here s c.requires.2 less c.place_near-at.result c.place_near-at.ensures.place c.object_words-size.result size in
     omega (arith, fits.0, fits.1)
 
 pub loop-scan-smaller : goal.loop-scan-smaller
 loop-scan-smaller c =
     let s = c.loop-scan.invariant c.requires.0 c.requires.1 c.requires.2 in
     let less = scan_less c.loop-scan.scan c.used-end.result c.requires.1 c.used-end.ensures c.loop-scan-test.true in
-    let size = size_here s c.requires.2 less c.place_at-at.result c.place_at-at.ensures.place c.object_words-size.result c.object_words-size.ensures in
-    let fits = fits_here s c.requires.2 less c.place_at-at.result c.place_at-at.ensures.place c.object_words-size.result size in
+    let size = size_here s c.requires.2 less c.place_near-at.result c.place_near-at.ensures.place c.object_words-size.result c.object_words-size.ensures in
+    let fits = fits_here s c.requires.2 less c.place_near-at.result c.place_near-at.ensures.place c.object_words-size.result size in
     omega (arith, c.loop-scan-test.true, fits.2)
 
 pub loop-scan-preserved : goal.loop-scan-preserved
 loop-scan-preserved c given f is =
     let s = c.loop-scan.invariant given f is in
     let less = scan_less c.loop-scan.scan c.used-end.result f c.used-end.ensures c.loop-scan-test.true in
-    let at = c.place_at-at.result in
-    let place = c.place_at-at.ensures.place in
+    let at = c.place_near-at.result in
+    let place = c.place_near-at.ensures.place in
     let size = size_here s is less at place c.object_words-size.result c.object_words-size.ensures in
     elim c.if-mark_at-ne0.branch [
       | then-mark_at-ne0 w ↦
           same_scan w.set_mark_at.new.words c.if-mark_at-ne0.words _ c.if-mark_at-ne0.free w.words-is w.free-is
-          (next_kept s is less at place c.object_words-size.result c.mark_at.result w.place_at-to.result w.set_mark_at.new.words size c.mark_at.ensures w.if-mark_at-ne0.true w.place_at-to.ensures.place w.set_mark_at.ensures)
+          (next_kept s is less at place c.object_words-size.result c.mark_at.result w.place_near-to.result w.set_mark_at.new.words size c.mark_at.ensures w.if-mark_at-ne0.true w.place_near-to.ensures.place w.set_mark_at.ensures)
       | else-mark_at-ne0 w ↦
           same_scan c.loop-scan.words c.if-mark_at-ne0.words _ c.if-mark_at-ne0.free w.words-is w.free-is
           (next_gone s is less at place c.object_words-size.result c.mark_at.result size c.mark_at.ensures w.if-mark_at-ne0.false)

@@ -12,29 +12,29 @@ pub object_words-size-requires : goal.object_words-size-requires
 object_words-size-requires g c =
     let r = c.requires in
     let less = rewrite_less c.loop-scan.scan c.used-end.result r.1 c.used-end.ensures c.loop-scan-test.true in
-    (spot_at c.args.part c.loop-scan.scan, header_now (c.loop-scan.invariant r.0 r.1 r.2 r.3 r.4).0 r.2 less c.place_at-at.result c.place_at-at.ensures.place)
+    (spot_at c.args.part c.loop-scan.scan, header_now (c.loop-scan.invariant r.0 r.1 r.2 r.3 r.4).0 r.2 less c.place_near-at.result c.place_near-at.ensures.place)
 
 pub mark_at-requires : goal.mark_at-requires
 mark_at-requires g c =
     let r = c.requires in
     let less = rewrite_less c.loop-scan.scan c.used-end.result r.1 c.used-end.ensures c.loop-scan-test.true in
-    (spot_at c.args.part c.loop-scan.scan, header_now (c.loop-scan.invariant r.0 r.1 r.2 r.3 r.4).0 r.2 less c.place_at-at.result c.place_at-at.ensures.place)
+    (spot_at c.args.part c.loop-scan.scan, header_now (c.loop-scan.invariant r.0 r.1 r.2 r.3 r.4).0 r.2 less c.place_near-at.result c.place_near-at.ensures.place)
 
 pub overflow_sub-size : goal.overflow_sub-size
 overflow_sub-size g c =
     let r = c.requires in
     let s = (c.loop-scan.invariant r.0 r.1 r.2 r.3 r.4).0 in
     let less = rewrite_less c.loop-scan.scan c.used-end.result r.1 c.used-end.ensures c.loop-scan-test.true in
-    let size = size_now s r.2 less c.place_at-at.result c.place_at-at.ensures.place c.object_words-size.result c.object_words-size.ensures in
-    omega (arith, (fits_now s r.2 less c.place_at-at.result c.place_at-at.ensures.place c.object_words-size.result size).2)
+    let size = size_now s r.2 less c.place_near-at.result c.place_near-at.ensures.place c.object_words-size.result c.object_words-size.ensures in
+    omega (arith, (fits_now s r.2 less c.place_near-at.result c.place_near-at.ensures.place c.object_words-size.result size).2)
 
 pub rewrite_object-requires : goal.rewrite_object-requires
 rewrite_object-requires g c =
     let r = c.requires in
     let s = (c.loop-scan.invariant r.0 r.1 r.2 r.3 r.4).0 in
     let less = rewrite_less c.loop-scan.scan c.used-end.result r.1 c.used-end.ensures c.loop-scan-test.true in
-    let at = c.place_at-at.result in
-    let place = c.place_at-at.ensures.place in
+    let at = c.place_near-at.result in
+    let place = c.place_near-at.ensures.place in
     let size = size_now s r.2 less at place c.object_words-size.result c.object_words-size.ensures in
     let kept = kept_now s r.2 less at place c.mark_at.result c.mark_at.ensures c.if-mark_at-ne0.true in
     (r.0, spot_at c.args.part c.loop-scan.scan, object_next s r.2 less at place c.args.shapes.now c.args.set.now c.object_words-size.result size kept r.3 r.4)
@@ -44,8 +44,8 @@ overflow_add-scan g c =
     let r = c.requires in
     let s = (c.loop-scan.invariant r.0 r.1 r.2 r.3 r.4).0 in
     let less = rewrite_less c.loop-scan.scan c.used-end.result r.1 c.used-end.ensures c.loop-scan-test.true in
-    let size = size_now s r.2 less c.place_at-at.result c.place_at-at.ensures.place c.object_words-size.result c.object_words-size.ensures in
-    let fits = fits_now s r.2 less c.place_at-at.result c.place_at-at.ensures.place c.object_words-size.result size in
+    let size = size_now s r.2 less c.place_near-at.result c.place_near-at.ensures.place c.object_words-size.result c.object_words-size.ensures in
+    let fits = fits_now s r.2 less c.place_near-at.result c.place_near-at.ensures.place c.object_words-size.result size in
     omega (arith, fits.0, fits.1)
 
 pub loop-scan-smaller : goal.loop-scan-smaller
@@ -53,8 +53,8 @@ loop-scan-smaller g c =
     let r = c.requires in
     let s = (c.loop-scan.invariant r.0 r.1 r.2 r.3 r.4).0 in
     let less = rewrite_less c.loop-scan.scan c.used-end.result r.1 c.used-end.ensures c.loop-scan-test.true in
-    let size = size_now s r.2 less c.place_at-at.result c.place_at-at.ensures.place c.object_words-size.result c.object_words-size.ensures in
-    let fits = fits_now s r.2 less c.place_at-at.result c.place_at-at.ensures.place c.object_words-size.result size in
+    let size = size_now s r.2 less c.place_near-at.result c.place_near-at.ensures.place c.object_words-size.result c.object_words-size.ensures in
+    let fits = fits_now s r.2 less c.place_near-at.result c.place_near-at.ensures.place c.object_words-size.result size in
     omega (arith, c.loop-scan-test.true, fits.2)
 
 pub loop-scan-preserved : goal.loop-scan-preserved
@@ -62,8 +62,8 @@ loop-scan-preserved g c given f is set shapes =
     let both = c.loop-scan.invariant given f is set shapes in
     let s = both.0 in
     let less = rewrite_less c.loop-scan.scan c.used-end.result f c.used-end.ensures c.loop-scan-test.true in
-    let at = c.place_at-at.result in
-    let place = c.place_at-at.ensures.place in
+    let at = c.place_near-at.result in
+    let place = c.place_near-at.ensures.place in
     let size = size_now s is less at place c.object_words-size.result c.object_words-size.ensures in
     let fits = fits_now s is less at place c.object_words-size.result size in
     elim c.if-mark_at-ne0.branch [
