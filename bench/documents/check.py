@@ -40,7 +40,7 @@ main null this top any new interface true false void int long char boolean byte 
 abstract static final public private protected switch try catch throw throws new class enum instanceof assert for if while
 invokedynamic wide jsr ret monitorenter monitorexit monitor E1 E2 E3 E4 E5 E6 E7 E8 E9
 FOLDER MAIN ARGS PATH NAME MEMBER METHOD PC ITEM MAJOR N LIVE ASKED LIMIT CLASS MESSAGE STATUS CRATE OWN RT_JOBS
-class implements field method end limits label catch frame text locals stack
+class implements field method end limits label catch frame text locals stack f
 ArrayList HashMap Thread Appendable Byte Short WeakReference ClassNode finally trim nanoTime printStackTrace countI
 expect expect-requires loop-i-preserved FIRST_PROOFS.md SHORTER_PROOFS.md getLocalizedMessage fillInStackTrace initCause nproc autogroup SIGSTOP Display AllocError push-pop
 field_info method_info attribute_info ACC_ bit0 u1 u2 u4 u8 s1 s2 s4 inline

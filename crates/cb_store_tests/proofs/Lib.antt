@@ -1,5 +1,4 @@
 mod CellLaws
 mod Empty
-mod Linked
 mod MapHeaps
 mod MarkLaws

@@ -13,10 +13,13 @@ ghost use Rattle.cb_heap.specs.Kept.{content_at, is_held, is_kept, is_number, is
 ghost use Rattle.cb_heap.specs.Reading.{seen, serial_of};
 ghost use Rattle.cb_heap.specs.Taking.{IsTaken};
 
+mod held;
+
 use crate::cell::Cell;
 use cb_frames::Roots;
 use cb_heap::{NoRoom, Store};
 use cb_plain::{Request, Want};
+pub(crate) use held::{holds, is_closed};
 use std::marker::Model;
 
 /// Four cells, filled from the first on. The place of an object is its serial.
@@ -291,136 +294,5 @@ fn lower(cell: &Cell, stays: bool) -> Cell
     Cell {
         kept: cell.kept && stays,
         ..*cell
-    }
-}
-
-#[cfg(test)]
-mod tests {
-    use super::*;
-    use crate::trial::linked;
-    use cb_frames::RootSizes;
-    use cb_plain::OutOfMemory;
-    use std::alloc::Global;
-    use std::test::Fail;
-
-    /// Whether a reference is null or names an object that is kept.
-    fn holds(store: &CellStore, to: u64) -> bool
-        ensures { result ≡ is_held store.now.objects to }
-    {
-        if to == 0 {
-            return true;
-        }
-        if to > store.count as u64 {
-            return false;
-        }
-        store.cells[to as usize - 1].kept
-    }
-
-    /// Whether what a cell refers to is held.
-    fn holds_word(store: &CellStore, cell: &Cell) -> bool
-        ensures { IsTrue result → IsTrue (list_all (is_held store.now.objects) (references_in_entry (entry_of cell.now))) }
-    {
-        !cell.kept || !cell.linked || holds(store, cell.word)
-    }
-
-    /// Whether all that cells refer to is held.
-    fn holds_words(store: &CellStore) -> bool
-        ensures { IsTrue result → IsTrue (list_all (is_held store.now.objects) (references_in store.now.objects)) }
-    {
-        let cells = &store.cells;
-        for i in 0..store.count {
-            if !holds_word(store, &cells[i]) {
-                return false;
-            }
-        }
-        true
-    }
-
-    /// Whether all that roots refer to is held.
-    fn holds_roots(store: &CellStore, roots: &Roots) -> bool
-        ensures { IsTrue result → IsTrue (list_all (is_held store.now.objects) (entries roots.now.roots)) }
-    {
-        for i in 0..roots.reference_count() {
-            if !holds(store, roots.reference(i)) {
-                return false;
-            }
-        }
-        true
-    }
-
-    /// Whether nothing names an object that isn't kept.
-    fn is_closed(store: &CellStore, roots: &Roots) -> bool
-        ensures { IsTrue result → IsClosed (seen pred store.now.objects roots.now.roots) }
-    {
-        holds_roots(store, roots) && holds_words(store)
-    }
-
-    impl CellStore {
-        /// Whether an object is kept whose word holds a number.
-        fn has_number(&self, at: u64) -> bool
-            ensures { IsTrue result → IsTrue (is_number (content_at self.now.objects (serial_of pred at) 0)) }
-        {
-            at > 0 && holds(self, at) && !self.cell(at).linked
-        }
-
-        /// Whether one is kept whose word holds a reference.
-        fn has_reference(&self, at: u64) -> bool
-            ensures { IsTrue result → IsTrue (is_reference (content_at self.now.objects (serial_of pred at) 0)) }
-        {
-            at > 0 && holds(self, at) && self.cell(at).linked
-        }
-    }
-
-    fn no_roots(alloc: Global) -> Result<Roots, OutOfMemory> {
-        let sizes = RootSizes {
-            frames: 1,
-            statics: 0,
-            constants: 0,
-            kinds: 0,
-            classes: 0,
-        };
-        Roots::make(alloc, sizes)
-    }
-
-    #[test]
-    fn empties_what_nothing_reaches(rt: HostRuntime) -> Result<(), Fail> {
-        let mut store = CellStore::new();
-        let mut roots = no_roots(rt.alloc())?;
-        assert!(rt; is_closed(&store, &roots));
-        let mut request = Request::new();
-        request.add(0, 12);
-        store.make_room(&request, &mut roots)?;
-        let one = store.place(0, 1, 1);
-        let other = store.place(0, 0, 1);
-        let third = store.place(0, 1, 1);
-        assert!(rt; store.has_number(other));
-        store.put(other, 0, 7);
-        assert!(rt; store.has_reference(one));
-        store.put_ref(one, 0, other);
-        roots.set_pending(one);
-        assert!(rt; is_closed(&store, &roots));
-        store.collect_all(&mut roots)?;
-        assert!(rt; !holds(&store, third));
-        assert_eq!(rt; roots.pending(), one);
-        assert!(rt; store.has_reference(one));
-        let back = store.get_ref(one, 0);
-        assert!(rt; store.has_number(back));
-        assert_eq!(rt; store.get(back, 0), 7);
-        Ok(())
-    }
-
-    #[test]
-    fn runs_what_runs_over_any_store(rt: HostRuntime) -> Result<(), Fail> {
-        let mut store = CellStore::new();
-        let mut roots = no_roots(rt.alloc())?;
-        assert!(rt; is_closed(&store, &roots));
-        let mut request = Request::new();
-        request.add(0, 4);
-        store.make_room(&request, &mut roots)?;
-        let alone = store.place(0, 1, 1);
-        assert!(rt; is_closed(&store, &roots));
-        assert_eq!(rt; linked(&mut store, &mut roots, &mut request)?, 3);
-        assert!(rt; !holds(&store, alone));
-        Ok(())
     }
 }

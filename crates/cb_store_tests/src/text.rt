@@ -3,13 +3,12 @@ ghost use Rattle.std.specs.Prelude.{◌≡◌, [], ◌∷◌, pred, IfOk, Some, 
 ghost use Rattle.cb_heap.specs.Reading.{serial_of};
 ghost use Rattle.cb_store_tests.specs.Pair.{pair, text_kinds};
 
-use crate::mapheap::no_roots;
+use crate::none::no_roots;
+use crate::stop::Stop;
 use cb_heap::{Store, TextSites, place_text};
 use cb_mapheap::MapHeap;
 use cb_plain::{Marks, OutOfMemory, Request, Shape, Shapes};
-use std::alloc::Global;
-use std::process::Abort;
-use std::test::Fail;
+use std::alloc::{AllocError, Global};
 
 /// A store of strings and of arrays of numbers.
 fn store(alloc: Global) -> Result<MapHeap, OutOfMemory>
@@ -40,24 +39,23 @@ fn place_pair(heap: &mut MapHeap) -> u64
     place_text(heap, sites, &[104, 105])
 }
 
-/// Reads it.
-fn read_pair(rt: &impl Abort, heap: &MapHeap, at: u64)
+/// Tells its length and that of its array, and both units.
+fn tell_pair(told: &mut String, heap: &MapHeap, at: u64) -> Result<(), AllocError>
     requires objects { map Some heap.now.objects ≡ pair }
     requires place { serial_of pred at ≡ 2 }
 {
     let array = heap.get_ref(at, 0);
-    assert_eq!(rt; (heap.length(at), heap.length(array)), (1, 2));
-    assert_eq!(rt; (heap.get(array, 0), heap.get(array, 1)), (104, 105));
+    write!(told, "{} {}", heap.length(at), heap.length(array))?;
+    write!(told, " {} {}", heap.get(array, 0), heap.get(array, 1))
 }
 
-#[test]
-fn a_string_is_read_as_it_was_placed(rt: HostRuntime) -> Result<(), Fail> {
-    let mut heap = store(rt.alloc())?;
-    let mut roots = no_roots(rt.alloc())?;
+/// Places a string, and tells what is read of it.
+pub(crate) fn tell(alloc: Global, told: &mut String) -> Result<(), Stop> {
+    let mut heap = store(alloc)?;
+    let mut roots = no_roots(alloc)?;
     let mut request = Request::new();
     request.add(7, 9);
     heap.make_room(&request, &mut roots)?;
     let at = place_pair(&mut heap);
-    read_pair(&rt, &heap, at);
-    Ok(())
+    Ok(tell_pair(told, &heap, at)?)
 }

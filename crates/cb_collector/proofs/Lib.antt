@@ -1,0 +1,9 @@
+mod Best
+mod Collections
+mod Learned
+mod New
+mod Placing
+mod Puts
+mod Rooms
+mod Sweeps
+mod Words

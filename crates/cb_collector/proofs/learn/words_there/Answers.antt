@@ -1,0 +1,12 @@
+use Rattle.std.proofs.Common.{◌∙◌, ℕ, ◌+◌, ap, sym, arith, length}
+use Rattle.cb_blocks.specs.Rows.{row}
+use Rattle.cb_collector.specs.Collecting.{words_in}
+use Rattle.cb_collector.proofs.Words.{words_more}
+use Rattle.cb_collector.proofs.learn.words_there.Goals as goal
+
+pub loop-part-preserved : goal.loop-part-preserved
+loop-part-preserved c =
+    let words : ℕ → ℕ = λ part. length (row c.args.words.now.words part) in (
+      ap (λ n. n + c.words_if.result) c.loop-part.invariant.0 ∙ ap (λ n. words_in c.loop-part.part c.args.set.now words + n) c.words_if.ensures ∙ sym (words_more c.args.set.now words c.loop-part.part),
+      omega (arith, c.loop-part.invariant.1, c.words_if.type_inv),
+    )

@@ -1,8 +1,0 @@
-use Rattle.std.proofs.Common.{◌≤◌}
-use Rattle.cb_store_tests.proofs.mapheap.walk_cells.Given as goal
-
-abbrev pub invariant-loop-last : goal.invariant-loop-last
-invariant-loop-last g l = l.last ≤ l.count
-
-abbrev pub decreases-loop-last : goal.decreases-loop-last
-decreases-loop-last g l = l.last
