@@ -1,3 +1,3 @@
 mod Empty
-mod Kept
+mod OneSite
 mod Words

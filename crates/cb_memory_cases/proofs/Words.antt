@@ -16,7 +16,8 @@ use Rattle.cb_heap.specs.Shaped.{new_object}
 use Rattle.cb_heap.specs.Storage.{Storage}
 use Rattle.cb_heap.specs.Store.{ReadsAsBefore}
 use Rattle.cb_heap.proofs.Laws as laws
-use Rattle.cb_memory_cases.specs.Timed.{HasWords, Stays, array_kinds, is_word, kind_of}
+use Rattle.cb_memory_cases.specs.Timed.{HasWords, Stays, array_kinds, kind_of}
+use Rattle.cb_partheap_tests.specs.Tried.{is_word}
 
 -- a word of nothing is neither
 no_word : (mark : Bool) → IsTrue (is_word mark None) → ⊥

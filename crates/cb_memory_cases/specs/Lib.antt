@@ -1,3 +1,3 @@
 pub mod Strings
 pub mod Timed
-pub mod Tried
+pub mod Trial

@@ -1,13 +1,13 @@
 -- What the loops that are timed go over: arrays of numbers, and of references.
-use Rattle.std.specs.Prelude.{◌≡◌, ◌<◌, ℕ, Bool, true, false, List, [], ◌∷◌, Option, IsTrue}
+use Rattle.std.specs.Prelude.{◌≡◌, ◌<◌, ℕ, Bool, true, false, List, [], ◌∷◌, IsTrue}
 use Rattle.cb_plain.specs.declared.shape.Shape.{Shape}
 use Rattle.cb_plain.specs.declared.shape.Shape.TheVariants as shapes
 use Rattle.cb_plain.specs.Requests.{words_at}
-use Rattle.cb_plain.specs.State.{Content}
-use Rattle.cb_heap.specs.Kept.{content_at, is_number, is_reference}
+use Rattle.cb_heap.specs.Kept.{content_at}
 use Rattle.cb_heap.specs.Reading.{serial_of}
 use Rattle.cb_heap.specs.Storage.{Storage}
 use Rattle.cb_partheap.specs.Heaps.{Heap, objects_in}
+use Rattle.cb_partheap_tests.specs.Tried.{is_word}
 
 -- the kinds: arrays of numbers, and arrays of references
 abbrev pub array_kinds : List Shape
@@ -16,11 +16,6 @@ array_kinds = shapes.Elements false ∷ shapes.Elements true ∷ []
 abbrev pub kind_of : Bool → ℕ
 kind_of false = 0
 kind_of true = 1
-
--- a word is there, and holds a reference, or a number
-abbrev pub is_word : Bool → Option Content → Bool
-is_word true = is_reference
-is_word false = is_number
 
 -- the object at a place has so many words, each a reference, or each a number
 pub record HasWords {Facts : Type 0} (store : Storage Facts) (mark : Bool) (size at : ℕ) : Type 0 where

@@ -1,8 +1,8 @@
 // Calls of a heap's parts in blocks, as rows tell them.
 ghost use Rattle.std.specs.Prelude.{◌≡◌, ◌<◌, ◌≤◌, length};
 
-use crate::read::next_number;
 use cb_blocks::{Blocks, NoBlocks};
+use cb_partheap_tests::next_number;
 use cb_rows::Trouble;
 use std::alloc::{AllocError, Global};
 use std::str::SplitWhitespace;

@@ -6,11 +6,10 @@
 
 mod blocks;
 mod parts;
-mod read;
 mod stores;
 mod strings;
 mod timed;
-mod tried;
+mod trial;
 mod turns;
 
 use cb_rows::{Tables, Trouble, tell_rows};
@@ -31,6 +30,7 @@ impl Tables for Subjects {
             Some("parts") => parts::tell(alloc, told, row),
             Some("stack") => strings::tell_stack(alloc, told, row),
             Some("string") => strings::tell(alloc, told),
+            Some("trial") => trial::tell(alloc, told),
             Some("timed") => timed::tell(alloc, told, row),
             _ => Err(Trouble::NotUnderstood),
         }

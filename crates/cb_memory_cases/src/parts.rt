@@ -1,26 +1,12 @@
 // Calls of a heap in parts, as rows tell them.
-ghost use Rattle.std.specs.Prelude.{◌≡◌, ◌<◌, ◌≤◌, length, nat_lt, IfOk, IsTrue, OnOk};
-ghost use Rattle.std.specs.List.{All, AllByRecursion};
-ghost use Rattle.cb_partheap.specs.Heaps.{settings_in};
-ghost use Rattle.cb_memory_cases.specs.Tried.{AllKept, IsKept};
+ghost use Rattle.std.specs.Prelude.{OnOk};
+ghost use Rattle.cb_partheap_tests.specs.Tried.{AllKept, IsKept};
 
-use crate::read::next_number;
-use crate::stores::parts_of_sites;
-use crate::tried::{Tried, word_mark};
-use cb_dag::{Grid, condense};
 use cb_partheap::{PartHeap, part_at};
-use cb_plain::{Marks, OutOfMemory, Request, Shape, Shapes};
+use cb_partheap_tests::{Tried, link, next_number, read_heap, read_request, word_mark};
 use cb_rows::Trouble;
 use std::alloc::{AllocError, Global};
 use std::str::SplitWhitespace;
-
-// How many blocks and sites a row may ask for.
-const MOST_BLOCKS: u32 = 1 << 20;
-
-const MOST_SITES: u32 = 1 << 12;
-
-// How many entries a request has at most.
-const MOST_WANTS: u32 = 256;
 
 // Places are below this.
 const PLACES: u64 = 1 << 41;
@@ -34,76 +20,6 @@ enum Call {
     Link(u32, usize),
     Head,
     Mark,
-}
-
-/// The kinds: objects of a reference and a number, arrays of numbers, and of references.
-fn kinds(alloc: Global) -> Result<Shapes, OutOfMemory> {
-    let mut marks = Marks::new(alloc);
-    marks.push(true)?;
-    marks.push(false)?;
-    let mut shapes = Shapes::new(alloc);
-    shapes.push(Shape::Fields(marks))?;
-    shapes.push(Shape::Elements(false))?;
-    shapes.push(Shape::Elements(true))?;
-    Ok(shapes)
-}
-
-/// The graph of a row: how many sites, how many edges, and where each begins and ends.
-fn read_graph(alloc: Global, words: &mut SplitWhitespace<'_>) -> Result<Grid, Trouble> {
-    let sites = next_number::<u32>(words)?;
-    if sites > MOST_SITES {
-        return Err(Trouble::NotUnderstood);
-    }
-    let mut grid = Grid::make(alloc, sites)?;
-    for _ in 0..next_number::<u32>(words)? {
-        let from = next_number::<u32>(words)?;
-        let to = next_number::<u32>(words)?;
-        if from < grid.nodes() && to < grid.nodes() {
-            grid.put(from, to);
-        }
-    }
-    Ok(grid)
-}
-
-/// The heap of a row, without objects.
-fn read_heap(alloc: Global, words: &mut SplitWhitespace<'_>) -> Result<Tried, Trouble>
-    ensures { IfOk result (λ tried. AllKept tried.heap tried.places.items) }
-{
-    let blocks = next_number::<u32>(words)?;
-    if blocks > MOST_BLOCKS {
-        return Err(Trouble::NotUnderstood);
-    }
-    let grid = read_graph(alloc, words)?;
-    let dag = condense(alloc, &grid).map_err(|_| Trouble::Refused)?;
-    let sites = grid.nodes();
-    if sites > MOST_SITES {
-        return Err(Trouble::NotUnderstood);
-    }
-    let site_parts = parts_of_sites(alloc, &dag, sites)?;
-    let heap = PartHeap::make(alloc, kinds(alloc)?, site_parts, &dag, blocks)?;
-    Ok(Tried {
-        heap,
-        places: Vec::new(alloc),
-    })
-}
-
-/// The request of a row: how many entries, and a site and words of each. Each site is below so many.
-fn read_request(words: &mut SplitWhitespace<'_>, sites: u32) -> Result<Request, Trouble>
-    ensures { IfOk result (λ request. AllByRecursion (λ want. IsTrue (nat_lt want.site sites)) request) }
-{
-    let mut request = Request::new();
-    for _ in 0..next_number::<u32>(words)? {
-        let site = next_number::<u32>(words)?;
-        if site >= sites {
-            return Err(Trouble::NotUnderstood);
-        }
-        let wanted = next_number(words)?;
-        if request.len() >= MOST_WANTS {
-            return Err(Trouble::NotUnderstood);
-        }
-        request.add(site, wanted);
-    }
-    Ok(request)
 }
 
 /// The call of a name, with its numbers.
@@ -163,22 +79,6 @@ fn tell_head(heap: &PartHeap, at: u64, told: &mut String) -> Result<(), AllocErr
         heap.site(at),
         heap.serial(at)
     )
-}
-
-/// Makes a reference of an object lead to the one of a serial, or to none.
-fn link(tried: &mut Tried, at: u64, i: u32, serial: usize) -> bool
-    requires kept { AllKept tried.old.heap tried.old.places.items }
-    requires there { IsKept tried.old.heap at }
-    ensures { AllKept tried.new.heap tried.new.places.items }
-{
-    if serial == 0 {
-        return tried.put_null(at, i);
-    }
-    if serial > tried.places.len() {
-        return false;
-    }
-    let to = tried.places[serial - 1];
-    tried.put_ref(at, i, to)
 }
 
 /// Makes a call on an object, and tells its answer. One whose conditions don't hold is left out.

@@ -1,17 +1,16 @@
 // Stores for arrays, with room for them.
-ghost use Rattle.std.specs.Prelude.{◌≡◌, ◌+◌, ◌*◌, ◌<◌, ◌≤◌, ◌^◌, [], length, map, IfOk, Some};
-ghost use Rattle.std.specs.List.{All};
+ghost use Rattle.std.specs.Prelude.{◌≡◌, ◌+◌, ◌≤◌, ◌^◌, [], length, map, IfOk, Some};
 ghost use Rattle.cb_plain.specs.Reach.{root_references};
 ghost use Rattle.cb_plain.specs.Requests.{words_at};
 ghost use Rattle.cb_memory_cases.specs.Timed.{IsReady, array_kinds};
 
-use cb_dag::{Dag, Grid, condense};
+use cb_dag::{Grid, condense};
 use cb_frames::{RootSizes, Roots};
 use cb_heap::Store;
 use cb_mapheap::MapHeap;
 use cb_partheap::PartHeap;
-use cb_partheap_tests::Resting;
-use cb_plain::{Numbers, OutOfMemory, Request, Shape, Shapes};
+use cb_partheap_tests::{Resting, parts_of_sites};
+use cb_plain::{OutOfMemory, Request, Shape, Shapes};
 use cb_rows::Trouble;
 use std::alloc::Global;
 
@@ -39,20 +38,6 @@ fn no_roots(alloc: Global) -> Result<Roots, OutOfMemory>
             classes: 0,
         },
     )
-}
-
-/// The parts of so many sites.
-pub(crate) fn parts_of_sites(alloc: Global, dag: &Dag, sites: u32) -> Result<Numbers, OutOfMemory>
-    requires { sites ≤ length dag.now.part_of }
-    ensures count { IfOk result (λ parts. length parts ≡ sites) }
-    ensures below { IfOk result (λ parts. All (λ part. part < dag.now.parts) parts) }
-{
-    let _parts = dag.parts();
-    let mut parts = Numbers::new(alloc);
-    for site in 0..sites {
-        parts.push(dag.part_of(site))?;
-    }
-    Ok(parts)
 }
 
 /// A store over a heap in parts, with room for so many words at the site 0.

@@ -4,11 +4,10 @@ ghost use Rattle.cb_heap.specs.Reading.{serial_of};
 ghost use Rattle.cb_partheap.specs.Heaps.{index_in, objects_in};
 ghost use Rattle.cb_memory_cases.specs.Strings.{IsEmpty, pair, text_kinds};
 
-use crate::stores::parts_of_sites;
 use cb_dag::{Grid, condense};
 use cb_heap::{Store, TextSites, place_text};
 use cb_partheap::{MarkStack, PartHeap};
-use cb_partheap_tests::Resting;
+use cb_partheap_tests::{Resting, parts_of_sites};
 use cb_plain::{Marks, OutOfMemory, Request, Shape, Shapes};
 use cb_rows::{Trouble, number_of};
 use std::alloc::{AllocError, Global};

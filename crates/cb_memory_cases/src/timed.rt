@@ -4,11 +4,11 @@ ghost use Rattle.cb_plain.specs.Requests.{words_at};
 ghost use Rattle.cb_plain.specs.State.{words_of};
 ghost use Rattle.cb_memory_cases.specs.Timed.{array_kinds};
 
-use crate::read::next_number;
 use crate::stores::{map_store, part_store};
 use crate::turns::{Steps, get_ref_turns, get_turns, place_arrays, put_turns};
 use cb_blocks::Blocks;
 use cb_heap::Store;
+use cb_partheap_tests::next_number;
 use cb_rows::Trouble;
 use std::alloc::Global;
 use std::str::SplitWhitespace;

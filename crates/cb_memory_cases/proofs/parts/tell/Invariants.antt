@@ -1,4 +1,4 @@
-use Rattle.cb_memory_cases.specs.Tried.{AllKept}
+use Rattle.cb_partheap_tests.specs.Tried.{AllKept}
 use Rattle.cb_memory_cases.proofs.parts.tell.Given as goal
 
 abbrev pub invariant-loop : goal.invariant-loop

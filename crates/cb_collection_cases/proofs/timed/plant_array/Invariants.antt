@@ -1,0 +1,6 @@
+use Rattle.cb_partheap.specs.Marks.{IsUnmarked}
+use Rattle.cb_partheap_tests.specs.Tried.{AllKept}
+use Rattle.cb_collection_cases.proofs.timed.plant_array.Given as goal
+
+abbrev pub invariant-loop-i : goal.invariant-loop-i
+invariant-loop-i l = AllKept l.tried.heap l.tried.places.items × IsUnmarked l.tried.heap

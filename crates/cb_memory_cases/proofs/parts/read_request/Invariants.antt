@@ -1,6 +1,0 @@
-use Rattle.std.proofs.Common.{nat_lt, IsTrue}
-use Rattle.std.specs.List.{AllByRecursion}
-use Rattle.cb_memory_cases.proofs.parts.read_request.Given as goal
-
-abbrev pub invariant-loop : goal.invariant-loop
-invariant-loop l = AllByRecursion (λ want. IsTrue (nat_lt want.site l.sites)) l.request

@@ -1,6 +1,0 @@
-use Rattle.std.proofs.Common.{◌≡◌, ◌<◌, length}
-use Rattle.std.specs.List.{All}
-use Rattle.cb_memory_cases.proofs.stores.parts_of_sites.Given as goal
-
-abbrev pub invariant-loop-site : goal.invariant-loop-site
-invariant-loop-site l = (length l.parts ≡ l.site) × All (λ part. part < l.dag.parts) l.parts

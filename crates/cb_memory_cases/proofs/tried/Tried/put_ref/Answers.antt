@@ -1,9 +1,0 @@
-use Rattle.cb_plain.specs.State.{Reference}
-use Rattle.cb_heap.specs.Reading.{serial_of}
-use Rattle.cb_partheap.specs.Heaps.{index_in}
-use Rattle.cb_memory_cases.proofs.Kept.{put_kept}
-use Rattle.cb_memory_cases.proofs.tried.Tried.put_ref.Goals as goal
-
-pub returns-in-Some-true : goal.returns-in-Some-true
-returns-in-Some-true c =
-    put_kept c.args.self.now.heap c.put_ref.new.self c.args.self.now.places.items (serial_of (index_in c.args.self.now.heap) c.args.at) c.args.i (Reference (serial_of (index_in c.args.self.now.heap) c.args.to)) c.requires.kept c.put_ref.ensures.kept c.put_ref.ensures.places
