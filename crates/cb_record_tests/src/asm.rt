@@ -1,200 +1,157 @@
-// Texts that are assembled and listed, and texts with a bad line.
-mod bad_lines;
-mod files;
-
-use crate::files::{FIRST, FIRST_TEXT};
-use crate::rows::{check, same, same_bytes};
-use bad_lines::BAD_LINES;
+// Texts that are assembled and class files that are listed.
+use crate::classfile::bytes_at;
+use crate::line::lines_of;
 use cb_asm::{
     AsmFault, assemble, assemble_bytes, first_sample, forms_sample, frames_in_full, list,
     one_record, parameters_sample,
 };
+use cb_asm_list::list as list_lines;
 use cb_classfile::{Body, Method, read_class};
+use cb_rows::{Trouble, number_of};
 use cb_writer::write_class;
-use files::{ALL_TEXT, MIXED};
 use std::alloc::{AllocError, Global};
-use std::process::Abort;
-use std::test::Fail;
+use std::fs;
 
-#[test]
-fn laws_are_there() {
-    one_record();
-    first_sample();
-    forms_sample();
-    frames_in_full();
-    parameters_sample();
+pub(crate) fn tell(
+    rt: &HostRuntime,
+    told: &mut String,
+    table: &str,
+    row: &str,
+) -> Result<(), Trouble> {
+    let alloc = rt.alloc();
+    match table {
+        "listings" => tell_listing(rt, told, row),
+        "listed again" => tell_listed(rt, told, row),
+        "texts" => tell_text(rt, told, row),
+        "files" => tell_file(rt, told, row),
+        "places" => tell_place(rt, told, row),
+        "bad lines" => tell_bad_lines(told, alloc, row),
+        "bad bytes" => tell_bad_bytes(told, alloc, row),
+        "reach" => tell_reach(told, alloc, row),
+        "constants" => tell_constants(told, alloc, number_of(row)?),
+        "faults" => tell_fault(told, row),
+        "laws" => Ok(tell_laws(told)?),
+        _ => Err(Trouble::NotUnderstood),
+    }
 }
 
-/// The words for a bad line.
-fn told_fault(alloc: Global, line: &str) -> Result<String, Fail> {
-    let line = line.parse()?;
-    Ok(format!(in alloc; "{}", AsmFault::BadLine { line })?)
+/// The text of a file in `data/`.
+fn text_at(rt: &HostRuntime, name: &str) -> Result<String, Trouble> {
+    fs::read_to_string(rt, name).map_err(|_| Trouble::NotUnderstood)
 }
 
-#[test]
-fn a_bad_line_is_told_by_its_number(rt: HostRuntime) -> Result<(), Fail> {
-    check(&rt, rt.alloc(), "5 | bad line 5", told_fault)
-}
-
-/// The file that a text assembles to.
-fn assembled(alloc: Global, text: &str) -> Result<Vec<u8>, Fail> {
-    let class = assemble(alloc, text)?;
-    Ok(write_class(alloc, &class)?)
+/// The listing of a file, line by line.
+fn tell_listing(rt: &HostRuntime, told: &mut String, file: &str) -> Result<(), Trouble> {
+    let bytes = bytes_at(rt, file)?;
+    match read_class(rt.alloc(), bytes.as_slice()) {
+        Ok(class) => Ok(told.push_str(list_lines(rt.alloc(), &class)?.as_str())?),
+        Err(_) => Err(Trouble::Refused),
+    }
 }
 
 /// The listing of a file.
-fn listed(alloc: Global, file: &[u8]) -> Result<String, Fail> {
-    let class = read_class(alloc, file)?;
-    Ok(list(alloc, &class)?)
+fn listed(alloc: Global, bytes: &[u8]) -> Result<String, Trouble> {
+    match read_class(alloc, bytes) {
+        Ok(class) => Ok(list(alloc, &class)?),
+        Err(_) => Err(Trouble::Refused),
+    }
+}
+
+/// The file that a text assembles to.
+fn assembled(alloc: Global, text: &str) -> Result<Vec<u8>, Trouble> {
+    match assemble(alloc, text) {
+        Ok(class) => Ok(write_class(alloc, &class)?),
+        Err(_) => Err(Trouble::Refused),
+    }
 }
 
 /// What a text assembles to, listed.
-fn again(alloc: Global, text: &str) -> Result<String, Fail> {
-    let file = assembled(alloc, text)?;
-    listed(alloc, &file)
+fn again(alloc: Global, text: &str) -> Result<String, Trouble> {
+    let bytes = assembled(alloc, text)?;
+    listed(alloc, bytes.as_slice())
 }
 
-/// Compares a text with what it assembles to, listed.
-fn check_again(rt: &impl Abort, alloc: Global, text: &str) -> Result<(), Fail> {
-    let found = again(alloc, text)?;
-    same(rt, found.as_str(), text);
-    Ok(())
+/// The same of the text of a file, line by line.
+fn tell_text(rt: &HostRuntime, told: &mut String, file: &str) -> Result<(), Trouble> {
+    let text = text_at(rt, file)?;
+    Ok(told.push_str(again(rt.alloc(), text.as_str())?.as_str())?)
 }
 
-#[test]
-fn texts_are_assembled_and_listed_again(rt: HostRuntime) -> Result<(), Fail> {
-    check_again(&rt, rt.alloc(), FIRST_TEXT)?;
-    check_again(&rt, rt.alloc(), ALL_TEXT)
+/// Whether the listing of a file is the same after it was assembled.
+fn tell_listed(rt: &HostRuntime, told: &mut String, file: &str) -> Result<(), Trouble> {
+    let same = is_kept(rt.alloc(), bytes_at(rt, file)?.as_slice())?;
+    Ok(write!(told, "{same}")?)
 }
 
-#[test]
-fn a_sample_is_assembled_to_its_file(rt: HostRuntime) -> Result<(), Fail> {
-    let file = assembled(rt.alloc(), FIRST_TEXT)?;
-    same_bytes(&rt, &file, FIRST);
-    Ok(())
+/// Whether that is so of the bytes of a file.
+fn is_kept(alloc: Global, bytes: &[u8]) -> Result<bool, Trouble> {
+    let text = listed(alloc, bytes)?;
+    let again = again(alloc, text.as_str())?;
+    Ok(again.as_str() == text.as_str())
 }
 
-/// Compares the listing of a file with the one after it was assembled.
-fn check_listed(rt: &impl Abort, alloc: Global, file: &[u8]) -> Result<(), Fail> {
-    let text = listed(alloc, file)?;
-    check_again(rt, alloc, text.as_str())
+/// Whether a text assembles to a file. The row names both.
+fn tell_file(rt: &HostRuntime, told: &mut String, row: &str) -> Result<(), Trouble> {
+    let (text, file) = row.split_once(' ').ok_or(Trouble::NotUnderstood)?;
+    let text = text_at(rt, text)?;
+    let file = bytes_at(rt, file)?;
+    let same = assembled(rt.alloc(), text.as_str())?.as_slice() == file.as_slice();
+    Ok(write!(told, "{same}")?)
 }
 
-#[test]
-fn a_class_of_javac_lists_the_same_after_it_was_assembled(rt: HostRuntime) -> Result<(), Fail> {
-    check_listed(&rt, rt.alloc(), MIXED)
-}
-
-/// Places of instructions.
-const PLACES: [u32; 14] = [
-    16, 22, 25, 109, 160, 163, 184, 236, 248, 279, 289, 294, 318, 324,
-];
-
-/// What `javap -c` says of these bytes, in part: `ldc`, `ldc_w`, `ldc2_w`, `iinc`, `goto`, both switches, `invokevirtual`,
-/// `invokeinterface`, `multianewarray`, `goto_w`, two that are wide and a `return`.
-const TOLD: &str = "\
-16 12 false
-22 13 false
-25 14 false
-109 84 false
-160 A7 false
-163 AA false
-184 AB false
-236 B6 false
-248 B9 false
-279 C5 false
-289 C8 false
-294 15 true
-318 84 true
-324 B1 false
-";
-
-/// Adds a line for each instruction at one of these places: the place, its opcode, and whether it is wide.
-fn push_insns(out: &mut String, body: &Body) -> Result<(), AllocError> {
-    for (place, insn) in body.code.as_slice() {
-        if PLACES.contains(place) {
-            writeln!(out, "{place} {:02X} {}", insn.opcode, insn.wide)?;
-        }
+/// The opcode of the instruction at a place of what a text assembles to, and whether it is wide. The row names both.
+fn tell_place(rt: &HostRuntime, told: &mut String, row: &str) -> Result<(), Trouble> {
+    let (text, place) = row.split_once(' ').ok_or(Trouble::NotUnderstood)?;
+    let place = number_of(place)?;
+    let text = text_at(rt, text)?;
+    match assemble(rt.alloc(), text.as_str()) {
+        Ok(class) => Ok(push_insns(told, class.methods.as_slice(), place)?),
+        Err(_) => Err(Trouble::Refused),
     }
-    Ok(())
 }
 
-fn push_methods(out: &mut String, methods: &[Method]) -> Result<(), AllocError> {
+/// Adds the instructions of methods at a place.
+fn push_insns(told: &mut String, methods: &[Method], place: u32) -> Result<(), AllocError> {
     for method in methods {
         if let Some(body) = &method.body {
-            push_insns(out, body)?;
+            push_insn(told, body, place)?;
         }
     }
     Ok(())
 }
 
-/// Those instructions of what a text assembles to.
-fn told_insns(alloc: Global, text: &str) -> Result<String, Fail> {
-    let class = assemble(alloc, text)?;
-    let mut out = String::new(alloc);
-    push_methods(&mut out, class.methods.as_slice())?;
-    Ok(out)
-}
-
-#[test]
-fn instructions_stand_where_javap_sees_them(rt: HostRuntime) -> Result<(), Fail> {
-    let found = told_insns(rt.alloc(), ALL_TEXT)?;
-    same(&rt, found.as_str(), TOLD);
+/// Adds the instruction of a body at a place.
+fn push_insn(told: &mut String, body: &Body, place: u32) -> Result<(), AllocError> {
+    for (at, insn) in body.code.as_slice() {
+        if *at == place {
+            write!(told, "{:02X} {} ", insn.opcode, insn.wide)?;
+        }
+    }
     Ok(())
 }
 
-/// The first bad line of a text.
-fn bad_line(alloc: Global, text: &str) -> Result<u32, Fail> {
+/// The number of the first bad line of a row's text, in which bars stand for the ends of lines.
+fn tell_bad_lines(told: &mut String, alloc: Global, row: &str) -> Result<(), Trouble> {
+    tell_bad_line(told, alloc, lines_of(alloc, row)?.as_str())
+}
+
+/// The number of the first bad line of a text.
+fn tell_bad_line(told: &mut String, alloc: Global, text: &str) -> Result<(), Trouble> {
     match assemble(alloc, text) {
-        Err(AsmFault::BadLine { line }) => Ok(line),
-        _ => Err(Fail::new("no bad line")),
+        Err(AsmFault::BadLine { line }) => Ok(write!(told, "{line}")?),
+        _ => Err(Trouble::Refused),
     }
 }
 
-/// The same in digits.
-fn told_bad_line(alloc: Global, text: &str) -> Result<String, Fail> {
-    let line = bad_line(alloc, text)?;
-    Ok(format!(in alloc; "{line}")?)
-}
-
-/// A text in which bars stand for the ends of its lines.
-fn lines_of(alloc: Global, text: &str) -> Result<String, AllocError> {
-    text.chars()
-        .map(|sign| if sign == '|' { '\n' } else { sign })
-        .collect(alloc)
-}
-
-/// Compares the first bad line of a row's text with the number in front of it.
-fn check_row(rt: &impl Abort, alloc: Global, row: &str) -> Result<(), Fail> {
-    let (line, text) = row.split_once(':').ok_or("no text")?;
-    let text = lines_of(alloc, text)?;
-    let found = bad_line(alloc, text.as_str())?;
-    assert_eq!(rt; found, line.parse::<u32>()?, "{row}");
-    Ok(())
-}
-
-#[test]
-fn each_rule_has_a_text_with_a_bad_line(rt: HostRuntime) -> Result<(), Fail> {
-    for row in BAD_LINES.lines() {
-        if !row.starts_with('#') {
-            check_row(&rt, rt.alloc(), row)?;
-        }
-    }
-    Ok(())
-}
-
-/// What is told of bytes, which are no text.
-fn told_bytes(alloc: Global, bytes: &[u8]) -> Result<String, AllocError> {
-    let told = assemble_bytes(alloc, bytes).err();
-    format!(in alloc; "{told:?}")
-}
-
-#[test]
-fn bytes_that_are_no_text_are_bad_at_their_line(rt: HostRuntime) -> Result<(), Fail> {
-    let bytes = b"class 52 0 A java/lang/Object\nfield 0 \xFF I\n";
-    let found = told_bytes(rt.alloc(), bytes)?;
-    same(&rt, found.as_str(), "Some(BadLine { line: 2 })");
-    Ok(())
+/// What is told of bytes that are no text: those of the row, in which a question mark stands for FF.
+fn tell_bad_bytes(told: &mut String, alloc: Global, row: &str) -> Result<(), Trouble> {
+    let text = lines_of(alloc, row)?;
+    let bytes: Vec<u8> = text
+        .as_bytes()
+        .iter()
+        .map(|byte| if *byte == b'?' { 0xFF } else { *byte })
+        .collect(alloc)?;
+    Ok(write!(told, "{:?}", assemble_bytes(alloc, bytes.as_slice()).err())?)
 }
 
 /// The first lines of a text.
@@ -209,56 +166,37 @@ fn push_switch(text: &mut String) -> Result<(), AllocError> {
     text.push('\n')
 }
 
-/// Adds a text in which that switch stands behind a line and before others.
-fn push_around(text: &mut String, before: &str, behind: &str) -> Result<(), AllocError> {
-    text.push_str(FRONT)?;
-    text.push_str(before)?;
-    push_switch(text)?;
-    text.push_str(behind)
+/// The first bad line of a text with that switch between the lines that a row has before and behind a slash. Bars stand for the ends of lines.
+fn tell_reach(told: &mut String, alloc: Global, row: &str) -> Result<(), Trouble> {
+    let (before, behind) = row.split_once('/').ok_or(Trouble::NotUnderstood)?;
+    let mut text = String::from_str(alloc, FRONT)?;
+    text.push_str(lines_of(alloc, before)?.as_str())?;
+    push_switch(&mut text)?;
+    text.push_str(lines_of(alloc, behind)?.as_str())?;
+    tell_bad_line(told, alloc, text.as_str())
 }
 
-/// The first bad line of that text.
-fn reach(alloc: Global, before: &str, behind: &str) -> Result<String, Fail> {
-    let mut text = String::new(alloc);
-    push_around(&mut text, before, behind)?;
-    told_bad_line(alloc, text.as_str())
-}
-
-/// The first bad line of a text with a branch over that switch.
-fn told_reach(alloc: Global, way: &str) -> Result<String, Fail> {
-    match way {
-        "backward" => reach(alloc, "L0:\n", "goto L0\nend\n"),
-        _ => reach(alloc, "L0:\ngoto L1\n", "L1:\nreturn\nend\n"),
-    }
-}
-
-#[test]
-fn a_branch_out_of_reach_is_bad_where_it_can_reach_no_further(rt: HostRuntime) -> Result<(), Fail> {
-    // Backward it is the branch's own line, and forward the line that takes the last place within reach.
-    let rows = "
-        backward | 6
-        forward  | 6
-    ";
-    check(&rt, rt.alloc(), rows, told_reach)
-}
-
-/// Adds 300 constants.
-fn push_loads(text: &mut String) -> Result<(), AllocError> {
-    text.push_str(FRONT)?;
-    for number in 0..300 {
+/// The first bad line of a text with so many constants, behind seven others.
+fn tell_constants(told: &mut String, alloc: Global, count: u32) -> Result<(), Trouble> {
+    let mut text = String::from_str(alloc, FRONT)?;
+    for number in 0..count {
         writeln!(text, "ldc int {number}")?;
     }
-    Ok(())
+    tell_bad_line(told, alloc, text.as_str())
 }
 
-/// The first bad line of a text with 300 constants, behind seven others.
-fn told_loads(alloc: Global, _: &str) -> Result<String, Fail> {
-    let mut text = String::new(alloc);
-    push_loads(&mut text)?;
-    told_bad_line(alloc, text.as_str())
+/// The words for a bad line.
+fn tell_fault(told: &mut String, row: &str) -> Result<(), Trouble> {
+    let line = number_of(row)?;
+    Ok(write!(told, "{}", AsmFault::BadLine { line })?)
 }
 
-#[test]
-fn a_constant_past_the_indices_of_its_form_is_bad(rt: HostRuntime) -> Result<(), Fail> {
-    check(&rt, rt.alloc(), "300 constants | 252", told_loads)
+/// That the laws are there, which hold of themselves.
+fn tell_laws(told: &mut String) -> Result<(), AllocError> {
+    one_record();
+    first_sample();
+    forms_sample();
+    frames_in_full();
+    parameters_sample();
+    told.push_str("there")
 }

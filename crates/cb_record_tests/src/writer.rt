@@ -1,66 +1,38 @@
-// Records that are written back, and records that no bytes spell.
-mod files;
-mod formed;
-mod names;
-
-use crate::files::{FIRST, WORK};
-use cb_classfile::{Constant, Pool, read_any_class};
+// Records that are written back.
+use crate::classfile::bytes_at;
+use cb_classfile::read_any_class;
+use cb_rows::Trouble;
 use cb_writer::{well_formed, well_formed_by_numbers, write_class};
-use files::{LIMITS, SMALL, TOLD};
 use std::alloc::Global;
-use std::process::Abort;
-use std::test::Fail;
 
-/// What bytes spell, written: nobody asked whether it is well formed.
-fn written(alloc: Global, bytes: &[u8]) -> Result<Vec<u8>, Fail> {
-    let class = read_any_class(alloc, bytes)?;
-    Ok(write_class(alloc, &class)?)
+/// Whether a file's record is written as the file was, how many bytes fewer it has, whether these are written as they were, and whether their
+/// record is well formed by both tests.
+pub(crate) fn tell(rt: &HostRuntime, told: &mut String, row: &str) -> Result<(), Trouble> {
+    let file = bytes_at(rt, row)?;
+    let bytes = written(rt.alloc(), file.as_slice())?;
+    let same = bytes.as_slice() == file.as_slice();
+    let fewer = file.len().saturating_sub(bytes.len());
+    write!(told, "as it was {same}, {fewer} bytes fewer, ")?;
+    tell_again(told, rt.alloc(), bytes.as_slice())
 }
 
-/// What bytes spell, written, read and written again.
-fn again(alloc: Global, bytes: &[u8]) -> Result<Vec<u8>, Fail> {
-    let bytes = written(alloc, bytes)?;
-    written(alloc, &bytes)
-}
-
-/// Whether the record that bytes spell is well formed, by both tests.
-fn well_formed_twice(alloc: Global, bytes: &[u8]) -> Result<(bool, bool), Fail> {
-    let class = read_any_class(alloc, bytes)?;
-    let by_numbers = well_formed_by_numbers(alloc, &class)?;
-    Ok((well_formed(&class), by_numbers))
-}
-
-/// Reads and writes a file with nothing to skip.
-fn check_kept(rt: &impl Abort, alloc: Global, file: &[u8]) -> Result<(), Fail> {
-    let written = again(alloc, file)?;
-    assert_eq!(rt; written.as_slice(), file);
-    assert_eq!(rt; well_formed_twice(alloc, &written)?, (true, true));
-    Ok(())
-}
-
-#[test]
-fn files_with_nothing_to_skip_are_written_as_they_were(rt: HostRuntime) -> Result<(), Fail> {
-    check_kept(&rt, rt.alloc(), FIRST)?;
-    check_kept(&rt, rt.alloc(), WORK)?;
-    check_kept(&rt, rt.alloc(), LIMITS)?;
-    check_kept(&rt, rt.alloc(), SMALL)
-}
-
-#[test]
-fn what_is_skipped_is_not_written(rt: HostRuntime) -> Result<(), Fail> {
-    let written = again(rt.alloc(), TOLD)?;
-    // The name of its source file takes 8 bytes, and the line numbers of its two methods 12 and 20.
-    assert_eq!(rt; written.len() + 40, TOLD.len());
-    let same = again(rt.alloc(), &written)?;
-    assert_eq!(rt; same.as_slice(), written.as_slice());
-    Ok(())
-}
-
-/// Adds a constant that the pool admits.
-fn add(pool: &mut Pool, constant: Constant) -> Result<(), Fail> {
-    if !pool.admits(&constant) {
-        return Err(Fail::new("not admitted"));
+/// The bytes of the record that bytes spell: nobody asked whether it is well formed.
+fn written(alloc: Global, bytes: &[u8]) -> Result<Vec<u8>, Trouble> {
+    match read_any_class(alloc, bytes) {
+        Ok(class) => Ok(write_class(alloc, &class)?),
+        Err(_) => Err(Trouble::Refused),
     }
-    pool.push(constant)?;
-    Ok(())
+}
+
+/// Whether bytes are written as they were, and whether the record that they spell is well formed by both tests.
+fn tell_again(told: &mut String, alloc: Global, bytes: &[u8]) -> Result<(), Trouble> {
+    let same = written(alloc, bytes)?.as_slice() == bytes;
+    write!(told, "then {same}, ")?;
+    match read_any_class(alloc, bytes) {
+        Ok(class) => {
+            let by_numbers = well_formed_by_numbers(alloc, &class)?;
+            Ok(write!(told, "well formed {} {by_numbers}", well_formed(&class))?)
+        }
+        Err(_) => Err(Trouble::Refused),
+    }
 }

@@ -1,17 +1,16 @@
 // Records that no bytes spell, each by one change of a record that some do.
 ghost use Rattle.cb_classfile.specs.Class.{IsWellFormed};
 
-use super::add;
-use super::files::SMALL;
-use crate::rows::check;
+use crate::classfile::bytes_at;
 use cb_classfile::{
     Body, ClassFile, Code, Constant, Field, FieldFlags, Fields, Frames, Handler, Handlers, Insn,
-    MapFrame, MapType, MapTypes, Method, MethodFlags, Methods, Operand, opcode, read_any_class,
+    MapFrame, MapType, MapTypes, Method, MethodFlags, Methods, Operand, Pool, opcode,
+    read_any_class,
 };
 use cb_plain::Numbers;
+use cb_rows::{Trouble, number_of};
 use cb_writer::{well_formed, write_class};
 use std::alloc::{AllocError, Global};
-use std::test::Fail;
 
 /// The change of a record, by what it breaks.
 #[derive(Clone, Copy)]
@@ -24,14 +23,26 @@ impl Change<'_> {
     }
 }
 
-/// The record of `Small` with other members, made part by part.
-fn record(alloc: Global, change: Change<'_>) -> Result<ClassFile, Fail> {
-    let mut class = read_any_class(alloc, SMALL)?;
-    change_all(&mut class, alloc, change)?;
-    Ok(class)
+/// Whether some bytes spell the record of `Small` with other members, made part by part, with a change, or with one method of so many `nop`.
+pub(crate) fn tell(
+    rt: &HostRuntime,
+    told: &mut String,
+    table: &str,
+    row: &str,
+) -> Result<(), Trouble> {
+    let alloc = rt.alloc();
+    let bytes = bytes_at(rt, "Small.class")?;
+    let Ok(mut class) = read_any_class(alloc, bytes.as_slice()) else {
+        return Err(Trouble::Refused);
+    };
+    match table {
+        "long code" => class.methods = long_methods(alloc, number_of(row)?)?,
+        _ => change_all(&mut class, alloc, Change(row))?,
+    }
+    tell_spelling(told, alloc, &class)
 }
 
-fn change_all(class: &mut ClassFile, alloc: Global, change: Change<'_>) -> Result<(), Fail> {
+fn change_all(class: &mut ClassFile, alloc: Global, change: Change<'_>) -> Result<(), Trouble> {
     change_classes(class, change);
     change_members(class, alloc, change)
 }
@@ -43,7 +54,7 @@ fn change_classes(class: &mut ClassFile, change: Change<'_>) {
     class.super_class = change.pick("Object alone has no superclass", super_class, 0);
 }
 
-fn change_members(class: &mut ClassFile, alloc: Global, change: Change<'_>) -> Result<(), Fail> {
+fn change_members(class: &mut ClassFile, alloc: Global, change: Change<'_>) -> Result<(), Trouble> {
     class.interfaces = interfaces(alloc, change)?;
     class.fields = fields(alloc, change)?;
     class.methods = methods(alloc, change)?;
@@ -204,60 +215,24 @@ fn frames(alloc: Global, change: Change<'_>) -> Result<Frames, AllocError> {
     Ok(frames)
 }
 
+/// Whether some bytes spell a record, and how many methods they have.
+fn tell_spelling(told: &mut String, alloc: Global, class: &ClassFile) -> Result<(), Trouble> {
+    if !well_formed(class) {
+        return Ok(told.push_str("no bytes")?);
+    }
+    let methods = methods_again(alloc, class)?;
+    Ok(write!(told, "bytes with {methods} methods")?)
+}
+
 /// How many methods the record of the bytes has that spell a record.
-fn methods_again(alloc: Global, class: &ClassFile) -> Result<usize, Fail>
+fn methods_again(alloc: Global, class: &ClassFile) -> Result<usize, Trouble>
     requires { IsWellFormed class.now }
 {
     let bytes = write_class(alloc, class)?;
-    let again = read_any_class(alloc, &bytes)?;
-    Ok(again.methods.len())
-}
-
-/// Whether some bytes spell a record, and how many methods they have.
-fn told_spelling(alloc: Global, class: &ClassFile) -> Result<String, Fail> {
-    if !well_formed(class) {
-        return Ok(String::from_str(alloc, "no bytes")?);
+    match read_any_class(alloc, bytes.as_slice()) {
+        Ok(again) => Ok(again.methods.len()),
+        Err(_) => Err(Trouble::Refused),
     }
-    let methods = methods_again(alloc, class)?;
-    Ok(format!(in alloc; "bytes with {methods} methods")?)
-}
-
-/// The same of the changed record.
-fn told(alloc: Global, change: &str) -> Result<String, Fail> {
-    let class = record(alloc, Change(change))?;
-    told_spelling(alloc, &class)
-}
-
-#[test]
-fn one_change_leaves_no_spelling(rt: HostRuntime) -> Result<(), Fail> {
-    let rows = "
-        no change                               | bytes with 2 methods
-        a name stands with a descriptor         | no bytes
-        the class is none                       | no bytes
-        Object alone has no superclass          | no bytes
-        an interface is a class                 | no bytes
-        an index has two bytes                  | no bytes
-        a field has a name                      | no bytes
-        a field has the descriptor of a field   | no bytes
-        a value is of the field's type          | no bytes
-        a field stands once                     | no bytes
-        a method has a name                     | no bytes
-        a method has the descriptor of a method | no bytes
-        an abstract method has no code          | no bytes
-        another has code                        | no bytes
-        code has bytes                          | no bytes
-        instructions stand one behind the other | no bytes
-        an operand has the form of its opcode   | no bytes
-        an instruction loads what is loaded     | no bytes
-        a handler covers something              | no bytes
-        a handler's end is a place              | no bytes
-        a handler begins an instruction         | no bytes
-        a handler catches a class               | no bytes
-        a frame's kind has a form               | no bytes
-        a frame has its kind's delta            | no bytes
-        a type names a class                    | no bytes
-    ";
-    check(&rt, rt.alloc(), rows, told)
 }
 
 /// Adds so many `nop` and a `return`.
@@ -297,24 +272,11 @@ fn long_methods(alloc: Global, count: u32) -> Result<Methods, AllocError> {
     Ok(methods)
 }
 
-/// The record of `Small` with that method alone.
-fn long_code(alloc: Global, count: u32) -> Result<ClassFile, Fail> {
-    let mut class = read_any_class(alloc, SMALL)?;
-    class.methods = long_methods(alloc, count)?;
-    Ok(class)
-}
-
-/// The same of the record with so many `nop`.
-fn told_long(alloc: Global, count: &str) -> Result<String, Fail> {
-    let class = long_code(alloc, count.parse()?)?;
-    told_spelling(alloc, &class)
-}
-
-#[test]
-fn code_has_at_most_65535_bytes(rt: HostRuntime) -> Result<(), Fail> {
-    let rows = "
-        65534 | bytes with 1 methods
-        65535 | no bytes
-    ";
-    check(&rt, rt.alloc(), rows, told_long)
+/// Adds a constant that the pool admits.
+pub(crate) fn add(pool: &mut Pool, constant: Constant) -> Result<(), Trouble> {
+    if !pool.admits(&constant) {
+        return Err(Trouble::Refused);
+    }
+    pool.push(constant)?;
+    Ok(())
 }

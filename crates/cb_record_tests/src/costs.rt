@@ -1,9 +1,8 @@
 // Tables of the greatest size, which are read in seconds.
-use super::files::answer;
-use super::spelled::spelled;
-use crate::rows::check;
+use crate::classfile::tell_answer;
+use crate::spelled::spelled;
+use cb_rows::{Trouble, number_of};
 use std::alloc::{AllocError, Global};
-use std::test::Fail;
 
 /// What stands before the constants of a class with 20,000 fields, and their name of 30,000 units.
 const ONE_NAME: &str =
@@ -16,8 +15,25 @@ const MANY_NAMES: &str = "CAFEBABE 0000 0034 0300 01 'A' 07 0001 01 'java/lang/O
 const METHOD: &str = "CAFEBABE 0000 0034 0008 01 'A' 07 0001 01 'java/lang/Object' 07 0003 \
     01 'f' 01 '()V' 01 'Code' 0021 0002 0004 0000 0000 0001 0001 0005 0006 0001 0007";
 
+/// What the reader answers to a class of the kind that the table names.
+pub(crate) fn tell(
+    alloc: Global,
+    told: &mut String,
+    table: &str,
+    row: &str,
+) -> Result<(), Trouble> {
+    let mut bytes = Vec::new(alloc);
+    match table {
+        "one name" => push_one_name(&mut bytes, alloc)?,
+        "many names" => push_many_names(&mut bytes, alloc, row)?,
+        "code" => push_class(&mut bytes, alloc, row)?,
+        _ => return Err(Trouble::NotUnderstood),
+    }
+    tell_answer(told, alloc, bytes.as_slice())
+}
+
 /// Adds what a text spells.
-fn push_spelled(bytes: &mut Vec<u8>, alloc: Global, text: &str) -> Result<(), Fail> {
+fn push_spelled(bytes: &mut Vec<u8>, alloc: Global, text: &str) -> Result<(), Trouble> {
     let spelled = spelled(alloc, &[text])?;
     Ok(bytes.extend_from_slice(&spelled)?)
 }
@@ -48,7 +64,8 @@ fn push_fields(bytes: &mut Vec<u8>, name: u16, first: u16, end: u16) -> Result<(
     Ok(())
 }
 
-fn push_one_name(bytes: &mut Vec<u8>, alloc: Global) -> Result<(), Fail> {
+/// Adds a class with 20,000 fields of different classes. They share one name of 30,000 units.
+fn push_one_name(bytes: &mut Vec<u8>, alloc: Global) -> Result<(), Trouble> {
     push_spelled(bytes, alloc, ONE_NAME)?;
     push_long_types(bytes)?;
     push_spelled(bytes, alloc, "0021 0002 0004 0000 4E20")?;
@@ -90,7 +107,9 @@ fn push_all_fields(bytes: &mut Vec<u8>) -> Result<(), AllocError> {
     push_fields(bytes, 0x1FF, 0x200, 0x2FE)
 }
 
-fn push_many_names(bytes: &mut Vec<u8>, alloc: Global, last: &str) -> Result<(), Fail> {
+/// Adds a class with 65,535 fields of 256 names and 256 types, the last of which is told. Of that name there is a field of each type but for
+/// those at 02FE and 02FF.
+fn push_many_names(bytes: &mut Vec<u8>, alloc: Global, last: &str) -> Result<(), Trouble> {
     push_spelled(bytes, alloc, MANY_NAMES)?;
     push_empty_texts(bytes)?;
     push_short_names(bytes)?;
@@ -98,32 +117,6 @@ fn push_many_names(bytes: &mut Vec<u8>, alloc: Global, last: &str) -> Result<(),
     push_spelled(bytes, alloc, "0021 0002 0004 0000 FFFF")?;
     push_all_fields(bytes)?;
     push_spelled(bytes, alloc, last)
-}
-
-/// What the reader answers to a class with 20,000 fields of different classes. They share one name of 30,000 units.
-fn told_one_name(alloc: Global, _: &str) -> Result<String, Fail> {
-    let mut bytes = Vec::new(alloc);
-    push_one_name(&mut bytes, alloc)?;
-    answer(alloc, &bytes)
-}
-
-/// What the reader answers to a class with 65,535 fields of 256 names and 256 types, the last of which is told. Of that name
-/// there is a field of each type but for those at 02FE and 02FF.
-fn told_many_names(alloc: Global, last: &str) -> Result<String, Fail> {
-    let mut bytes = Vec::new(alloc);
-    push_many_names(&mut bytes, alloc, last)?;
-    answer(alloc, &bytes)
-}
-
-#[test]
-fn many_fields_are_compared_by_what_they_name(rt: HostRuntime) -> Result<(), Fail> {
-    check(&rt, rt.alloc(), "one name | read", told_one_name)?;
-    let rows = "
-        0000 01FF 02FE 0000 0000 0000 | read
-        0000 01FF 02FD 0000 0000 0000 | malformed
-        0000 01FF 0200 0000 0000 0000 | malformed
-    ";
-    check(&rt, rt.alloc(), rows, told_many_names)
 }
 
 /// Adds so many handlers, from the first places to the place FFFF.
@@ -145,51 +138,16 @@ fn push_code(bytes: &mut Vec<u8>, size: u32) -> Result<(), AllocError> {
     Ok(())
 }
 
-/// Adds a body of this many `nop` with these handlers.
-fn push_body(bytes: &mut Vec<u8>, size: u32, count: u16) -> Result<(), AllocError> {
+/// Adds a class with a method of so many `nop` and a handler from each of the first ones to the place FFFF.
+fn push_class(bytes: &mut Vec<u8>, alloc: Global, row: &str) -> Result<(), Trouble> {
+    let (size, count) = row.split_once(' ').ok_or(Trouble::NotUnderstood)?;
+    let size = number_of::<u32>(size)?;
+    let count = number_of::<u16>(count)?;
+    let length = size.wrapping_add(8 * u32::from(count)).wrapping_add(12);
+    push_spelled(bytes, alloc, METHOD)?;
+    bytes.extend_from_slice(&length.to_be_bytes())?;
     bytes.extend_from_slice(&[0, 0, 0, 1])?;
     push_code(bytes, size)?;
     push_handlers(bytes, count)?;
-    bytes.extend_from_slice(&[0, 0])
-}
-
-fn push_method(bytes: &mut Vec<u8>, alloc: Global, body: &[u8]) -> Result<(), Fail> {
-    push_spelled(bytes, alloc, METHOD)?;
-    bytes.extend_from_slice(&u32::try_from(body.len())?.to_be_bytes())?;
-    bytes.extend_from_slice(body)?;
-    push_spelled(bytes, alloc, "0000")
-}
-
-/// A class with a method of this body.
-fn class_of(alloc: Global, body: &[u8]) -> Result<Vec<u8>, Fail> {
-    let mut bytes = Vec::new(alloc);
-    push_method(&mut bytes, alloc, body)?;
-    Ok(bytes)
-}
-
-/// A body of this many `nop`, and a handler from each of the first ones to the place FFFF.
-fn body_of(alloc: Global, text: &str) -> Result<Vec<u8>, Fail> {
-    let (size, count) = text.split_once(' ').ok_or("no count")?;
-    let mut body = Vec::new(alloc);
-    push_body(&mut body, size.parse()?, count.parse()?)?;
-    Ok(body)
-}
-
-/// What the reader answers to a class with a method of this many `nop` and so many handlers.
-fn told_body(alloc: Global, text: &str) -> Result<String, Fail> {
-    let body = body_of(alloc, text)?;
-    let bytes = class_of(alloc, &body)?;
-    answer(alloc, &bytes)
-}
-
-#[test]
-fn code_and_its_handlers_fill_the_greatest_tables(rt: HostRuntime) -> Result<(), Fail> {
-    let rows = "
-        65535 65535 | read
-        65535 0     | read
-        65536 0     | malformed
-        65534 65534 | malformed
-        65534 0     | read
-    ";
-    check(&rt, rt.alloc(), rows, told_body)
+    push_spelled(bytes, alloc, "0000 0000")
 }

@@ -1,6 +1,6 @@
 // Class files of the tests, written as texts.
+use cb_rows::Trouble;
 use std::alloc::{AllocError, Global};
-use std::test::Fail;
 
 /// What stands between two brackets or quotes, so far.
 #[derive(Drop)]
@@ -24,7 +24,7 @@ struct Spelling {
 /// Two hexadecimal digits are a byte. Quotes hold a text behind its length of two bytes, in which `16*J` stands for 16
 /// times J. Braces hold bytes behind their length of four bytes. Round brackets hold a table behind its count of two
 /// bytes, and commas part its entries.
-pub(crate) fn spelled(alloc: Global, texts: &[&str]) -> Result<Vec<u8>, Fail> {
+pub(crate) fn spelled(alloc: Global, texts: &[&str]) -> Result<Vec<u8>, Trouble> {
     let mut spelling = Spelling::new(alloc)?;
     for text in texts {
         for sign in text.as_bytes() {
@@ -47,7 +47,7 @@ impl Spelling {
         Ok(spelling)
     }
 
-    fn take(&mut self, sign: u8) -> Result<(), Fail> {
+    fn take(&mut self, sign: u8) -> Result<(), Trouble> {
         match sign {
             b'\'' => self.quote(),
             _ if self.quoted => self.letter(sign),
@@ -58,7 +58,7 @@ impl Spelling {
             b',' => self.comma(),
             b'0'..=b'9' => self.digit(sign - b'0'),
             b'A'..=b'F' => self.digit(sign - b'A' + 10),
-            _ => Err(Fail::new("an unknown sign")),
+            _ => Err(Trouble::NotUnderstood),
         }
     }
 
@@ -70,32 +70,32 @@ impl Spelling {
         Ok(self.parts.push(part)?)
     }
 
-    fn close(&mut self) -> Result<Part, Fail> {
-        Ok(self.parts.pop().ok_or("no open bracket")?)
+    fn close(&mut self) -> Result<Part, Trouble> {
+        self.parts.pop().ok_or(Trouble::NotUnderstood)
     }
 
-    fn add(&mut self, bytes: &[u8]) -> Result<(), Fail> {
-        let part = self.parts.last_mut().ok_or("no open bracket")?;
+    fn add(&mut self, bytes: &[u8]) -> Result<(), Trouble> {
+        let part = self.parts.last_mut().ok_or(Trouble::NotUnderstood)?;
         Ok(part.bytes.extend_from_slice(bytes)?)
     }
 
-    fn quote(&mut self) -> Result<(), Fail> {
+    fn quote(&mut self) -> Result<(), Trouble> {
         self.quoted = !self.quoted;
         if self.quoted {
             return Ok(self.open()?);
         }
         let text = self.close()?.bytes;
-        let length = u16::try_from(text.len())?;
+        let length = u16::try_from(text.len()).map_err(|_| Trouble::NotUnderstood)?;
         self.add(&length.to_be_bytes())?;
         self.add(&text)
     }
 
-    fn letter(&mut self, sign: u8) -> Result<(), Fail> {
+    fn letter(&mut self, sign: u8) -> Result<(), Trouble> {
         match sign {
             b'*' => Ok(()),
             b'0'..=b'9' => {
-                let times = self.times.unwrap_or(0).checked_mul(10).ok_or("too often")?;
-                self.times = times.checked_add(u16::from(sign - b'0'));
+                let times = self.times.unwrap_or(0).saturating_mul(10);
+                self.times = Some(times.saturating_add(u16::from(sign - b'0')));
                 Ok(())
             }
             _ => {
@@ -108,28 +108,28 @@ impl Spelling {
         }
     }
 
-    fn braces(&mut self) -> Result<(), Fail> {
+    fn braces(&mut self) -> Result<(), Trouble> {
         let contents = self.close()?.bytes;
-        let length = u32::try_from(contents.len())?;
+        let length = u32::try_from(contents.len()).map_err(|_| Trouble::NotUnderstood)?;
         self.add(&length.to_be_bytes())?;
         self.add(&contents)
     }
 
-    fn brackets(&mut self) -> Result<(), Fail> {
+    fn brackets(&mut self) -> Result<(), Trouble> {
         let part = self.close()?;
         let is_empty = part.bytes.is_empty() && part.commas == 0;
-        let count = part.commas.checked_add(u16::from(!is_empty));
-        self.add(&count.ok_or("too many entries")?.to_be_bytes())?;
+        let count = part.commas.saturating_add(u16::from(!is_empty));
+        self.add(&count.to_be_bytes())?;
         self.add(&part.bytes)
     }
 
-    fn comma(&mut self) -> Result<(), Fail> {
-        let part = self.parts.last_mut().ok_or("no open bracket")?;
-        part.commas = part.commas.checked_add(1).ok_or("too many entries")?;
+    fn comma(&mut self) -> Result<(), Trouble> {
+        let part = self.parts.last_mut().ok_or(Trouble::NotUnderstood)?;
+        part.commas = part.commas.saturating_add(1);
         Ok(())
     }
 
-    fn digit(&mut self, digit: u8) -> Result<(), Fail> {
+    fn digit(&mut self, digit: u8) -> Result<(), Trouble> {
         match self.high.take() {
             Some(high) => self.add(&[high | digit]),
             None => {

@@ -1,15 +1,29 @@
 // Attributes whose names the pool has, and such whose names it hasn't.
-use super::add;
-use super::files::LIMITS;
-use crate::files::FIRST;
-use crate::rows::check;
+use crate::changed::add;
+use crate::classfile::bytes_at;
 use cb_classfile::{
     Body, ClassFile, Code, Constant, Field, FieldFlags, Frames, Handlers, Insn, MapFrame, MapTypes,
     Method, MethodFlags, Methods, Operand, Pool, Units, opcode, read_any_class,
 };
+use cb_rows::Trouble;
 use cb_writer::well_formed;
 use std::alloc::{AllocError, Global};
-use std::test::Fail;
+
+/// Whether a record with what the attribute of a name tells is well formed without the name, and with it. It is that of a file that lacks the
+/// name.
+pub(crate) fn tell(rt: &HostRuntime, told: &mut String, name: &str) -> Result<(), Trouble> {
+    let alloc = rt.alloc();
+    let file = if name == "Code" {
+        "Limits.class"
+    } else {
+        "First.class"
+    };
+    let bytes = bytes_at(rt, file)?;
+    match read_any_class(alloc, bytes.as_slice()) {
+        Ok(mut class) => push_formed(told, &mut class, alloc, name),
+        Err(_) => Err(Trouble::Refused),
+    }
+}
 
 fn units(alloc: Global, text: &str) -> Result<Units, AllocError> {
     let mut units = Units::new(alloc);
@@ -20,13 +34,13 @@ fn units(alloc: Global, text: &str) -> Result<Units, AllocError> {
 }
 
 /// Adds a text to the pool.
-fn add_text(pool: &mut Pool, alloc: Global, text: &str) -> Result<(), Fail> {
+fn add_text(pool: &mut Pool, alloc: Global, text: &str) -> Result<(), Trouble> {
     let text = units(alloc, text)?;
     add(pool, Constant::Utf8(text))
 }
 
 /// Adds a field that has a value to `First`. Its pool has no `ConstantValue`.
-fn add_value(class: &mut ClassFile, alloc: Global) -> Result<(), Fail> {
+fn add_value(class: &mut ClassFile, alloc: Global) -> Result<(), Trouble> {
     add_text(&mut class.pool, alloc, "I")?;
     add(&mut class.pool, Constant::Integer(7))?;
     let field = Field {
@@ -81,21 +95,21 @@ fn method(alloc: Global, descriptor: u16, frames: Frames) -> Result<Method, Allo
 }
 
 /// Gives `First` a method with a frame alone. Its pool has no `StackMapTable`.
-fn give_frame(class: &mut ClassFile, alloc: Global) -> Result<(), Fail> {
+fn give_frame(class: &mut ClassFile, alloc: Global) -> Result<(), Trouble> {
     let frames = frames(alloc)?;
     class.methods = Methods::new(alloc);
     Ok(class.methods.push(method(alloc, 6, frames)?)?)
 }
 
 /// Gives `Limits` a method with a body. Its pool has no `Code`.
-fn give_body(class: &mut ClassFile, alloc: Global) -> Result<(), Fail> {
+fn give_body(class: &mut ClassFile, alloc: Global) -> Result<(), Trouble> {
     add_text(&mut class.pool, alloc, "()V")?;
     let method = method(alloc, 24, Frames::new(alloc))?;
     Ok(class.methods.push(method)?)
 }
 
 /// Gives a record what the attribute of a name tells.
-fn give(class: &mut ClassFile, alloc: Global, name: &str) -> Result<(), Fail> {
+fn give(class: &mut ClassFile, alloc: Global, name: &str) -> Result<(), Trouble> {
     match name {
         "ConstantValue" => add_value(class, alloc),
         "StackMapTable" => give_frame(class, alloc),
@@ -109,32 +123,9 @@ fn push_formed(
     class: &mut ClassFile,
     alloc: Global,
     name: &str,
-) -> Result<(), Fail> {
+) -> Result<(), Trouble> {
     give(class, alloc, name)?;
     write!(out, "{} ", well_formed(class))?;
     add_text(&mut class.pool, alloc, name)?;
     Ok(write!(out, "{}", well_formed(class))?)
-}
-
-/// The same of the record of `Limits` or of `First`.
-fn push_told(out: &mut String, alloc: Global, name: &str) -> Result<(), Fail> {
-    let file = if name == "Code" { LIMITS } else { FIRST };
-    let mut class = read_any_class(alloc, file)?;
-    push_formed(out, &mut class, alloc, name)
-}
-
-fn told(alloc: Global, name: &str) -> Result<String, Fail> {
-    let mut out = String::new(alloc);
-    push_told(&mut out, alloc, name)?;
-    Ok(out)
-}
-
-#[test]
-fn attributes_need_their_names_in_the_pool(rt: HostRuntime) -> Result<(), Fail> {
-    let rows = "
-        ConstantValue | false true
-        StackMapTable | false true
-        Code          | false true
-    ";
-    check(&rt, rt.alloc(), rows, told)
 }

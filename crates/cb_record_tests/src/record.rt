@@ -1,45 +1,8 @@
 // Records of classes as texts, with what `javap -v -p` prints of them.
-use super::files::check_answer;
-use crate::rows::same;
 use crate::texts::{push_class_name, push_member};
-use cb_classfile::{Body, ClassFile, Field, Handler, MapFrame, MapType, Method, Pool, read_class};
+use cb_classfile::{Body, ClassFile, Field, Handler, MapFrame, MapType, Method, Pool};
 use cb_insn::{Insn, Operand, Pair};
-use std::alloc::{AllocError, Global};
-use std::process::Abort;
-use std::test::Fail;
-
-/// Reads a class and compares its record. Without its last byte and with one more it is none.
-pub(crate) fn check_record(
-    rt: &impl Abort,
-    alloc: Global,
-    bytes: &[u8],
-    record: &str,
-) -> Result<(), Fail> {
-    let found = record_of(alloc, bytes)?;
-    same(rt, found.as_str(), record);
-    check_alone(rt, alloc, bytes)
-}
-
-fn check_alone(rt: &impl Abort, alloc: Global, bytes: &[u8]) -> Result<(), Fail> {
-    let cut = bytes.split_last().ok_or("no byte")?.1;
-    check_answer(rt, alloc, cut, "malformed")?;
-    let longer = longer(alloc, bytes)?;
-    check_answer(rt, alloc, &longer, "malformed")
-}
-
-/// Bytes with one more.
-fn longer(alloc: Global, bytes: &[u8]) -> Result<Vec<u8>, AllocError> {
-    let mut longer = bytes.to_vec(alloc)?;
-    longer.push(0)?;
-    Ok(longer)
-}
-
-fn record_of(alloc: Global, bytes: &[u8]) -> Result<String, Fail> {
-    let class = read_class(alloc, bytes)?;
-    let mut out = String::new(alloc);
-    push_record(&mut out, &class)?;
-    Ok(out)
-}
+use std::alloc::AllocError;
 
 /// Adds a line for the version and the count of the constant pool, the class, each superinterface, field and method, and for
 /// the code, each handler and each frame of a method. Flags and opcodes are hexadecimal.

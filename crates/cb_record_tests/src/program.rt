@@ -1,13 +1,12 @@
-// A program and its record, and programs that have none.
-use crate::classfile::described::push_record;
-use crate::rows::{check, same};
+// Programs and their records, and programs that have none.
+use crate::record::push_record;
 use cb_asm_line::{CodeText, FrameLine, MethodText, Program, Statement, read_line};
 use cb_asm_record::record;
 use cb_classfile::ClassFile;
 use cb_plain::List;
+use cb_rows::Trouble;
 use cb_text::Units;
 use std::alloc::{AllocError, Global};
-use std::test::Fail;
 
 /// What the class of the tests has, and what its method has up to a jump.
 const MEMBERS: &str = "implements B/field static+final F J long 7/L1:/ldc text \"hi\"/L2:/\
@@ -72,16 +71,16 @@ fn add_lines(
     code: &mut CodeText,
     alloc: Global,
     lines: &str,
-) -> Result<(), Fail> {
+) -> Result<(), Trouble> {
     for line in lines.split('/') {
-        let statement = read_line(alloc, line.as_bytes())?.ok_or("no line")?;
+        let statement = read_line(alloc, line.as_bytes())?.ok_or(Trouble::NotUnderstood)?;
         add(program, code, statement)?;
     }
     Ok(())
 }
 
 /// Adds members, with a method of the code that the lines have behind those above.
-fn add_members(program: &mut Program, alloc: Global, lines: &str) -> Result<(), Fail> {
+fn add_members(program: &mut Program, alloc: Global, lines: &str) -> Result<(), Trouble> {
     let mut code = no_code(alloc);
     add_lines(program, &mut code, alloc, MEMBERS)?;
     add_lines(program, &mut code, alloc, lines)?;
@@ -89,16 +88,10 @@ fn add_members(program: &mut Program, alloc: Global, lines: &str) -> Result<(), 
     Ok(program.methods.push(method)?)
 }
 
-fn program(alloc: Global, lines: &str) -> Result<Program, Fail> {
+fn program(alloc: Global, lines: &str) -> Result<Program, Trouble> {
     let mut program = class(alloc)?;
     add_members(&mut program, alloc, lines)?;
     Ok(program)
-}
-
-/// The record of the class with these lines.
-fn made(alloc: Global, lines: &str) -> Result<Option<ClassFile>, Fail> {
-    let program = program(alloc, lines)?;
-    Ok(record(alloc, &program)?)
 }
 
 /// Adds a line for the indices of the class, its superclass and interfaces, and for the fields and the long at the index 10.
@@ -126,56 +119,11 @@ fn push_class(out: &mut String, class: &ClassFile) -> Result<(), AllocError> {
     push_methods(out, class)
 }
 
-/// The record of the class with these lines, line by line.
-fn told(alloc: Global, lines: &str) -> Result<String, Fail> {
-    let mut out = String::new(alloc);
-    push_made(&mut out, alloc, lines)?;
-    Ok(out)
-}
-
-fn push_made(out: &mut String, alloc: Global, lines: &str) -> Result<(), Fail> {
-    match made(alloc, lines)? {
-        Some(class) => Ok(push_class(out, &class)?),
-        None => Ok(out.push_str("no record")?),
+/// The record of the class with the lines of a row, line by line.
+pub(crate) fn tell(alloc: Global, told: &mut String, row: &str) -> Result<(), Trouble> {
+    let program = program(alloc, row)?;
+    match record(alloc, &program)? {
+        Some(class) => Ok(push_class(told, &class)?),
+        None => Ok(told.push_str("no record")?),
     }
-}
-
-/// The record of the class whose labels stand as they should. Of its constants are A 1 and 2, O 3 and 4, B 5 and 6, F 7, J 8,
-/// ConstantValue 9, the long 10 and 11, m 12, ()V 13, Code 14, hi 15 and 16, f 17, its descriptor 18, both 19, the method 20
-/// and StackMapTable 21.
-const TOLD: &str = "\
-version 50.0 pool 22
-class 0021 A O
-implements B
-field 0018 F J 10
-method 0001 m ()V
-code 2 1: 0 12 16, 2 B9 20 6, 7 A7 2, 10 B1,
-handler 0 10 2 any
-frame 255 2 [ class A ] [ ]
-frame 255 7 [ class A ] [ ]
-2 4 [6] [Field { flags: FieldFlags(24), name: 7, descriptor: 8, constant: Some(10) }]
-Some(7)
-12 13
-";
-
-#[test]
-fn constants_are_numbered_as_they_are_used_and_labels_become_places(
-    rt: HostRuntime,
-) -> Result<(), Fail> {
-    let lines = "goto L2/L3:/return/catch L1 L3 L2 any/\
-        frame L2 locals object:A stack -/frame L3 locals object:A stack -";
-    let found = told(rt.alloc(), lines)?;
-    same(&rt, found.as_str(), TOLD);
-    Ok(())
-}
-
-/// A label that isn't there, a frame before another, and one at the same place.
-#[test]
-fn labels_that_do_not_stand_as_they_should(rt: HostRuntime) -> Result<(), Fail> {
-    let rows = "
-        goto L4/L3:/return/catch L1 L3 L2 any/frame L2 locals object:A stack -/frame L3 locals object:A stack - | no record
-        goto L2/L3:/return/catch L1 L3 L2 any/frame L3 locals object:A stack -/frame L2 locals object:A stack - | no record
-        goto L2/L3:/return/catch L1 L3 L2 any/frame L2 locals object:A stack -/frame L2 locals object:A stack - | no record
-    ";
-    check(&rt, rt.alloc(), rows, told)
 }
