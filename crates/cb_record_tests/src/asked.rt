@@ -22,15 +22,23 @@ pub(crate) fn tell(
             let opcode = u8::from_str_radix(row, 16).map_err(|_| Trouble::NotUnderstood)?;
             Ok(write!(told, "{:?}", kind_needed(opcode))?)
         }
-        "constants" => {
-            let class = class_of(alloc, table, row)?;
-            tell_class(told, alloc, &class)
-        }
-        _ => {
-            let class = class_of(alloc, "methods", row)?;
-            tell_members_by(told, alloc, table, &class)
-        }
+        "constants" => tell_of_class(told, alloc, table, table, row),
+        _ => tell_of_class(told, alloc, table, "methods", row),
     }
+}
+
+/// What is asked of the class with a part.
+fn tell_of_class(
+    told: &mut String,
+    alloc: Global,
+    table: &str,
+    parts: &str,
+    part: &str,
+) -> Result<(), Trouble> {
+    let class = class_of(alloc, parts, part)?;
+    let answer = tell_by(told, alloc, table, &class);
+    drop(class);
+    answer
 }
 
 /// The record of the class with a part.
@@ -151,14 +159,10 @@ fn tell_all(
     tell_values(out, constants)
 }
 
-/// Adds what is told of a class's constants and methods: asked without a table of its texts and with one. Or the names of its methods.
-fn tell_members_by(
-    out: &mut String,
-    alloc: Global,
-    way: &str,
-    class: &ClassFile,
-) -> Result<(), Trouble> {
+/// Adds what is told of a class, or of its constants and methods: asked without a table of its texts and with one. Or the names of its methods.
+fn tell_by(out: &mut String, alloc: Global, way: &str, class: &ClassFile) -> Result<(), Trouble> {
     match way {
+        "constants" => tell_class(out, alloc, class),
         "members" => Ok(tell_members(out, class)?),
         "members by a table of texts" => Ok(tell_described(out, alloc, class)?),
         "names of methods" => Ok(push_names(out, class)?),

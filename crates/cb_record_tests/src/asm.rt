@@ -44,7 +44,11 @@ fn text_at(rt: &HostRuntime, name: &str) -> Result<String, Trouble> {
 fn tell_listing(rt: &HostRuntime, told: &mut String, file: &str) -> Result<(), Trouble> {
     let bytes = bytes_at(rt, file)?;
     match read_class(rt.alloc(), bytes.as_slice()) {
-        Ok(class) => Ok(told.push_str(list_lines(rt.alloc(), &class)?.as_str())?),
+        Ok(class) => {
+            let text = list_lines(rt.alloc(), &class);
+            drop(class);
+            Ok(told.push_str(text?.as_str())?)
+        }
         Err(_) => Err(Trouble::Refused),
     }
 }
@@ -52,7 +56,11 @@ fn tell_listing(rt: &HostRuntime, told: &mut String, file: &str) -> Result<(), T
 /// The listing of a file.
 fn listed(alloc: Global, bytes: &[u8]) -> Result<String, Trouble> {
     match read_class(alloc, bytes) {
-        Ok(class) => Ok(list(alloc, &class)?),
+        Ok(class) => {
+            let text = list(alloc, &class);
+            drop(class);
+            Ok(text?)
+        }
         Err(_) => Err(Trouble::Refused),
     }
 }
@@ -60,7 +68,11 @@ fn listed(alloc: Global, bytes: &[u8]) -> Result<String, Trouble> {
 /// The file that a text assembles to.
 fn assembled(alloc: Global, text: &str) -> Result<Vec<u8>, Trouble> {
     match assemble(alloc, text) {
-        Ok(class) => Ok(write_class(alloc, &class)?),
+        Ok(class) => {
+            let bytes = write_class(alloc, &class);
+            drop(class);
+            Ok(bytes?)
+        }
         Err(_) => Err(Trouble::Refused),
     }
 }
@@ -105,7 +117,11 @@ fn tell_place(rt: &HostRuntime, told: &mut String, row: &str) -> Result<(), Trou
     let place = number_of(place)?;
     let text = text_at(rt, text)?;
     match assemble(rt.alloc(), text.as_str()) {
-        Ok(class) => Ok(push_insns(told, class.methods.as_slice(), place)?),
+        Ok(class) => {
+            let pushed = push_insns(told, class.methods.as_slice(), place);
+            drop(class);
+            Ok(pushed?)
+        }
         Err(_) => Err(Trouble::Refused),
     }
 }
@@ -137,8 +153,8 @@ fn tell_bad_lines(told: &mut String, alloc: Global, row: &str) -> Result<(), Tro
 
 /// The number of the first bad line of a text.
 fn tell_bad_line(told: &mut String, alloc: Global, text: &str) -> Result<(), Trouble> {
-    match assemble(alloc, text) {
-        Err(AsmFault::BadLine { line }) => Ok(write!(told, "{line}")?),
+    match assemble(alloc, text).err() {
+        Some(AsmFault::BadLine { line }) => Ok(write!(told, "{line}")?),
         _ => Err(Trouble::Refused),
     }
 }

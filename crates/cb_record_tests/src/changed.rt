@@ -11,6 +11,7 @@ use cb_plain::Numbers;
 use cb_rows::{Trouble, number_of};
 use cb_writer::{well_formed, write_class};
 use std::alloc::{AllocError, Global};
+use std::mem;
 
 /// The change of a record, by what it breaks.
 #[derive(Clone, Copy)]
@@ -32,14 +33,33 @@ pub(crate) fn tell(
 ) -> Result<(), Trouble> {
     let alloc = rt.alloc();
     let bytes = bytes_at(rt, "Small.class")?;
-    let Ok(mut class) = read_any_class(alloc, bytes.as_slice()) else {
-        return Err(Trouble::Refused);
-    };
-    match table {
-        "long code" => class.methods = long_methods(alloc, number_of(row)?)?,
-        _ => change_all(&mut class, alloc, Change(row))?,
+    match read_any_class(alloc, bytes.as_slice()) {
+        Ok(mut class) => {
+            let answer = tell_changed(told, alloc, &mut class, table, row);
+            drop(class);
+            answer
+        }
+        Err(_) => Err(Trouble::Refused),
     }
-    tell_spelling(told, alloc, &class)
+}
+
+fn tell_changed(
+    told: &mut String,
+    alloc: Global,
+    class: &mut ClassFile,
+    table: &str,
+    row: &str,
+) -> Result<(), Trouble> {
+    match table {
+        "long code" => give_methods(class, long_methods(alloc, number_of(row)?)?),
+        _ => change_all(class, alloc, Change(row))?,
+    }
+    tell_spelling(told, alloc, class)
+}
+
+/// Puts methods in the place of those of a class.
+pub(crate) fn give_methods(class: &mut ClassFile, methods: Methods) {
+    drop(mem::replace(&mut class.methods, methods));
 }
 
 fn change_all(class: &mut ClassFile, alloc: Global, change: Change<'_>) -> Result<(), Trouble> {
@@ -55,9 +75,11 @@ fn change_classes(class: &mut ClassFile, change: Change<'_>) {
 }
 
 fn change_members(class: &mut ClassFile, alloc: Global, change: Change<'_>) -> Result<(), Trouble> {
-    class.interfaces = interfaces(alloc, change)?;
-    class.fields = fields(alloc, change)?;
-    class.methods = methods(alloc, change)?;
+    let interfaces = interfaces(alloc, change)?;
+    drop(mem::replace(&mut class.interfaces, interfaces));
+    let fields = fields(alloc, change)?;
+    drop(mem::replace(&mut class.fields, fields));
+    give_methods(class, methods(alloc, change)?);
     let descriptor = change.pick("a name stands with a descriptor", 17, 16);
     add(&mut class.pool, Constant::NameAndType(16, descriptor))
 }
@@ -230,7 +252,11 @@ fn methods_again(alloc: Global, class: &ClassFile) -> Result<usize, Trouble>
 {
     let bytes = write_class(alloc, class)?;
     match read_any_class(alloc, bytes.as_slice()) {
-        Ok(again) => Ok(again.methods.len()),
+        Ok(again) => {
+            let count = again.methods.len();
+            drop(again);
+            Ok(count)
+        }
         Err(_) => Err(Trouble::Refused),
     }
 }

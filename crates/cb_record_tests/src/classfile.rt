@@ -39,9 +39,9 @@ pub(crate) fn bytes_at(rt: &HostRuntime, name: &str) -> Result<Vec<u8>, Trouble>
 
 /// Adds what the reader answers, in a word or two.
 pub(crate) fn tell_answer(told: &mut String, alloc: Global, bytes: &[u8]) -> Result<(), Trouble> {
-    match read_class(alloc, bytes) {
-        Ok(_) => Ok(told.push_str("read")?),
-        Err(fault) => tell_fault(told, fault),
+    match read_class(alloc, bytes).err() {
+        None => Ok(told.push_str("read")?),
+        Some(fault) => tell_fault(told, fault),
     }
 }
 
@@ -64,10 +64,24 @@ fn tell_part(told: &mut String, alloc: Global, parts: &str, row: &str) -> Result
 
 /// The record that bytes spell, and what is answered to them without their last byte and with one more.
 fn tell_record(told: &mut String, alloc: Global, bytes: &[u8]) -> Result<(), Trouble> {
+    tell_whole(told, alloc, bytes)?;
+    tell_beside(told, alloc, bytes)
+}
+
+/// The record that bytes spell.
+fn tell_whole(told: &mut String, alloc: Global, bytes: &[u8]) -> Result<(), Trouble> {
     match read_class(alloc, bytes) {
-        Ok(class) => push_record(told, &class)?,
-        Err(fault) => tell_fault(told, fault)?,
+        Ok(class) => {
+            let pushed = push_record(told, &class);
+            drop(class);
+            Ok(pushed?)
+        }
+        Err(fault) => tell_fault(told, fault),
     }
+}
+
+/// What is answered to bytes without their last one, and with one more.
+fn tell_beside(told: &mut String, alloc: Global, bytes: &[u8]) -> Result<(), Trouble> {
     let (_, cut) = bytes.split_last().ok_or(Trouble::NotUnderstood)?;
     told.push_str("one byte fewer: ")?;
     tell_answer(told, alloc, cut)?;

@@ -12,7 +12,9 @@ const WORDS: &str = "public private protected static final super - - native inte
 /// Each class with its members.
 pub(crate) fn tell(alloc: Global, told: &mut String) -> Result<(), Trouble> {
     let classes = core_classes(alloc)?;
-    Ok(push_classes(told, classes.as_slice())?)
+    let pushed = push_classes(told, classes.as_slice());
+    drop(classes);
+    Ok(pushed?)
 }
 
 /// Adds classes.

@@ -23,13 +23,18 @@ pub(crate) fn tell(
     row: &str,
 ) -> Result<(), Trouble> {
     let mut bytes = Vec::new(alloc);
-    match table {
-        "one name" => push_one_name(&mut bytes, alloc)?,
-        "many names" => push_many_names(&mut bytes, alloc, row)?,
-        "code" => push_class(&mut bytes, alloc, row)?,
-        _ => return Err(Trouble::NotUnderstood),
-    }
+    push_table(&mut bytes, alloc, table, row)?;
     tell_answer(told, alloc, bytes.as_slice())
+}
+
+/// Adds that class.
+fn push_table(bytes: &mut Vec<u8>, alloc: Global, table: &str, row: &str) -> Result<(), Trouble> {
+    match table {
+        "one name" => push_one_name(bytes, alloc),
+        "many names" => push_many_names(bytes, alloc, row),
+        "code" => push_class(bytes, alloc, row),
+        _ => Err(Trouble::NotUnderstood),
+    }
 }
 
 /// Adds what a text spells.

@@ -1,7 +1,7 @@
 // Class files that share their constants.
 use crate::spelled::spelled;
 use cb_rows::Trouble;
-use std::alloc::Global;
+use std::alloc::{AllocError, Global};
 
 /// The magic number and the version of Java SE 8.
 pub(crate) const SE_8: &str = "CAFEBABE 0000 0034";
@@ -52,6 +52,15 @@ fn behind(parts: &str) -> &'static str {
     }
 }
 
+/// Adds the text of the file of a version with a part of this kind.
+fn push_file(text: &mut String, version: &str, parts: &str, part: &str) -> Result<(), AllocError> {
+    text.push_str(version)?;
+    text.push_str(POOL)?;
+    text.push_str(before(parts))?;
+    text.push_str(part)?;
+    text.push_str(behind(parts))
+}
+
 /// The file of a version with a part of this kind.
 pub(crate) fn file_of(
     alloc: Global,
@@ -59,5 +68,7 @@ pub(crate) fn file_of(
     parts: &str,
     part: &str,
 ) -> Result<Vec<u8>, Trouble> {
-    spelled(alloc, &[version, POOL, before(parts), part, behind(parts)])
+    let mut text = String::new(alloc);
+    push_file(&mut text, version, parts, part)?;
+    spelled(alloc, &[text.as_str()])
 }

@@ -29,16 +29,25 @@ fn tell_read(told: &mut String, alloc: Global, row: &str) -> Result<(), Trouble>
         .strip_prefix('\'')
         .and_then(|rest| rest.strip_suffix('\''))
         .unwrap_or(row);
-    let is_read = read_line(alloc, line.as_bytes())?.is_some();
+    let said = read_line(alloc, line.as_bytes())?;
+    let is_read = said.is_some();
+    drop(said);
     Ok(told.push_str(if is_read { "read" } else { "none" })?)
 }
 
 /// What a line says.
 fn tell_said(told: &mut String, alloc: Global, row: &str) -> Result<(), Trouble> {
-    match read_line(alloc, row.as_bytes())? {
-        Some(Statement::Field(field)) => Ok(tell_field(told, &field)?),
-        Some(Statement::Code(CodeLine::Do(insn))) => Ok(tell_insn(told, &insn)?),
-        Some(Statement::Frame(frame)) => Ok(tell_frame(told, &frame)?),
+    let said = read_line(alloc, row.as_bytes())?.ok_or(Trouble::NotUnderstood)?;
+    let answer = tell_statement(told, &said);
+    drop(said);
+    answer
+}
+
+fn tell_statement(told: &mut String, said: &Statement) -> Result<(), Trouble> {
+    match said {
+        Statement::Field(field) => Ok(tell_field(told, field)?),
+        Statement::Code(CodeLine::Do(insn)) => Ok(tell_insn(told, insn)?),
+        Statement::Frame(frame) => Ok(tell_frame(told, frame)?),
         _ => Err(Trouble::NotUnderstood),
     }
 }

@@ -1,5 +1,5 @@
 // Attributes whose names the pool has, and such whose names it hasn't.
-use crate::changed::add;
+use crate::changed::{add, give_methods};
 use crate::classfile::bytes_at;
 use cb_classfile::{
     Body, ClassFile, Code, Constant, Field, FieldFlags, Frames, Handlers, Insn, MapFrame, MapTypes,
@@ -20,7 +20,11 @@ pub(crate) fn tell(rt: &HostRuntime, told: &mut String, name: &str) -> Result<()
     };
     let bytes = bytes_at(rt, file)?;
     match read_any_class(alloc, bytes.as_slice()) {
-        Ok(mut class) => push_formed(told, &mut class, alloc, name),
+        Ok(mut class) => {
+            let answer = push_formed(told, &mut class, alloc, name);
+            drop(class);
+            answer
+        }
         Err(_) => Err(Trouble::Refused),
     }
 }
@@ -96,9 +100,9 @@ fn method(alloc: Global, descriptor: u16, frames: Frames) -> Result<Method, Allo
 
 /// Gives `First` a method with a frame alone. Its pool has no `StackMapTable`.
 fn give_frame(class: &mut ClassFile, alloc: Global) -> Result<(), Trouble> {
-    let frames = frames(alloc)?;
-    class.methods = Methods::new(alloc);
-    Ok(class.methods.push(method(alloc, 6, frames)?)?)
+    let method = method(alloc, 6, frames(alloc)?)?;
+    give_methods(class, Methods::new(alloc));
+    Ok(class.methods.push(method)?)
 }
 
 /// Gives `Limits` a method with a body. Its pool has no `Code`.

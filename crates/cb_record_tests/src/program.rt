@@ -65,16 +65,28 @@ fn add(program: &mut Program, code: &mut CodeText, statement: Statement) -> Resu
     }
 }
 
-/// Adds what lines say, between which there are slashes.
+/// Adds what a line says.
+fn add_line(
+    program: &mut Program,
+    code: &mut CodeText,
+    alloc: Global,
+    line: &str,
+) -> Result<(), Trouble> {
+    let statement = read_line(alloc, line.as_bytes())?.ok_or(Trouble::NotUnderstood)?;
+    Ok(add(program, code, statement)?)
+}
+
+/// Adds what the lines of texts say, between which there are slashes.
 fn add_lines(
     program: &mut Program,
     code: &mut CodeText,
     alloc: Global,
-    lines: &str,
+    texts: &[&str],
 ) -> Result<(), Trouble> {
-    for line in lines.split('/') {
-        let statement = read_line(alloc, line.as_bytes())?.ok_or(Trouble::NotUnderstood)?;
-        add(program, code, statement)?;
+    for text in texts {
+        for line in text.split('/') {
+            add_line(program, code, alloc, line)?;
+        }
     }
     Ok(())
 }
@@ -82,16 +94,24 @@ fn add_lines(
 /// Adds members, with a method of the code that the lines have behind those above.
 fn add_members(program: &mut Program, alloc: Global, lines: &str) -> Result<(), Trouble> {
     let mut code = no_code(alloc);
-    add_lines(program, &mut code, alloc, MEMBERS)?;
-    add_lines(program, &mut code, alloc, lines)?;
-    let method = method(alloc, code)?;
-    Ok(program.methods.push(method)?)
+    match add_lines(program, &mut code, alloc, &[MEMBERS, lines]) {
+        Ok(()) => Ok(program.methods.push(method(alloc, code)?)?),
+        Err(trouble) => {
+            drop(code);
+            Err(trouble)
+        }
+    }
 }
 
 fn program(alloc: Global, lines: &str) -> Result<Program, Trouble> {
     let mut program = class(alloc)?;
-    add_members(&mut program, alloc, lines)?;
-    Ok(program)
+    match add_members(&mut program, alloc, lines) {
+        Ok(()) => Ok(program),
+        Err(trouble) => {
+            drop(program);
+            Err(trouble)
+        }
+    }
 }
 
 /// Adds a line for the indices of the class, its superclass and interfaces, and for the fields and the long at the index 10.
@@ -122,8 +142,14 @@ fn push_class(out: &mut String, class: &ClassFile) -> Result<(), AllocError> {
 /// The record of the class with the lines of a row, line by line.
 pub(crate) fn tell(alloc: Global, told: &mut String, row: &str) -> Result<(), Trouble> {
     let program = program(alloc, row)?;
-    match record(alloc, &program)? {
-        Some(class) => Ok(push_class(told, &class)?),
+    let class = record(alloc, &program);
+    drop(program);
+    match class? {
+        Some(class) => {
+            let pushed = push_class(told, &class);
+            drop(class);
+            Ok(pushed?)
+        }
         None => Ok(told.push_str("no record")?),
     }
 }

@@ -19,7 +19,11 @@ pub(crate) fn tell(rt: &HostRuntime, told: &mut String, row: &str) -> Result<(),
 /// The bytes of the record that bytes spell: nobody asked whether it is well formed.
 fn written(alloc: Global, bytes: &[u8]) -> Result<Vec<u8>, Trouble> {
     match read_any_class(alloc, bytes) {
-        Ok(class) => Ok(write_class(alloc, &class)?),
+        Ok(class) => {
+            let bytes = write_class(alloc, &class);
+            drop(class);
+            Ok(bytes?)
+        }
         Err(_) => Err(Trouble::Refused),
     }
 }
@@ -30,8 +34,9 @@ fn tell_again(told: &mut String, alloc: Global, bytes: &[u8]) -> Result<(), Trou
     write!(told, "then {same}, ")?;
     match read_any_class(alloc, bytes) {
         Ok(class) => {
-            let by_numbers = well_formed_by_numbers(alloc, &class)?;
-            Ok(write!(told, "well formed {} {by_numbers}", well_formed(&class))?)
+            let formed = (well_formed(&class), well_formed_by_numbers(alloc, &class));
+            drop(class);
+            Ok(write!(told, "well formed {} {}", formed.0, formed.1?)?)
         }
         Err(_) => Err(Trouble::Refused),
     }
