@@ -20,6 +20,7 @@ mod LinkedMarks
 mod MadeActions
 mod MadeNames
 mod MakingSteps
+mod NativeTurns
 mod NativesAnswered
 mod NativesAsked
 mod NativesCalled
@@ -28,7 +29,6 @@ mod NativesGiven
 mod NativesLaid
 mod NativesLeft
 mod NativesMade
-mod NativesPrinting
 mod NativesRead
 mod QuickData
 mod QuickPlaces
@@ -43,6 +43,7 @@ mod RunGrown
 mod RunHere
 mod RunLoop
 mod RunReads
+mod RunSteps
 mod RunTurns
 mod RunTyped
 mod SuitedCalls

@@ -1,6 +1,5 @@
 -- Steps that don't call `System.gc`.
 use Rattle.std.proofs.Common.{◌≡◌, ◌∙◌, ap, refl, sym, ℕ, Bool, true, false, List, [], ◌∷◌, map, Option, Some, None, zero, suc, if◌then◌else◌, ◌==◌}
-use Rattle.std.proofs.lemmas.Bool.{false≢true}
 use Rattle.cb_act.proofs.Laws.{NotGc, no_gc}
 use Rattle.cb_act.specs.Acting.{Asks, acted}
 use Rattle.cb_act.specs.Here.{Here}
@@ -17,10 +16,8 @@ use Rattle.cb_library.specs.declared.native.Native.TheVariants as natives
 use Rattle.cb_link.specs.Program.{Linked}
 use Rattle.cb_link.specs.declared.decoded.Decoded.{Decoded}
 use Rattle.cb_machine.specs.Machine.{Machine}
-use Rattle.cb_machine.specs.Natives.{native_of}
 use Rattle.cb_plain.specs.State.{Frame, Initialising, Object, OfMethod, Roots, State}
-use Rattle.cb_interp.specs.Performed.{collects}
-use Rattle.cb_interp.specs.Printing.{IsNoneOf}
+use Rattle.cb_interp.specs.Performed.{AsksNative}
 use Rattle.cb_interp.proofs.RunTyped.{not_zero}
 
 -- where an exception is pending, a class is initialised, or no frame stands
@@ -60,20 +57,10 @@ module _ (program : Linked) (index : ℕ → ℕ) (objects : List (Option Object
     go (OfMethod frame ∷ below) is = absurd (cc is)
     go (Initialising class place ∷ below) is = refl
 
--- another native
-pub other_native : (test : Native → Bool) → test natives.SystemGc ≡ false → (native : Native) → test native ≡ true → is_gc (Some native) ≡ false
-other_native test never natives.SystemGc is = absurd (false≢true (sym never ∙ is))
-other_native test never other is = refl
-
-none_collects : (native : Native) → collects native ≡ false → is_gc (Some native) ≡ false
-none_collects natives.SystemGc is = absurd (false≢true (sym is))
-none_collects other is = refl
-
-pub uncollected : (program : Linked) (method : ℕ) → IsNoneOf collects program method → is_gc (native_of program method) ≡ false
-uncollected program method none = go (native_of program method) refl where
-  go : (found : Option Native) → native_of program method ≡ found → is_gc found ≡ false
-  go None there = refl
-  go (Some native) there = none_collects native (none native there)
+-- a native that doesn't ask for a collection
+not_gc : (native : Native) → (native ≡ natives.SystemGc → ⊥) → is_gc (Some native) ≡ false
+not_gc natives.SystemGc never = absurd (never refl)
+not_gc other never = refl
 
 -- an instruction that asks for something else
 need_not : (program : Linked) (need : Need) → ((method : ℕ) → need ≡ needs.Performs method → ⊥) → NotGc program (Asks need)
@@ -85,6 +72,5 @@ module _ (machine : Machine) (state : State) (decoded : Decoded) (at : Here mach
       → calls_gc machine.program state ≡ false
   need_still need asks never = no_gc machine state decoded at (Asks need) asks (need_not machine.program need never)
 
-  pub native_still : (method : ℕ) → acted machine.program machine.frames decoded (view_of state) ≡ Some (Asks (needs.Performs method))
-      → is_gc (native_of machine.program method) ≡ false → calls_gc machine.program state ≡ false
-  native_still method asks other = no_gc machine state decoded at (Asks (needs.Performs method)) asks other
+  pub native_still : (native : Native) → AsksNative machine.program machine.frames decoded (view_of state) native → (native ≡ natives.SystemGc → ⊥) → calls_gc machine.program state ≡ false
+  native_still native asks other = no_gc machine state decoded at (Asks (needs.Performs asks.method)) asks.asked (ap is_gc asks.is ∙ not_gc native other)

@@ -31,16 +31,11 @@ use Rattle.cb_safety.specs.States.{IsTypedState}
 use Rattle.cb_shapes.specs.declared.sort.Sort.TheVariants as sorts
 use Rattle.cb_verify.specs.Typed.{IsTyped}
 use Rattle.cb_interp.specs.Answering.{argument_count, behind_answer}
-use Rattle.cb_interp.specs.Performed.{exits}
 use Rattle.cb_interp.specs.Running.{exited}
 use Rattle.cb_interp.proofs.NativesAnswered.{behind_read, count_there, enough, sorts_there, standing}
 use Rattle.cb_interp.proofs.NativesLeft.{left_goes, left_plan}
 use Rattle.cb_interp.proofs.TurnsMade.{quiet_turn}
 use Rattle.cb_interp.proofs.TurnsNeed.{steps_on}
-
-pub exits_one : (native : Native) → exits native ≡ true → native ≡ natives.SystemExit
-exits_one natives.SystemExit is = refl
-exits_one other is = absurd (false≢true is)
 
 -- an int stands on the stack for it
 int_on : (stack : List Value) → have_sorts (sorts.Int ∷ []) (reverse (take 1 stack)) ≡ true → is_of sorts.Int (slice_get stack 0) ≡ true

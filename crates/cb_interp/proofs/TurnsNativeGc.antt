@@ -40,16 +40,10 @@ use Rattle.cb_shapes.specs.declared.action.Action.{Action}
 use Rattle.cb_shapes.specs.declared.action.Action.TheVariants as actions
 use Rattle.cb_verify.specs.Typed.{IsTyped}
 use Rattle.cb_interp.specs.Answering.{argument_count, behind_answer, count_by}
-use Rattle.cb_interp.specs.Performed.{collects}
 use Rattle.cb_interp.specs.Running.{NotDone}
 use Rattle.cb_interp.proofs.NativesAsked.{Asking, Calls, asking}
 use Rattle.cb_interp.proofs.NativesAnswered.{answered_turn, count_there, goes_on, sorts_there, standing}
 use Rattle.cb_interp.proofs.TurnsNeed.{steps_on}
-
--- the native that asks for one
-pub collects_one : (native : Native) → collects native ≡ true → native ≡ natives.SystemGc
-collects_one natives.SystemGc is = refl
-collects_one other is = absurd (false≢true is)
 
 -- no arguments are taken for it
 no_values : (held : List Value) → have_sorts [] held ≡ true → held ≡ []

@@ -41,10 +41,9 @@ use Rattle.cb_shapes.specs.Shapes.{action_of}
 use Rattle.cb_shapes.specs.declared.action.Action.TheVariants as actions
 use Rattle.cb_verify.specs.Typed.{IsTyped}
 use Rattle.cb_act.specs.Here.{Here}
-use Rattle.cb_interp.specs.Loading.{IsClassHere, LoadsClass, laid, loads_class, new_class}
+use Rattle.cb_interp.specs.Loading.{ClassLoading, IsClassHere, LoadsClass, laid, loads_class, new_class}
 use Rattle.cb_act.specs.Steps.{StandsBefore, view_of}
 use Rattle.cb_act.specs.Turning.{Asked, Moment, Outside, RoomMade, TurnMade, TurnRefused, machine_of, moment_of, state_of}
-use Rattle.cb_interp.specs.declared.class_loads.ClassLoading.{ClassLoading}
 use Rattle.cb_act.proofs.Laws.{now}
 use Rattle.cb_interp.proofs.TurnsMade.{quiet_turn}
 use Rattle.cb_interp.proofs.TurnsMaking.{room_read}

@@ -44,11 +44,10 @@ use Rattle.cb_unwind.specs.Strings.{IsNew, constant_or_new, new_constant, units_
 use Rattle.cb_verify.specs.Typed.{IsTyped}
 use Rattle.cb_act.specs.Coming.{AreAllowed}
 use Rattle.cb_act.specs.Here.{Here}
-use Rattle.cb_interp.specs.Loading.{IsTextHere, LoadsNew, laid, loads_by, loads_new}
+use Rattle.cb_interp.specs.Loading.{IsTextHere, Loading, LoadsNew, laid, loads_by, loads_new}
 use Rattle.cb_act.specs.Placing.{with_view}
 use Rattle.cb_act.specs.Steps.{StandsBefore, view_of}
 use Rattle.cb_act.specs.Turning.{Asked, Moment, Outside, RoomMade, TurnMade, TurnRefused, machine_of, moment_of, state_of}
-use Rattle.cb_interp.specs.declared.load_turns.Loading.{Loading}
 use Rattle.cb_act.proofs.Laws.{now}
 use Rattle.cb_interp.proofs.TurnsMade.{quiet_turn}
 use Rattle.cb_interp.proofs.TurnsMaking.{room_read}

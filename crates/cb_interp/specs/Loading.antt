@@ -22,8 +22,6 @@ use Rattle.cb_shapes.specs.declared.action.Action.{Action}
 use Rattle.cb_shapes.specs.declared.action.Action.TheVariants as actions
 use Rattle.cb_unwind.specs.Strings.{units_of}
 use Rattle.cb_act.specs.Turning.{Outside, state_of}
-use Rattle.cb_interp.specs.declared.class_loads.ClassLoading.{ClassLoading}
-use Rattle.cb_interp.specs.declared.load_turns.Loading.{Loading}
 
 -- what there is once an object is laid on the stack, at the next place
 abbrev pub laid : ℕ → View → ℕ → View
@@ -82,6 +80,15 @@ pub record MayPlaceClass (program : Linked) : Type 0 where
 abbrev pub loads_by : Option Action → Bool
 loads_by (Some (actions.Constant index)) = true
 loads_by other = false
+
+-- a text that is loaded, or the kind whose class is, and the place where the topmost frame goes on
+pub record Loading : Type 0 where
+  pub text : ℕ
+  pub next : ℕ
+
+pub record ClassLoading : Type 0 where
+  pub kind : ℕ
+  pub next : ℕ
 
 -- it loads the string of a text, and goes on there
 pub record IsTextHere (program : Linked) (decoded : Decoded) (loading : Loading) : Type 0 where

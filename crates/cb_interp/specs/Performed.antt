@@ -1,24 +1,15 @@
--- Which natives a turn performs that doesn't print.
-use Rattle.std.specs.Prelude.{◌||◌, Bool, true, false}
+-- The native for which an instruction asks.
+use Rattle.std.specs.Prelude.{◌≡◌, ℕ, Some}
+use Rattle.cb_act.specs.Acting.{Asks, acted}
+use Rattle.cb_act.specs.declared.need.Need.TheVariants as needs
+use Rattle.cb_heap.specs.Reading.{View}
 use Rattle.cb_library.specs.declared.native.Native.{Native}
-use Rattle.cb_library.specs.declared.native.Native.TheVariants as natives
-use Rattle.cb_natives.specs.Answers.{gives_answer}
-use Rattle.cb_natives.specs.ArrayRanges.{copies}
-use Rattle.cb_natives.specs.Enums.{finds}
-use Rattle.cb_natives.specs.Makers.{makes}
-use Rattle.cb_interp.specs.Reading.{reads}
+use Rattle.cb_link.specs.Program.{Linked}
+use Rattle.cb_link.specs.declared.decoded.Decoded.{Decoded}
+use Rattle.cb_machine.specs.Natives.{native_of}
 
--- the native that asks for a collection (Java SE 8 API, java.lang.System)
-abbrev pub collects : Native → Bool
-collects natives.SystemGc = true
-collects other = false
-
--- and the one that ends the run
-abbrev pub exits : Native → Bool
-exits natives.SystemExit = true
-exits other = false
-
--- all that don't print: those that give a number or nothing, those that place objects or change them, the one that finds a constant of an
--- enum, the one that copies words of an array, those that read, and these two
-abbrev pub is_performed : Native → Bool
-is_performed native = gives_answer native || makes native || finds native || copies native || collects native || exits native || reads native
+-- it asks for a method that is this native
+pub record AsksNative (program : Linked) (limit : ℕ) (decoded : Decoded) (view : View) (native : Native) : Type 0 where
+  pub method : ℕ
+  pub asked : acted program limit decoded view ≡ Some (Asks (needs.Performs method))
+  pub is : native_of program method ≡ Some native

@@ -1,13 +1,10 @@
 -- What natives that print do and leave (Java SE 8 API, java.io.PrintStream).
-use Rattle.std.specs.Prelude.{◌≡◌, ◌<◌, ◌^◌, ◌&&◌, ℤ, pos, ℕ, Bool, true, false, IsTrue, List, [], ◌∷◌, ◌++◌, codes, drop, length, map, Option, Some, option_and_then, slice_get, zero, suc}
+use Rattle.std.specs.Prelude.{◌≡◌, ◌<◌, ◌^◌, ◌&&◌, ◌||◌, ℤ, pos, ℕ, Bool, true, false, IsTrue, List, [], ◌∷◌, ◌++◌, codes, drop, is_some, length, map, Option, Some, None, slice_get, zero, suc}
 use Rattle.cb_frames.specs.Tops.{placed, top_stack}
 use Rattle.cb_heap.specs.Kept.{content_at, contents_at, is_held, is_reference}
 use Rattle.cb_io.specs.Utf8.{utf8}
-use Rattle.cb_library.specs.Text.{print_stream_class}
 use Rattle.cb_library.specs.declared.native.Native.{Native}
 use Rattle.cb_library.specs.declared.native.Native.TheVariants as natives
-use Rattle.cb_link.specs.Program.{Linked}
-use Rattle.cb_machine.specs.Natives.{native_in, native_of}
 use Rattle.cb_machine.specs.Texts.{digits, truth, unit_of}
 use Rattle.cb_plain.specs.declared.value.Value.{Value}
 use Rattle.cb_plain.specs.declared.value.Value.TheVariants.{Int, Long, Ref}
@@ -17,13 +14,6 @@ use Rattle.cb_shapes.specs.declared.sort.Sort.TheVariants as sorts
 use Rattle.cb_act.specs.Effects.{has_sort, stacked}
 use Rattle.cb_interp.specs.declared.printing.Print.{Print}
 use Rattle.cb_interp.specs.declared.printing.Print.TheVariants as prints
-
--- the native at a place of the row of java/io/PrintStream in the library's table, whose class has this number
-abbrev pub print_stream : ℕ
-print_stream = 12
-
-abbrev pub stream_native : ℕ → Option Native
-stream_native place = option_and_then (λ method. native_in method.kind) (slice_get print_stream_class.methods place)
 
 -- which native it is that prints so
 abbrev pub native_as : Print → Native
@@ -37,18 +27,18 @@ native_as (prints.Long false) = natives.PrintLong
 native_as (prints.Long true) = natives.PrintlnLong
 native_as prints.Line = natives.Println
 
--- whether a native prints a value so
-abbrev pub prints_value : Native → Bool
-prints_value natives.PrintBoolean = true
-prints_value natives.PrintlnBoolean = true
-prints_value natives.PrintChar = true
-prints_value natives.PrintlnChar = true
-prints_value natives.PrintInt = true
-prints_value natives.PrintlnInt = true
-prints_value natives.PrintLong = true
-prints_value natives.PrintlnLong = true
-prints_value natives.Println = true
-prints_value other = false
+-- what a native prints of a value, if it prints one so
+abbrev pub print_of : Native → Option Print
+print_of natives.PrintBoolean = Some (prints.Truth false)
+print_of natives.PrintlnBoolean = Some (prints.Truth true)
+print_of natives.PrintChar = Some (prints.Char false)
+print_of natives.PrintlnChar = Some (prints.Char true)
+print_of natives.PrintInt = Some (prints.Int false)
+print_of natives.PrintlnInt = Some (prints.Int true)
+print_of natives.PrintLong = Some (prints.Long false)
+print_of natives.PrintlnLong = Some (prints.Long true)
+print_of natives.Println = Some prints.Line
+print_of other = None
 
 -- the number on top of a stack, 0 where none stands there, and whether it is what is printed
 abbrev number_in : Option Value → ℤ
@@ -99,14 +89,14 @@ abbrev pub native_text : Bool → Native
 native_text false = natives.PrintString
 native_text true = natives.PrintlnString
 
-abbrev pub prints_text : Native → Bool
-prints_text natives.PrintString = true
-prints_text natives.PrintlnString = true
-prints_text other = false
+abbrev pub line_of : Native → Option Bool
+line_of natives.PrintString = Some false
+line_of natives.PrintlnString = Some true
+line_of other = None
 
--- no native that a method is passes a test
-abbrev pub IsNoneOf : (Native → Bool) → Linked → ℕ → Type 0
-IsNoneOf test program method = (native : Native) → native_of program method ≡ Some native → test native ≡ false
+-- whether a native prints
+abbrev pub is_print : Native → Bool
+is_print native = is_some (print_of native) || is_some (line_of native)
 
 -- the units of an array of chars, and the array to which the first word of a string refers
 abbrev pub unit_in : Content → ℕ

@@ -1,20 +1,14 @@
 // Turns of a run in which `Enum.valueOf` is performed (Java SE 8 API, java.lang.Enum).
 ghost use Rattle.cb_heap.specs.Storage.{view_in};
-ghost use Rattle.std.specs.Prelude.{◌≡◌, ◌<◌, ◌≤◌, [], ◌∷◌, false, length, true, Some};
-ghost use Rattle.cb_act.specs.Acting.{Asks, acted};
+ghost use Rattle.std.specs.Prelude.{◌≡◌, ◌<◌, ◌≤◌, [], ◌∷◌, length, Some};
 ghost use Rattle.cb_act.specs.Here.{Here};
 ghost use Rattle.cb_act.specs.Turning.{Outside, machine_of, state_of};
-ghost use Rattle.cb_act.specs.declared.need.Need.TheVariants as needs;
 ghost use Rattle.cb_frames.specs.Limited.{with_roots};
 ghost use Rattle.cb_frames.specs.Tops.{top_stack};
-ghost use Rattle.cb_heap.specs.declared.no_room.NoRoom.TheVariants as rooms;
 ghost use Rattle.cb_library.specs.declared.native.Native.TheVariants as natives;
-ghost use Rattle.cb_machine.specs.Natives.{native_of};
-ghost use Rattle.cb_natives.specs.Enums.{finds};
 ghost use Rattle.cb_interp.specs.Answering.{behind_answer};
-ghost use Rattle.cb_interp.specs.Printing.{IsNoneOf};
+ghost use Rattle.cb_interp.specs.Performed.{AsksNative};
 ghost use Rattle.cb_interp.specs.Running.{Ready, TurnEnds};
-ghost use Rattle.cb_interp.specs.declared.stop.Stop.TheVariants as stops;
 
 use crate::Stop;
 use crate::answer_turns::{argument_count, arguments_on};
@@ -24,20 +18,10 @@ use crate::need_turns::throw_of;
 use cb_act::give_for;
 use cb_frames::Roots;
 use cb_heap::Store;
-use cb_library::Native;
 use cb_link::{Decoded, Program};
-use cb_natives::{EnumAnswer, find_constant, native_of};
+use cb_natives::{EnumAnswer, find_constant};
 use cb_plain::{Request, Value};
 use cb_safety::linked_has_natives;
-
-/// Whether a method is the native that finds a constant of an enum by its name.
-pub(crate) fn finding(program: &Program, method: u32) -> bool
-    requires { method < length program.now.methods }
-    ensures is { result ≡ true → native_of program.now method ≡ Some natives.EnumValueOf }
-    ensures other { result ≡ false → IsNoneOf finds program.now method }
-{
-    matches!(native_of(program, method), Some(Native::EnumValueOf))
-}
 
 /// A turn in which this native is performed, for which the instruction at the topmost frame's place asks: the constant stands on the stack in
 /// place of the arguments, or an exception is thrown, or the class of the enum begins to be initialised, and behind that the call is made
@@ -48,19 +32,16 @@ pub(crate) fn enum_turn<S: Store>(
     roots: &mut Roots,
     request: &mut Request,
     decoded: &Decoded,
-    method: u32,
 ) -> Result<(), Stop>
     ghost outside: { Outside }
     requires ready { Ready S.rules program.now (S.storage store.old) roots.old outside }
     requires here { Here (machine_of program.now roots.old.limit) (state_of (view_in (S.storage store.old) roots.old.roots) outside) decoded.now }
-    requires asked { acted program.now roots.old.limit decoded.now (view_in (S.storage store.old) roots.old.roots) ≡ Some (Asks (needs.Performs method)) }
-    requires native { native_of program.now method ≡ Some natives.EnumValueOf }
+    requires asked { AsksNative program.now roots.old.limit decoded.now (view_in (S.storage store.old) roots.old.roots) natives.EnumValueOf }
     ensures { TurnEnds S.rules program.now outside (S.storage store.old) (S.storage store.new) roots.old roots.new result }
 {
     linked_programs_fit();
     linked_constants();
     linked_has_natives();
-    let _ = method;
     let count = argument_count(program, decoded);
     let arguments = arguments_on(roots, count);
     match find_constant(program, store, roots, &arguments[..count as usize]) {

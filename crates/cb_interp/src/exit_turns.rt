@@ -1,48 +1,24 @@
 // Turns of a run in which the program ends it.
 ghost use Rattle.cb_heap.specs.Storage.{view_in};
-ghost use Rattle.std.specs.Prelude.{◌≡◌, ◌<◌, ℤ, false, length, slice_get, true, Some};
-ghost use Rattle.cb_act.specs.Acting.{Asks, acted};
+ghost use Rattle.std.specs.Prelude.{◌≡◌, ◌<◌, ℤ, length, slice_get, true, Some};
 ghost use Rattle.cb_act.specs.Effects.{has_sort};
 ghost use Rattle.cb_act.specs.Here.{Here};
 ghost use Rattle.cb_act.specs.Turning.{Outside, TurnMade, machine_of, moment_of, state_of};
-ghost use Rattle.cb_act.specs.declared.need.Need.TheVariants as needs;
 ghost use Rattle.cb_frames.specs.Limited.{with_roots};
 ghost use Rattle.cb_frames.specs.Tops.{top_stack};
 ghost use Rattle.cb_library.specs.declared.native.Native.TheVariants as natives;
-ghost use Rattle.cb_machine.specs.Natives.{native_of};
 ghost use Rattle.cb_plain.specs.declared.value.Value.TheVariants as values;
 ghost use Rattle.cb_shapes.specs.declared.sort.Sort.TheVariants as sorts;
-ghost use Rattle.cb_interp.specs.Performed.{exits};
-ghost use Rattle.cb_interp.specs.Printing.{IsNoneOf, behind_taken};
+ghost use Rattle.cb_interp.specs.Performed.{AsksNative};
+ghost use Rattle.cb_interp.specs.Printing.{behind_taken};
 ghost use Rattle.cb_interp.specs.Running.{Ready, exited};
 
 use crate::linked::linked_programs_fit;
 use cb_act::{int_at, take_one};
 use cb_frames::Roots;
 use cb_heap::Store;
-use cb_library::Native;
 use cb_link::{Decoded, Program};
-use cb_natives::native_of;
 use cb_safety::linked_has_natives;
-
-/// Whether a method is `System.exit`.
-pub(crate) fn exiting(program: &Program, method: u32) -> bool
-    requires { method < length program.now.methods }
-    ensures is { result ≡ true → native_of program.now method ≡ Some natives.SystemExit }
-    ensures other { result ≡ false → IsNoneOf exits program.now method }
-{
-    match native_of(program, method) {
-        Some(native) => exits(native),
-        None => false,
-    }
-}
-
-/// Whether a native ends the run.
-fn exits(native: Native) -> bool
-    ensures { result ≡ exits native }
-{
-    matches!(native, Native::SystemExit)
-}
 
 /// A turn in which `System.exit` is performed, for which the instruction at the topmost frame's place asks (Java SE 8 API, java.lang.System).
 /// Its argument is taken from the stack, the place is the next one, and `exit` was called then. Answers the argument. Takes constant time.
@@ -51,13 +27,11 @@ pub(crate) fn exit_turn<S: Store>(
     store: &S,
     roots: &mut Roots,
     decoded: &Decoded,
-    method: u32,
 ) -> i32
     ghost outside: { Outside }
     requires ready { Ready S.rules program.now (S.storage store.now) roots.old outside }
     requires here { Here (machine_of program.now roots.old.limit) (state_of (view_in (S.storage store.now) roots.old.roots) outside) decoded.now }
-    requires asked { acted program.now roots.old.limit decoded.now (view_in (S.storage store.now) roots.old.roots) ≡ Some (Asks (needs.Performs method)) }
-    requires native { native_of program.now method ≡ Some natives.SystemExit }
+    requires asked { AsksNative program.now roots.old.limit decoded.now (view_in (S.storage store.now) roots.old.roots) natives.SystemExit }
     ensures status { slice_get (top_stack roots.old.roots) 0 ≡ Some (values.Int result) }
     ensures made { (status : ℤ) → slice_get (top_stack roots.old.roots) 0 ≡ Some (values.Int status)
         → TurnMade S.rules (machine_of program.now roots.old.limit) (moment_of
@@ -69,7 +43,6 @@ pub(crate) fn exit_turn<S: Store>(
     linked_programs_fit();
     linked_has_natives();
     let _ = store;
-    let _ = method;
     let Some(next) = decoded.next else {
         unreachable!()
     };

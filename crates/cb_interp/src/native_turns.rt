@@ -1,16 +1,14 @@
 // Turns of a run in which a native prints.
 ghost use Rattle.cb_heap.specs.Storage.{view_in};
-ghost use Rattle.std.specs.Prelude.{◌≡◌, ◌<◌, ◌≤◌, length, IfErr, IsErrOf, OnErr, OnOk, Some};
+ghost use Rattle.std.specs.Prelude.{◌≡◌, ◌<◌, ◌≤◌, length, true, IfErr, IsErrOf, None, OnErr, OnOk};
 ghost use Rattle.cb_frames.specs.Limited.{with_roots};
 ghost use Rattle.cb_frames.specs.Tops.{top_stack};
 ghost use Rattle.cb_io.specs.Faults.{CountsFaults};
-ghost use Rattle.cb_act.specs.Acting.{Asks, acted};
 ghost use Rattle.cb_act.specs.Here.{Here};
-ghost use Rattle.cb_interp.specs.Performed.{is_performed};
-ghost use Rattle.cb_interp.specs.Printing.{IsNoneOf, behind_taken, prints_value, taken_by};
+ghost use Rattle.cb_interp.specs.Performed.{AsksNative};
+ghost use Rattle.cb_interp.specs.Printing.{behind_taken, is_print, print_of, taken_by};
 ghost use Rattle.cb_interp.specs.Running.{Ready, SaysBy, Turned};
 ghost use Rattle.cb_act.specs.Turning.{Outside, machine_of, state_of};
-ghost use Rattle.cb_act.specs.declared.need.Need.TheVariants as needs;
 ghost use Rattle.cb_interp.specs.declared.stop.Stop.TheVariants as stops;
 
 use crate::Stop;
@@ -20,6 +18,7 @@ use cb_act::{reference_at, take_one, take_two};
 use cb_frames::Roots;
 use cb_heap::Store;
 use cb_io::Sink;
+use cb_library::Native;
 use cb_link::{Decoded, Program};
 
 /// A turn in which the native for which the instruction at the topmost frame's place asks is performed, where it prints: a boolean, a char,
@@ -31,13 +30,13 @@ pub(crate) fn native_turn<S: Store, O: Sink>(
     roots: &mut Roots,
     out: &mut O,
     decoded: &Decoded,
-    method: u32,
+    native: Native,
 ) -> Result<(), Stop>
     ghost outside: { Outside }
     requires ready { Ready S.rules program.now (S.storage store.now) roots.old outside }
     requires here { Here (machine_of program.now roots.old.limit) (state_of (view_in (S.storage store.now) roots.old.roots) outside) decoded.now }
-    requires asked { acted program.now roots.old.limit decoded.now (view_in (S.storage store.now) roots.old.roots) ≡ Some (Asks (needs.Performs method)) }
-    requires unanswered { IsNoneOf is_performed program.now method }
+    requires asked { AsksNative program.now roots.old.limit decoded.now (view_in (S.storage store.now) roots.old.roots) native }
+    requires prints { is_print native ≡ true }
     ensures made { OnOk result (Turned S.rules (machine_of program.now roots.old.limit) outside
         (view_in (S.storage store.now) roots.old.roots) (view_in (S.storage store.now) roots.new.roots) (S.storage store.now).facts (S.storage store.now).facts
         (O.taken out.old) (O.taken out.new)) }
@@ -50,8 +49,8 @@ pub(crate) fn native_turn<S: Store, O: Sink>(
         (IsErrOf result stops.OutputFault) }
     ensures limit { roots.new.limit ≡ roots.old.limit }
 {
-    let Some(print) = print_of(program, method) else {
-        return string_turn(program, store, roots, out, decoded, method);
+    let Some(print) = print_of(native) else {
+        return string_turn(program, store, roots, out, decoded, native);
     };
     let Some(next) = decoded.next else {
         unreachable!()
@@ -71,14 +70,14 @@ fn string_turn<S: Store, O: Sink>(
     roots: &mut Roots,
     out: &mut O,
     decoded: &Decoded,
-    method: u32,
+    native: Native,
 ) -> Result<(), Stop>
     ghost outside: { Outside }
     requires ready { Ready S.rules program.now (S.storage store.now) roots.old outside }
     requires here { Here (machine_of program.now roots.old.limit) (state_of (view_in (S.storage store.now) roots.old.roots) outside) decoded.now }
-    requires asked { acted program.now roots.old.limit decoded.now (view_in (S.storage store.now) roots.old.roots) ≡ Some (Asks (needs.Performs method)) }
-    requires other { IsNoneOf prints_value program.now method }
-    requires unanswered { IsNoneOf is_performed program.now method }
+    requires asked { AsksNative program.now roots.old.limit decoded.now (view_in (S.storage store.now) roots.old.roots) native }
+    requires other { print_of native ≡ None }
+    requires prints { is_print native ≡ true }
     ensures made { OnOk result (Turned S.rules (machine_of program.now roots.old.limit) outside
         (view_in (S.storage store.now) roots.old.roots) (view_in (S.storage store.now) roots.new.roots) (S.storage store.now).facts (S.storage store.now).facts
         (O.taken out.old) (O.taken out.new)) }
@@ -91,7 +90,7 @@ fn string_turn<S: Store, O: Sink>(
         (IsErrOf result stops.OutputFault) }
     ensures limit { roots.new.limit ≡ roots.old.limit }
 {
-    let Some(line) = line_of(program, method) else {
+    let Some(line) = line_of(native) else {
         unreachable!()
     };
     let Some(next) = decoded.next else {

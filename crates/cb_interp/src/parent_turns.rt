@@ -1,27 +1,24 @@
 // Turns of a run in which an initialisation looks at a class that comes before, of which static fields have strings as constants.
 ghost use Rattle.cb_heap.specs.Storage.{view_in};
-ghost use Rattle.std.specs.Prelude.{◌≡◌, ◌+◌, ◌<◌, ◌≤◌, ◌^◌, ℕ, false, length, true, Some};
+ghost use Rattle.std.specs.Prelude.{◌≡◌, ◌+◌, ◌<◌, ◌≤◌, ◌^◌, false, length, true, Some};
 ghost use Rattle.cb_frames.specs.Tops.{placed};
 ghost use Rattle.cb_heap.specs.Closed.{IsClosed};
 ghost use Rattle.cb_heap.specs.Follows.{Follows};
-ghost use Rattle.cb_heap.specs.declared.no_room.NoRoom.TheVariants as rooms;
 ghost use Rattle.cb_link.specs.Calls.{initial_parents};
 ghost use Rattle.cb_link.specs.Having.{site_kinds};
 ghost use Rattle.cb_link.specs.Slots.{statics};
 ghost use Rattle.cb_machine.specs.Initialising.{begun_upon, own_statics};
-ghost use Rattle.cb_machine.specs.Plans.{leaving, made};
+ghost use Rattle.cb_machine.specs.Plans.{made};
 ghost use Rattle.cb_machine.specs.Sites.{constant_characters};
 ghost use Rattle.cb_machine.specs.Steps.{plan};
 ghost use Rattle.cb_plain.specs.Depth.{has_room};
-ghost use Rattle.cb_plain.specs.Updates.{with_frames};
 ghost use Rattle.cb_unwind.specs.Initialised.{IsOnTop, initialised};
 ghost use Rattle.cb_interp.specs.Arguments.{Covers};
 ghost use Rattle.cb_interp.specs.Fit.{ShapesOf};
 ghost use Rattle.cb_interp.specs.Initials.{fails, is_untouched};
 ghost use Rattle.cb_interp.specs.Running.{Ready, RoomEnds, TurnEnds};
 ghost use Rattle.cb_interp.specs.TextStatics.{HasSerials, MayPlaceOwn, first_plan, wants_behind};
-ghost use Rattle.cb_act.specs.Turning.{Outside, TurnMade, facts_behind, machine_of, moment_of, state_of};
-ghost use Rattle.cb_interp.specs.declared.stop.Stop.TheVariants as stops;
+ghost use Rattle.cb_act.specs.Turning.{Outside, facts_behind, machine_of, state_of};
 
 use crate::Stop;
 use crate::frame_turns::{linked_frames, throws_at};
@@ -58,7 +55,7 @@ pub(crate) fn looks_at_parent<S: Store>(
     if is_untouched(roots.state(parent)) {
         return behind_texts(program, store, roots, request, place, parent);
     }
-    passes_parent(program, store, roots, place);
+    roots.set_place(place + 1);
     Ok(())
 }
 
@@ -67,25 +64,6 @@ fn is_untouched(now: ClassState) -> bool
     ensures { result ≡ is_untouched now }
 {
     matches!(now, ClassState::Untouched)
-}
-
-/// One that is being initialised, or is done: the next is looked at.
-fn passes_parent<S: Store>(program: &Program, store: &S, roots: &mut Roots, place: u32)
-    ghost outside: { Outside }
-    requires plans { plan (machine_of program.now roots.old.limit) (state_of (view_in (S.storage store.now) roots.old.roots) outside)
-        ≡ Some (leaving (with_frames (state_of (view_in (S.storage store.now)
-        roots.old.roots) outside) (placed (view_in (S.storage store.now)
-        roots.old.roots).roots (place + 1)).frames)) }
-    requires stands { 0 < length roots.old.roots.frames }
-    requires few { place + 1 < 2 ^ 32 }
-    ensures made { TurnMade S.rules (machine_of program.now roots.old.limit) (moment_of (view_in (S.storage store.now) roots.old.roots) outside (S.storage store.now).facts)
-        (moment_of (view_in (S.storage store.now) roots.new.roots) outside
-        (S.storage store.now).facts) }
-    ensures limit { roots.new.limit ≡ roots.old.limit }
-{
-    let _ = program;
-    let _ = store;
-    roots.set_place(place + 1);
 }
 
 /// One that wasn't looked at yet: it begins to be initialised, or a StackOverflowError is thrown where there is no room for its frame.

@@ -1,25 +1,21 @@
 // What natives that print a boolean, a char or a number write.
-ghost use Rattle.std.specs.Prelude.{◌≡◌, ◌<◌, ◌==◌, [], ◌∷◌, length, pos, true, IfSome, IsAscii, IsErr, OnErr, OnOk, Some, IfNone, false};
+ghost use Rattle.std.specs.Prelude.{◌≡◌, ◌<◌, ◌==◌, [], ◌∷◌, length, pos, true, IsAscii, IsErr, OnErr, OnOk, Some, false};
 ghost use Rattle.std.specs.Io.KnownBytes.{Appends};
 ghost use Rattle.cb_arith.specs.Bits.{low_bits};
 ghost use Rattle.cb_frames.specs.Tops.{top_stack};
 ghost use Rattle.cb_io.specs.Faults.{CountsFaults};
 ghost use Rattle.cb_io.specs.Sink.{AppendsProperPrefix};
 ghost use Rattle.cb_io.specs.Utf8.{utf8};
-ghost use Rattle.cb_machine.specs.Natives.{native_of};
 ghost use Rattle.cb_machine.specs.Texts.{digits, truth, unit_of};
 ghost use Rattle.cb_library.specs.declared.native.Native.{Native};
-ghost use Rattle.cb_interp.specs.Printing.{IsNoneOf, as_line, native_as, prints_value, stream_native, suits, units_on};
+ghost use Rattle.cb_interp.specs.Printing.{as_line, print_of, suits, units_on};
 
 use cb_act::{int_at, long_at};
 use cb_arith::{Narrow, narrow};
 use cb_frames::Roots;
 use cb_io::{Failed, Sink, utf8_of, write_all};
-use cb_link::Program;
+use cb_library::Native;
 use itoa::Buffer;
-
-/// The number of the class java/io/PrintStream, the first of whose methods are those that print.
-pub(crate) const PRINT_STREAM: u32 = 12;
 
 /// The longest text of a number or a boolean, and a newline.
 const LONGEST_LINE: usize = 21;
@@ -43,34 +39,20 @@ pub(crate) enum Print {
     Line,
 }
 
-/// What a method prints, if it is a native that prints a boolean, a char, a number or a newline.
-pub(crate) fn print_of(program: &Program, method: u32) -> Option<Print>
-    requires { method < length program.now.methods }
-    ensures is { IfSome result (λ print. native_of program.now method ≡ Some (native_as print)) }
-    ensures other { IfNone result (IsNoneOf prints_value program.now method) }
+/// What a native prints, if it prints a boolean, a char, a number or a newline.
+pub(crate) fn print_of(native: Native) -> Option<Print>
+    ensures { result ≡ print_of native }
 {
-    if program.class_of(method) != PRINT_STREAM {
-        return None;
-    }
-    print_at(program.place_of(method))
-}
-
-/// What the method at a place of java/io/PrintStream prints, in the order of the library's table.
-fn print_at(place: u32) -> Option<Print>
-    ensures is { IfSome result (λ print. stream_native place ≡ Some (native_as print)) }
-    ensures other { IfNone result ((native : Native) → stream_native place ≡ Some native
-        → prints_value native ≡ false) }
-{
-    match place {
-        0 => Some(Print::Truth { line: false }),
-        1 => Some(Print::Char { line: false }),
-        2 => Some(Print::Int { line: false }),
-        3 => Some(Print::Long { line: false }),
-        5 => Some(Print::Truth { line: true }),
-        6 => Some(Print::Char { line: true }),
-        7 => Some(Print::Int { line: true }),
-        8 => Some(Print::Long { line: true }),
-        10 => Some(Print::Line),
+    match native {
+        Native::PrintBoolean => Some(Print::Truth { line: false }),
+        Native::PrintlnBoolean => Some(Print::Truth { line: true }),
+        Native::PrintChar => Some(Print::Char { line: false }),
+        Native::PrintlnChar => Some(Print::Char { line: true }),
+        Native::PrintInt => Some(Print::Int { line: false }),
+        Native::PrintlnInt => Some(Print::Int { line: true }),
+        Native::PrintLong => Some(Print::Long { line: false }),
+        Native::PrintlnLong => Some(Print::Long { line: true }),
+        Native::Println => Some(Print::Line),
         _ => None,
     }
 }

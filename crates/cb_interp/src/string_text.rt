@@ -1,5 +1,5 @@
 // The text of strings, written piece by piece.
-ghost use Rattle.std.specs.Prelude.{◌≡◌, ◌<◌, ◌≤◌, ◌+◌, ◌++◌, ◌⊎◌, ℕ, Bool, List, [], drop, length, pos, slice_get, take, true, IfSome, IsErr, IsTrue, OnErr, OnOk, Some, IfNone, false};
+ghost use Rattle.std.specs.Prelude.{◌≡◌, ◌<◌, ◌≤◌, ◌+◌, ◌++◌, ◌⊎◌, ℕ, Bool, List, [], drop, length, pos, slice_get, take, true, IsErr, IsTrue, OnErr, OnOk, Some, false};
 ghost use Rattle.std.specs.Char.Utf16.{is_high_surrogate};
 ghost use Rattle.std.specs.Io.KnownBytes.{Appends};
 ghost use Rattle.cb_heap.specs.Kept.{content_at, contents_at, is_held};
@@ -7,43 +7,28 @@ ghost use Rattle.cb_heap.specs.Reading.{serial_of};
 ghost use Rattle.cb_io.specs.Faults.{CountsFaults};
 ghost use Rattle.cb_io.specs.Sink.{AppendsProperPrefix};
 ghost use Rattle.cb_io.specs.Utf8.{utf8};
-ghost use Rattle.cb_machine.specs.Natives.{native_of};
 ghost use Rattle.cb_plain.specs.State.{Number};
 ghost use Rattle.cb_library.specs.declared.native.Native.{Native};
-ghost use Rattle.cb_interp.specs.Printing.{AreChars, HoldsUnits, IsNoneOf, array_of, as_line, is_text, native_text, prints_text, stream_native, string_text, units_at};
+ghost use Rattle.cb_interp.specs.Printing.{AreChars, HoldsUnits, array_of, as_line, is_text, line_of, string_text, units_at};
 
-use crate::printing::{NEWLINE, PRINT_STREAM, write_text};
+use crate::printing::{NEWLINE, write_text};
 use cb_act::value_at;
 use cb_heap::Store;
 use cb_io::{Failed, Sink, utf8_of};
 use cb_kinds::Basic;
-use cb_link::Program;
+use cb_library::Native;
 use cb_plain::Value;
 
 /// How many units are written in one call at most.
 const PIECE: usize = 256;
 
-/// Whether a method prints a string, and a newline behind it.
-pub(crate) fn line_of(program: &Program, method: u32) -> Option<bool>
-    requires { method < length program.now.methods }
-    ensures is { IfSome result (λ line. native_of program.now method ≡ Some (native_text line)) }
-    ensures other { IfNone result (IsNoneOf prints_text program.now method) }
+/// Whether a native prints a newline behind a string, if it prints one.
+pub(crate) fn line_of(native: Native) -> Option<bool>
+    ensures { result ≡ line_of native }
 {
-    if program.class_of(method) != PRINT_STREAM {
-        return None;
-    }
-    line_at(program.place_of(method))
-}
-
-/// Whether the method at a place of java/io/PrintStream prints a string, and a newline behind it.
-fn line_at(place: u32) -> Option<bool>
-    ensures is { IfSome result (λ line. stream_native place ≡ Some (native_text line)) }
-    ensures other { IfNone result ((native : Native) → stream_native place ≡ Some native
-        → prints_text native ≡ false) }
-{
-    match place {
-        4 => Some(false),
-        9 => Some(true),
+    match native {
+        Native::PrintString => Some(false),
+        Native::PrintlnString => Some(true),
         _ => None,
     }
 }

@@ -1,8 +1,9 @@
 use Rattle.cb_heap.specs.Storage.{view_in}
-use Rattle.std.proofs.Common.{◌∙◌, ap, sym}
+use Rattle.std.proofs.Common.{◌∙◌, ap, rules, sym}
+use Rattle.cb_frames.specs.Limited.{Limited}
 use Rattle.cb_machine.specs.Machine.{or_zero}
 use Rattle.cb_act.specs.Turning.{machine_of, state_of}
-use Rattle.cb_interp.proofs.TurnsNeedClasses.{class_room, class_table, loads_class_so}
+use Rattle.cb_interp.proofs.TurnsNeedClasses.{class_known_turn, class_room, class_table, loads_class_so}
 use Rattle.cb_interp.proofs.TurnsNeedLoads.{load_goes}
 use Rattle.cb_interp.proofs.class_loads.load_class_need.Goals as goal
 
@@ -11,25 +12,27 @@ unreachable-requires g c =
     load_goes (machine_of c.args.program.now c.args.roots.now.limit) (state_of (view_in (g.S.Store.storage c.args.store.now) c.args.roots.now.roots) g.outside)
     c.args.decoded.now c.requires.1.1.0 c.requires.1.0.linked c.requires.1.0.fits c.requires.1.0.typed c.requires.1.1.1.0 c.in_default.is
 
-pub table-requires : goal.table-requires
-table-requires g c =
+pub table-at-requires : goal.table-at-requires
+table-at-requires g c =
     class_table c.args.program.now c.args.roots.now.limit (g.S.Store.storage c.args.store.now).index (g.S.Store.storage c.args.store.now).kept c.args.roots.now.roots g.outside c.args.decoded.now
     (record { kind = c.args.kind; next = c.in-Some.next }) (record { loads = c.requires.1.1.1.0; names = c.requires.1.1.1.1.0; next = c.in-Some.is; low = c.requires.1.1.1.1.1 }) c.requires.1.0.typed
 
-pub load_class_known-requires : goal.load_class_known-requires
-load_class_known-requires g c = λ κs lives. (
-  lives,
-  (
-    c.requires.1.0,
-    (
-      c.requires.1.1.0,
-      (
-        record { loads = c.requires.1.1.1.0; names = c.requires.1.1.1.1.0; next = c.in-Some.is; low = c.requires.1.1.1.1.1 },
-        λ new. c.if-table-ne0.true (sym (ap or_zero c.table.ensures) ∙ new),
-      ),
-    ),
-  ),
-)
+pub lay_reference-requires : goal.lay_reference-requires
+lay_reference-requires g c =
+    class_room c.args.program.now c.args.roots.now.limit (g.S.Store.storage c.args.store.now).index (g.S.Store.storage c.args.store.now).kept c.args.roots.now.roots g.outside c.args.decoded.now
+    (record { kind = c.args.kind; next = c.in-Some.next }) (record { loads = c.requires.1.1.1.0; names = c.requires.1.1.1.1.0; next = c.in-Some.is; low = c.requires.1.1.1.1.1 }) c.requires.1.0.typed c.requires.1.1.0 c.requires.1.0.linked c.requires.1.0.fits
+
+pub returns-then-at-ne0 : goal.returns-then-at-ne0
+returns-then-at-ne0 g c = record {
+  made = class_known_turn c.args.program.now c.args.roots.now.limit (g.S.Store.storage c.args.store.now).index (g.S.Store.storage c.args.store.now).kept c.args.roots.now.roots g.outside c.args.decoded.now
+      (record { kind = c.args.kind; next = c.in-Some.next }) (record { loads = c.requires.1.1.1.0; names = c.requires.1.1.1.1.0; next = c.in-Some.is; low = c.requires.1.1.1.1.1 }) g.S.Store.rules (g.S.Store.storage c.args.store.now).facts c.requires.1.1.0
+      c.table-at.result c.lay_reference.new.roots.roots c.table-at.ensures (λ new. c.if-at-ne0.true (sym (ap or_zero c.table-at.ensures) ∙ new))
+      (ap (λ (held : Limited). held.roots) c.lay_reference.ensures);
+  stopped = search rules;
+  counted = search rules;
+  limit = search rules;
+  settings = search rules;
+}
 
 pub load_class_new-requires : goal.load_class_new-requires
 load_class_new-requires g c = λ κs lives.
@@ -42,7 +45,7 @@ load_class_new-requires g c = λ κs lives.
           loads_class_so c.args.program.now c.args.roots.now.limit (g.S.Store.storage c.args.store.now).index (g.S.Store.storage c.args.store.now).kept c.args.roots.now.roots g.outside c.args.decoded.now
               (record { kind = c.args.kind; next = c.in-Some.next })
               (record { loads = c.requires.1.1.1.0; names = c.requires.1.1.1.1.0; next = c.in-Some.is; low = c.requires.1.1.1.1.1 }) c.requires.1.1.0
-              (ap or_zero c.table.ensures ∙ c.if-table-ne0.false),
+              (ap or_zero c.table-at.ensures ∙ c.if-at-ne0.false),
           (
             class_table c.args.program.now c.args.roots.now.limit (g.S.Store.storage c.args.store.now).index (g.S.Store.storage c.args.store.now).kept c.args.roots.now.roots g.outside c.args.decoded.now
                 (record { kind = c.args.kind; next = c.in-Some.next })

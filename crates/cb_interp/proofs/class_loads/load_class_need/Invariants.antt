@@ -1,7 +1,4 @@
 use Rattle.cb_interp.proofs.class_loads.load_class_need.Given as goal
 
-abbrev pub ghost-load_class_known : goal.ghost-load_class_known
-ghost-load_class_known g a = g.outside
-
 abbrev pub ghost-load_class_new : goal.ghost-load_class_new
 ghost-load_class_new g a = g.outside

@@ -35,15 +35,9 @@ place_class-at-requires-clause-shape g c =
 pub place_class-at-requires-clause-table : goal.place_class-at-requires-clause-table
 place_class-at-requires-clause-table g c = class_table_again (g.S.Store.storage c.args.store.now).index (g.S.Store.storage c.make_room.new.self).index c.args.roots.now.roots c.make_room.new.roots.roots c.args.kind c.make_room.ensures.collected.roots c.requires.1.1.1.0
 
-pub push-requires : goal.push-requires
-push-requires g c =
+pub lay_reference-requires : goal.lay_reference-requires
+lay_reference-requires g c =
     subst (λ (room : ℕ). 0 < room) (sym c.place_class-at.ensures.frames) (room_again (g.S.Store.storage c.args.store.now).index (g.S.Store.storage c.make_room.new.self).index c.args.roots.now.roots c.make_room.new.roots.roots c.make_room.ensures.collected.roots c.requires.1.1.1.1.1.1.1)
-
-pub set_place-requires : goal.set_place-requires
-set_place-requires g c =
-    subst (λ (held : Limited). 0 < length held.roots.frames) (sym c.push.ensures)
-    (some_frames c.place_class-at.new.roots.roots (Ref c.place_class-at.result)
-    (subst (λ (room : ℕ). 0 < room) (sym c.place_class-at.ensures.frames) (room_again (g.S.Store.storage c.args.store.now).index (g.S.Store.storage c.make_room.new.self).index c.args.roots.now.roots c.make_room.new.roots.roots c.make_room.ensures.collected.roots c.requires.1.1.1.1.1.1.1)))
 
 pub returns : goal.returns
 returns g c = record {
@@ -51,7 +45,7 @@ returns g c = record {
       c.add.ensures ∙ ap (λ wants. add_want wants (record { site = class_objects; words = 4 })) c.clear.ensures in
       let before = view_in (g.S.Store.storage c.args.store.now) c.args.roots.now.roots in
       let middle = view_in (g.S.Store.storage c.make_room.new.self) c.make_room.new.roots.roots in
-      let after = view_in (g.S.Store.storage c.place_class-at.new.store) c.set_place.new.self.roots in
+      let after = view_in (g.S.Store.storage c.place_class-at.new.store) c.lay_reference.new.roots.roots in
       class_turn g.S.Store.rules (machine_of c.args.program.now c.args.roots.now.limit) (moment_of before g.outside (g.S.Store.storage c.args.store.now).facts)
       (moment_of after g.outside (g.S.Store.storage c.place_class-at.new.store).facts) c.args.kind c.args.next (c.requires.1.1.0 (g.S.Store.storage c.args.store.now).kept)
       (moment_of middle g.outside (g.S.Store.storage c.make_room.new.self).facts)
@@ -63,9 +57,9 @@ returns g c = record {
       ≡ Some (loads_class (machine_of c.args.program.now c.args.roots.now.limit) (state_of (record { roots = roots; objects = (g.S.Store.storage c.make_room.new.self).kept }) g.outside) c.args.kind c.args.next))
       (sym c.make_room.ensures.collected.roots) (c.requires.1.1.0 (g.S.Store.storage c.make_room.new.self).kept))
       (ap (λ (view : View). state_of view g.outside)
-      (class_left (new_class c.site_kind.result c.args.kind middle) (g.S.Store.storage c.place_class-at.new.store).index (g.S.Store.storage c.place_class-at.new.store).kept c.place_class-at.new.roots.roots c.set_place.new.self.roots c.place_class-at.result c.args.next
+      (class_left (new_class c.site_kind.result c.args.kind middle) (g.S.Store.storage c.place_class-at.new.store).index (g.S.Store.storage c.place_class-at.new.store).kept c.place_class-at.new.roots.roots c.lay_reference.new.roots.roots c.place_class-at.result c.args.next
       c.place_class-at.ensures.behind
-      (ap (λ (held : Limited). held.roots) c.set_place.ensures ∙ ap (λ (held : Limited). placed held.roots c.args.next) c.push.ensures)
+      (ap (λ (held : Limited). held.roots) c.lay_reference.ensures)
       ∙ ap (λ (own : ℕ). laid (new_class own c.args.kind middle).0 (new_class own c.args.kind middle).1 c.args.next) (sym (ap or_zero c.site_kind.ensures.kind))))
       c.place_class-at.ensures.facts;
   refused = search rules;

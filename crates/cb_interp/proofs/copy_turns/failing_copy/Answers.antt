@@ -54,8 +54,8 @@ returns-in_err-room_for g c = record {
       let after = (view_in (g.S.Store.storage c.room_for.new.store) c.room_for.new.roots.roots) in
       handed_on (λ (reason : NoRoom). TurnRefused g.S.Store.rules (machine_of c.args.program.now c.args.roots.now.limit) (moment_of before g.outside (g.S.Store.storage c.args.store.now).facts) reason
       (moment_of after g.outside (g.S.Store.storage c.room_for.new.store).facts)) c.from_residual.result c.in_err-room_for.field-0.0 c.from_residual.ensures
-      (refuses_so c.args.program.now (g.S.Store.storage c.args.store.now).index (g.S.Store.storage c.args.store.now).kept c.args.roots.now.limit c.args.roots.now.roots g.outside c.args.decoded.now c.args.method
-      c.requires.1.1.0 c.requires.1.1.1.0 c.requires.1.1.1.1.0 c.args.exception c.requires.1.1.1.1.1 g.S.Store.rules (g.S.Store.storage c.args.store.now).facts (g.S.Store.storage c.room_for.new.store).facts after c.add.new.self c.in_err-room_for.field-0.0
+      (refuses_so c.args.program.now (g.S.Store.storage c.args.store.now).index (g.S.Store.storage c.args.store.now).kept c.args.roots.now.limit c.args.roots.now.roots g.outside c.args.decoded.now c.requires.1.1.1.0.method
+      c.requires.1.1.0 c.requires.1.1.1.0.asked c.requires.1.1.1.0.is c.args.exception c.requires.1.1.1.1 g.S.Store.rules (g.S.Store.storage c.args.store.now).facts (g.S.Store.storage c.room_for.new.store).facts after c.add.new.self c.in_err-room_for.field-0.0
       (c.add.ensures ∙ ap (λ wants. add_want wants (record { site = c.site-site.result; words = 6 })) c.clear.ensures ∙ ap (λ (site : ℕ). exception_want site ∷ []) c.site-site.ensures) c.in_err-room_for.ensures.refused);
   counted = subst (λ (result : Result (Unit {0}) NoRoom). CountsFaults (g.S.Store.storage c.args.store.now).faults (g.S.Store.storage c.room_for.new.store).faults (IsFault result))
       (sym (handed_same c.from_residual.result c.in_err-room_for.field-0.0 c.from_residual.ensures)) c.in_err-room_for.ensures.counted;
@@ -73,40 +73,40 @@ plan_here-plan-requires-clause-named g c =
 
 pub plan_here-plan-requires-clause-few : goal.plan_here-plan-requires-clause-few
 plan_here-plan-requires-clause-few g c =
-    few_there c.args.program.now (g.S.Store.storage c.args.store.now).index (g.S.Store.storage c.args.store.now).kept c.args.roots.now.limit c.args.roots.now.roots g.outside c.args.decoded.now c.args.method
-    c.requires.1.1.0 c.requires.1.1.1.0 natives.SystemArraycopy c.requires.1.1.1.1.0 c.requires.1.0.linked c.requires.1.0.fits c.requires.1.0.typed (c.linked_has_natives.ensures c.args.program.now c.requires.1.0.linked c.requires.1.0.fits)
+    few_there c.args.program.now (g.S.Store.storage c.args.store.now).index (g.S.Store.storage c.args.store.now).kept c.args.roots.now.limit c.args.roots.now.roots g.outside c.args.decoded.now c.requires.1.1.1.0.method
+    c.requires.1.1.0 c.requires.1.1.1.0.asked natives.SystemArraycopy c.requires.1.1.1.0.is c.requires.1.0.linked c.requires.1.0.fits c.requires.1.0.typed (c.linked_has_natives.ensures c.args.program.now c.requires.1.0.linked c.requires.1.0.fits)
 
 pub plan_here-plan-requires-clause-there : goal.plan_here-plan-requires-clause-there
 plan_here-plan-requires-clause-there g c =
-    enough_still c.args.program.now (g.S.Store.storage c.args.store.now).index (g.S.Store.storage c.args.store.now).kept c.args.roots.now.limit c.args.roots.now.roots g.outside c.args.decoded.now c.args.method
-    c.requires.1.1.0 c.requires.1.1.1.0 natives.SystemArraycopy c.requires.1.1.1.1.0
+    enough_still c.args.program.now (g.S.Store.storage c.args.store.now).index (g.S.Store.storage c.args.store.now).kept c.args.roots.now.limit c.args.roots.now.roots g.outside c.args.decoded.now c.requires.1.1.1.0.method
+    c.requires.1.1.0 c.requires.1.1.1.0.asked natives.SystemArraycopy c.requires.1.1.1.0.is
     (g.S.Store.storage c.room_for.new.store).index (g.S.Store.storage c.room_for.new.store).kept c.room_for.new.roots.roots c.in_ok-room_for.ensures.collected
 
 pub plan_here-plan-requires-clause-sorts : goal.plan_here-plan-requires-clause-sorts
 plan_here-plan-requires-clause-sorts g c =
-    sorts_still c.args.program.now (g.S.Store.storage c.args.store.now).index (g.S.Store.storage c.args.store.now).kept c.args.roots.now.limit c.args.roots.now.roots g.outside c.args.decoded.now c.args.method
-    c.requires.1.1.0 c.requires.1.1.1.0 natives.SystemArraycopy c.requires.1.1.1.1.0
+    sorts_still c.args.program.now (g.S.Store.storage c.args.store.now).index (g.S.Store.storage c.args.store.now).kept c.args.roots.now.limit c.args.roots.now.roots g.outside c.args.decoded.now c.requires.1.1.1.0.method
+    c.requires.1.1.0 c.requires.1.1.1.0.asked natives.SystemArraycopy c.requires.1.1.1.0.is
     (g.S.Store.storage c.room_for.new.store).index (g.S.Store.storage c.room_for.new.store).kept c.room_for.new.roots.roots c.in_ok-room_for.ensures.collected c.requires.1.0.linked c.requires.1.0.fits c.requires.1.0.typed (c.linked_has_natives.ensures c.args.program.now c.requires.1.0.linked c.requires.1.0.fits)
 
 pub plan_here-plan-requires-clause-laid : goal.plan_here-plan-requires-clause-laid
 plan_here-plan-requires-clause-laid g c =
-    laid_still c.args.program.now (g.S.Store.storage c.args.store.now).index (g.S.Store.storage c.args.store.now).kept c.args.roots.now.limit c.args.roots.now.roots g.outside c.args.decoded.now c.args.method
-    c.requires.1.1.0 c.requires.1.1.1.0 natives.SystemArraycopy c.requires.1.1.1.1.0
+    laid_still c.args.program.now (g.S.Store.storage c.args.store.now).index (g.S.Store.storage c.args.store.now).kept c.args.roots.now.limit c.args.roots.now.roots g.outside c.args.decoded.now c.requires.1.1.1.0.method
+    c.requires.1.1.0 c.requires.1.1.1.0.asked natives.SystemArraycopy c.requires.1.1.1.0.is
     (g.S.Store.storage c.room_for.new.store).index (g.S.Store.storage c.room_for.new.store).kept c.room_for.new.roots.roots c.in_ok-room_for.ensures.collected c.requires.1.0.linked c.requires.1.0.fits c.requires.1.0.typed (c.linked_has_natives.ensures c.args.program.now c.requires.1.0.linked c.requires.1.0.fits)
     (c.linked_programs.ensures.whole c.args.program.now c.requires.1.0.linked) (g.S.Store.storage c.args.store.now).settings.shapes c.requires.1.0.shaped
 
 pub plan_here-plan-requires-clause-kinds : goal.plan_here-plan-requires-clause-kinds
 plan_here-plan-requires-clause-kinds g c =
     kinds_there c.args.program.now (view_in (g.S.Store.storage c.room_for.new.store) c.room_for.new.roots.roots) g.outside
-    (typed_still c.args.program.now (g.S.Store.storage c.args.store.now).index (g.S.Store.storage c.args.store.now).kept c.args.roots.now.limit c.args.roots.now.roots g.outside c.args.decoded.now c.args.method
-    c.requires.1.1.0 c.requires.1.1.1.0 natives.SystemArraycopy c.requires.1.1.1.1.0
+    (typed_still c.args.program.now (g.S.Store.storage c.args.store.now).index (g.S.Store.storage c.args.store.now).kept c.args.roots.now.limit c.args.roots.now.roots g.outside c.args.decoded.now c.requires.1.1.1.0.method
+    c.requires.1.1.0 c.requires.1.1.1.0.asked natives.SystemArraycopy c.requires.1.1.1.0.is
     (g.S.Store.storage c.room_for.new.store).index (g.S.Store.storage c.room_for.new.store).kept c.room_for.new.roots.roots c.in_ok-room_for.ensures.collected c.requires.1.0.typed)
 
 pub copy_planned-requires-clause-follows : goal.copy_planned-requires-clause-follows
 copy_planned-requires-clause-follows g c =
     subst (λ allows. Follows allows (copied_by (g.S.Store.storage c.room_for.new.store).kept (g.S.Store.storage c.room_for.new.store).index c.plan_here-plan.result.ranges)) (sym (same_allows c.room_for.ensures.settings))
-    (failed_follows c.args.program.now (g.S.Store.storage c.args.store.now).index (g.S.Store.storage c.args.store.now).kept c.args.roots.now.limit c.args.roots.now.roots g.outside c.args.decoded.now c.args.method
-    c.requires.1.1.0 c.requires.1.1.1.0 c.requires.1.1.1.1.0 c.args.exception c.requires.1.1.1.1.1 (g.S.Store.storage c.room_for.new.store).index (g.S.Store.storage c.room_for.new.store).kept c.room_for.new.roots.roots c.in_ok-room_for.ensures.collected c.plan_here-plan.result c.plan_here-plan.ensures
+    (failed_follows c.args.program.now (g.S.Store.storage c.args.store.now).index (g.S.Store.storage c.args.store.now).kept c.args.roots.now.limit c.args.roots.now.roots g.outside c.args.decoded.now c.requires.1.1.1.0.method
+    c.requires.1.1.0 c.requires.1.1.1.0.asked c.requires.1.1.1.0.is c.args.exception c.requires.1.1.1.1 (g.S.Store.storage c.room_for.new.store).index (g.S.Store.storage c.room_for.new.store).kept c.room_for.new.roots.roots c.in_ok-room_for.ensures.collected c.plan_here-plan.result c.plan_here-plan.ensures
     g.S.Store.rules (g.S.Store.storage c.args.store.now).facts (g.S.Store.storage c.room_for.new.store).facts (g.S.Store.storage c.args.store.now).settings.allows c.requires.1.0.follows)
 
 pub site_kind-requires : goal.site_kind-requires
@@ -146,8 +146,8 @@ returns g c = record {
       let site = site_of c.args.exception in
       let shapes = (same_shapes c.copy_planned.ensures.settings) ∙ (same_shapes c.room_for.ensures.settings) in
       let kind : kind_of_site program site ≡ c.site_kind.result = ap (kind_of_site program) (sym c.site-site.ensures) ∙ ap or_zero c.site_kind.ensures.kind in
-      failed_so c.args.program.now (g.S.Store.storage c.args.store.now).index (g.S.Store.storage c.args.store.now).kept c.args.roots.now.limit c.args.roots.now.roots g.outside c.args.decoded.now c.args.method
-      c.requires.1.1.0 c.requires.1.1.1.0 c.requires.1.1.1.1.0 c.args.exception c.requires.1.1.1.1.1 (g.S.Store.storage c.room_for.new.store).index (g.S.Store.storage c.room_for.new.store).kept c.room_for.new.roots.roots c.in_ok-room_for.ensures.collected c.plan_here-plan.result c.plan_here-plan.ensures
+      failed_so c.args.program.now (g.S.Store.storage c.args.store.now).index (g.S.Store.storage c.args.store.now).kept c.args.roots.now.limit c.args.roots.now.roots g.outside c.args.decoded.now c.requires.1.1.1.0.method
+      c.requires.1.1.0 c.requires.1.1.1.0.asked c.requires.1.1.1.0.is c.args.exception c.requires.1.1.1.1 (g.S.Store.storage c.room_for.new.store).index (g.S.Store.storage c.room_for.new.store).kept c.room_for.new.roots.roots c.in_ok-room_for.ensures.collected c.plan_here-plan.result c.plan_here-plan.ensures
       g.S.Store.rules (g.S.Store.storage c.args.store.now).facts (g.S.Store.storage c.room_for.new.store).facts (g.S.Store.storage c.throw.new.store).facts
       (view_in (g.S.Store.storage c.throw.new.store) c.throw.new.roots.roots) (g.S.Store.storage c.args.store.now).settings.shapes c.add.new.self
       (c.add.ensures ∙ ap (λ wants. add_want wants (record { site = c.site-site.result; words = 6 })) c.clear.ensures ∙ ap (λ (site : ℕ). exception_want site ∷ []) c.site-site.ensures) own.placed.shaped c.in_ok-room_for.ensures.made

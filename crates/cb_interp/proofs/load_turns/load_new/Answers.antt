@@ -60,19 +60,11 @@ constant_string-at-requires-clause-may g c = λ fresh.
           (sym c.make_room.ensures.collected.roots) (c.requires.1.1.0 (g.S.Store.storage c.make_room.new.self).kept));
     }
 
-pub push-requires : goal.push-requires
-push-requires g c =
+pub lay_reference-requires : goal.lay_reference-requires
+lay_reference-requires g c =
     room_behind c.args.program.now c.args.text (g.S.Store.storage c.args.store.now).index (g.S.Store.storage c.make_room.new.self).index (g.S.Store.storage c.constant_string-at.new.store).index (g.S.Store.storage c.make_room.new.self).kept (g.S.Store.storage c.constant_string-at.new.store).kept c.args.roots.now.roots c.make_room.new.roots.roots c.constant_string-at.new.roots.roots c.constant_string-at.result
     c.make_room.ensures.collected.roots c.requires.1.1.1.1.1.0 c.constant_string-at.ensures.behind
     c.requires.1.1.1.1.1.1.1
-
-pub set_place-requires : goal.set_place-requires
-set_place-requires g c =
-    subst (λ (held : Limited). 0 < length held.roots.frames) (sym c.push.ensures)
-    (some_frames c.constant_string-at.new.roots.roots (Ref c.constant_string-at.result)
-    (room_behind c.args.program.now c.args.text (g.S.Store.storage c.args.store.now).index (g.S.Store.storage c.make_room.new.self).index (g.S.Store.storage c.constant_string-at.new.store).index (g.S.Store.storage c.make_room.new.self).kept (g.S.Store.storage c.constant_string-at.new.store).kept c.args.roots.now.roots c.make_room.new.roots.roots c.constant_string-at.new.roots.roots c.constant_string-at.result
-    c.make_room.ensures.collected.roots c.requires.1.1.1.1.1.0 c.constant_string-at.ensures.behind
-    c.requires.1.1.1.1.1.1.1))
 
 pub returns : goal.returns
 returns g c = record {
@@ -82,7 +74,7 @@ returns g c = record {
       ∙ ap (λ words. add_want [] (record { site = constant_characters; words = words })) c.text_words-words.ensures) in
       let before = view_in (g.S.Store.storage c.args.store.now) c.args.roots.now.roots in
       let middle = view_in (g.S.Store.storage c.make_room.new.self) c.make_room.new.roots.roots in
-      let after = view_in (g.S.Store.storage c.constant_string-at.new.store) c.set_place.new.self.roots in
+      let after = view_in (g.S.Store.storage c.constant_string-at.new.store) c.lay_reference.new.roots.roots in
       new_turn g.S.Store.rules (machine_of c.args.program.now c.args.roots.now.limit) (moment_of before g.outside (g.S.Store.storage c.args.store.now).facts)
       (moment_of after g.outside (g.S.Store.storage c.constant_string-at.new.store).facts) c.args.text c.args.next (c.requires.1.1.0 (g.S.Store.storage c.args.store.now).kept)
       (moment_of middle g.outside (g.S.Store.storage c.make_room.new.self).facts)
@@ -96,8 +88,8 @@ returns g c = record {
       (ap (λ (view : View). state_of view g.outside)
       (left_behind c.args.program.now c.args.text (g.S.Store.storage c.args.store.now).index (g.S.Store.storage c.make_room.new.self).index (g.S.Store.storage c.constant_string-at.new.store).index (g.S.Store.storage c.make_room.new.self).kept (g.S.Store.storage c.constant_string-at.new.store).kept c.args.roots.now.roots c.make_room.new.roots.roots c.constant_string-at.new.roots.roots c.constant_string-at.result
       c.make_room.ensures.collected.roots c.requires.1.1.1.1.1.0 c.constant_string-at.ensures.behind
-      c.set_place.new.self.roots c.args.next
-      (ap (λ (held : Limited). held.roots) c.set_place.ensures ∙ ap (λ (held : Limited). placed held.roots c.args.next) c.push.ensures))
+      c.lay_reference.new.roots.roots c.args.next
+      (ap (λ (held : Limited). held.roots) c.lay_reference.ensures))
       ∙ sym (new_made (machine_of c.args.program.now c.args.roots.now.limit) (state_of middle g.outside) c.args.text c.args.next))
       (c.constant_string-at.ensures.facts (new_again (g.S.Store.storage c.args.store.now).index (g.S.Store.storage c.make_room.new.self).index c.args.roots.now.roots c.make_room.new.roots.roots c.args.text c.make_room.ensures.collected.roots c.requires.1.1.1.1.1.0));
   refused = search rules;

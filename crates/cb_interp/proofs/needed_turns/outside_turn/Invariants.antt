@@ -1,5 +1,8 @@
 use Rattle.cb_interp.proofs.needed_turns.outside_turn.Given as goal
 
+abbrev pub ghost-read_turn : goal.ghost-read_turn
+ghost-read_turn g a = g.outside
+
 abbrev pub ghost-gc_turn : goal.ghost-gc_turn
 ghost-gc_turn g a = g.outside
 

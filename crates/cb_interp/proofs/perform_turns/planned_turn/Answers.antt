@@ -26,19 +26,19 @@ use Rattle.cb_interp.proofs.perform_turns.planned_turn.Goals as goal
 
 pub unreachable-requires : goal.unreachable-requires
 unreachable-requires g c =
-    goes_on c.args.program.now (g.S.Store.storage c.args.store.now).index (g.S.Store.storage c.args.store.now).kept c.args.roots.now.limit c.args.roots.now.roots g.given.0 c.args.decoded.now c.args.method
-    c.requires.1.1.0 c.requires.1.1.1.0 c.args.native c.requires.1.1.1.1.0 c.requires.1.1.1.1.1.1.0
+    goes_on c.args.program.now (g.S.Store.storage c.args.store.now).index (g.S.Store.storage c.args.store.now).kept c.args.roots.now.limit c.args.roots.now.roots g.given.0 c.args.decoded.now c.requires.1.1.1.0.method
+    c.requires.1.1.0 c.requires.1.1.1.0.asked c.args.native c.requires.1.1.1.0.is c.requires.1.1.1.1.1.0
     (steps_on (machine_of c.args.program.now c.args.roots.now.limit) (state_of (view_in (g.S.Store.storage c.args.store.now) c.args.roots.now.roots) g.given.0) c.args.decoded.now c.requires.1.1.0 c.requires.1.0.linked c.requires.1.0.fits c.requires.1.0.typed)
     c.in_default.is
 
 pub room_for-requires : goal.room_for-requires
 room_for-requires g c κs within =
-    let own = c.requires.1.1.1.1.1.1.0 c.args.roots.now.limit [] [] in (
+    let own = c.requires.1.1.1.1.1.0 c.args.roots.now.limit [] [] in (
       search rules,
       (
         typed_states_are_closed c.args.program.now (state_of (view_in (g.S.Store.storage c.args.store.now) c.args.roots.now.roots) g.given.0) c.requires.1.0.typed,
         (
-          known_sites (g.S.Store.storage c.args.store.now).settings.knows (length (site_kinds c.args.program.now)) c.args.request.now c.requires.1.0.sites c.requires.1.1.1.1.1.1.1.1,
+          known_sites (g.S.Store.storage c.args.store.now).settings.knows (length (site_kinds c.args.program.now)) c.args.request.now c.requires.1.0.sites c.requires.1.1.1.1.1.1.1,
           (c.requires.1.0.few, subst (AllByRecursion (λ (want : Want). 3 ≤ want.words)) own.asks (asked_header own.own)),
         ),
       ),
@@ -52,9 +52,9 @@ returns-in_err-room_for g c = record {
       let after = view_in (g.S.Store.storage c.room_for.new.store) c.room_for.new.roots.roots in
       handed_on (λ (reason : NoRoom). TurnRefused g.S.Store.rules (machine_of c.args.program.now c.args.roots.now.limit) (moment_of before g.given.0 (g.S.Store.storage c.args.store.now).facts) reason
       (moment_of after g.given.0 (g.S.Store.storage c.room_for.new.store).facts)) c.from_residual.result c.in_err-room_for.field-0.0 c.from_residual.ensures
-      (refused_so c.args.program.now (g.S.Store.storage c.args.store.now).index (g.S.Store.storage c.args.store.now).kept c.args.roots.now.limit c.args.roots.now.roots g.given.0 c.args.decoded.now c.args.method
-      c.requires.1.1.0 c.requires.1.1.1.0 c.args.native c.requires.1.1.1.1.0 g.S.Store.rules (g.S.Store.storage c.args.store.now).facts (g.S.Store.storage c.room_for.new.store).facts after c.args.request.now c.in-Some.next c.in_err-room_for.field-0.0 c.in-Some.is
-      c.requires.1.1.1.1.1.1.0 c.in_err-room_for.ensures.refused);
+      (refused_so c.args.program.now (g.S.Store.storage c.args.store.now).index (g.S.Store.storage c.args.store.now).kept c.args.roots.now.limit c.args.roots.now.roots g.given.0 c.args.decoded.now c.requires.1.1.1.0.method
+      c.requires.1.1.0 c.requires.1.1.1.0.asked c.args.native c.requires.1.1.1.0.is g.S.Store.rules (g.S.Store.storage c.args.store.now).facts (g.S.Store.storage c.room_for.new.store).facts after c.args.request.now c.in-Some.next c.in_err-room_for.field-0.0 c.in-Some.is
+      c.requires.1.1.1.1.1.0 c.in_err-room_for.ensures.refused);
   counted = subst (λ (result : Result (Unit {0}) NoRoom). CountsFaults (g.S.Store.storage c.args.store.now).faults (g.S.Store.storage c.room_for.new.store).faults (IsFault result))
       (sym (handed_same c.from_residual.result c.in_err-room_for.field-0.0 c.from_residual.ensures)) c.in_err-room_for.ensures.counted;
   limit = search rules;
@@ -71,8 +71,8 @@ perform-requires g c κs within =
     let whole = c.linked_programs.ensures.whole program linked in
     let shapes = (g.S.Store.storage c.args.store.now).settings.shapes in
     let middle = view_in (g.S.Store.storage c.room_for.new.store) c.room_for.new.roots.roots in
-    let typed_middle = typed_still c.args.program.now (g.S.Store.storage c.args.store.now).index (g.S.Store.storage c.args.store.now).kept c.args.roots.now.limit c.args.roots.now.roots g.given.0 c.args.decoded.now c.args.method
-    c.requires.1.1.0 c.requires.1.1.1.0 c.args.native c.requires.1.1.1.1.0
+    let typed_middle = typed_still c.args.program.now (g.S.Store.storage c.args.store.now).index (g.S.Store.storage c.args.store.now).kept c.args.roots.now.limit c.args.roots.now.roots g.given.0 c.args.decoded.now c.requires.1.1.1.0.method
+    c.requires.1.1.0 c.requires.1.1.1.0.asked c.args.native c.requires.1.1.1.0.is
     (g.S.Store.storage c.room_for.new.store).index (g.S.Store.storage c.room_for.new.store).kept c.room_for.new.roots.roots c.in_ok-room_for.ensures.collected typed in (
       search rules,
       (
@@ -83,39 +83,39 @@ perform-requires g c κs within =
             subst (λ (decoded : Decoded). IsThere program decoded.named) (sym c.requires.1.1.0.is)
                 (c.linked_constants.ensures.there program linked c.requires.1.1.0.frame.method c.requires.1.1.0.frame.pc),
             (
-              few_there c.args.program.now (g.S.Store.storage c.args.store.now).index (g.S.Store.storage c.args.store.now).kept c.args.roots.now.limit c.args.roots.now.roots g.given.0 c.args.decoded.now c.args.method
-                  c.requires.1.1.0 c.requires.1.1.1.0 c.args.native c.requires.1.1.1.1.0 linked fits typed has,
+              few_there c.args.program.now (g.S.Store.storage c.args.store.now).index (g.S.Store.storage c.args.store.now).kept c.args.roots.now.limit c.args.roots.now.roots g.given.0 c.args.decoded.now c.requires.1.1.1.0.method
+                  c.requires.1.1.0 c.requires.1.1.1.0.asked c.args.native c.requires.1.1.1.0.is linked fits typed has,
               (
-                some_still c.args.program.now (g.S.Store.storage c.args.store.now).index (g.S.Store.storage c.args.store.now).kept c.args.roots.now.limit c.args.roots.now.roots g.given.0 c.args.decoded.now c.args.method
-                    c.requires.1.1.0 c.requires.1.1.1.0 c.args.native c.requires.1.1.1.1.0
-                    (g.S.Store.storage c.room_for.new.store).index (g.S.Store.storage c.room_for.new.store).kept c.room_for.new.roots.roots c.in_ok-room_for.ensures.collected linked fits typed has c.requires.1.1.1.1.1.0,
+                some_still c.args.program.now (g.S.Store.storage c.args.store.now).index (g.S.Store.storage c.args.store.now).kept c.args.roots.now.limit c.args.roots.now.roots g.given.0 c.args.decoded.now c.requires.1.1.1.0.method
+                    c.requires.1.1.0 c.requires.1.1.1.0.asked c.args.native c.requires.1.1.1.0.is
+                    (g.S.Store.storage c.room_for.new.store).index (g.S.Store.storage c.room_for.new.store).kept c.room_for.new.roots.roots c.in_ok-room_for.ensures.collected linked fits typed has c.requires.1.1.1.1.0,
                 (
-                  enough_still c.args.program.now (g.S.Store.storage c.args.store.now).index (g.S.Store.storage c.args.store.now).kept c.args.roots.now.limit c.args.roots.now.roots g.given.0 c.args.decoded.now c.args.method
-                      c.requires.1.1.0 c.requires.1.1.1.0 c.args.native c.requires.1.1.1.1.0
+                  enough_still c.args.program.now (g.S.Store.storage c.args.store.now).index (g.S.Store.storage c.args.store.now).kept c.args.roots.now.limit c.args.roots.now.roots g.given.0 c.args.decoded.now c.requires.1.1.1.0.method
+                      c.requires.1.1.0 c.requires.1.1.1.0.asked c.args.native c.requires.1.1.1.0.is
                       (g.S.Store.storage c.room_for.new.store).index (g.S.Store.storage c.room_for.new.store).kept c.room_for.new.roots.roots c.in_ok-room_for.ensures.collected,
                   (
-                    c.requires.1.1.1.1.1.0,
+                    c.requires.1.1.1.1.0,
                     (
-                      sorts_still c.args.program.now (g.S.Store.storage c.args.store.now).index (g.S.Store.storage c.args.store.now).kept c.args.roots.now.limit c.args.roots.now.roots g.given.0 c.args.decoded.now c.args.method
-                          c.requires.1.1.0 c.requires.1.1.1.0 c.args.native c.requires.1.1.1.1.0
+                      sorts_still c.args.program.now (g.S.Store.storage c.args.store.now).index (g.S.Store.storage c.args.store.now).kept c.args.roots.now.limit c.args.roots.now.roots g.given.0 c.args.decoded.now c.requires.1.1.1.0.method
+                          c.requires.1.1.0 c.requires.1.1.1.0.asked c.args.native c.requires.1.1.1.0.is
                           (g.S.Store.storage c.room_for.new.store).index (g.S.Store.storage c.room_for.new.store).kept c.room_for.new.roots.roots c.in_ok-room_for.ensures.collected linked fits typed has,
                       (
-                        given_still c.args.program.now (g.S.Store.storage c.args.store.now).index (g.S.Store.storage c.args.store.now).kept c.args.roots.now.limit c.args.roots.now.roots g.given.0 c.args.decoded.now c.args.method
-                            c.requires.1.1.0 c.requires.1.1.1.0 c.args.native c.requires.1.1.1.1.0
+                        given_still c.args.program.now (g.S.Store.storage c.args.store.now).index (g.S.Store.storage c.args.store.now).kept c.args.roots.now.limit c.args.roots.now.roots g.given.0 c.args.decoded.now c.requires.1.1.1.0.method
+                            c.requires.1.1.0 c.requires.1.1.1.0.asked c.args.native c.requires.1.1.1.0.is
                             (g.S.Store.storage c.room_for.new.store).index (g.S.Store.storage c.room_for.new.store).kept c.room_for.new.roots.roots c.in_ok-room_for.ensures.collected linked fits typed has,
                         (
-                          laid_still c.args.program.now (g.S.Store.storage c.args.store.now).index (g.S.Store.storage c.args.store.now).kept c.args.roots.now.limit c.args.roots.now.roots g.given.0 c.args.decoded.now c.args.method
-                              c.requires.1.1.0 c.requires.1.1.1.0 c.args.native c.requires.1.1.1.1.0
+                          laid_still c.args.program.now (g.S.Store.storage c.args.store.now).index (g.S.Store.storage c.args.store.now).kept c.args.roots.now.limit c.args.roots.now.roots g.given.0 c.args.decoded.now c.requires.1.1.1.0.method
+                              c.requires.1.1.0 c.requires.1.1.1.0.asked c.args.native c.requires.1.1.1.0.is
                               (g.S.Store.storage c.room_for.new.store).index (g.S.Store.storage c.room_for.new.store).kept c.room_for.new.roots.roots c.in_ok-room_for.ensures.collected linked fits typed has
                               whole shapes c.requires.1.0.shaped,
                           (
                             subst (Asks program middle c.args.native (map (read_value (g.S.Store.storage c.room_for.new.store).index) (arguments_at program c.args.decoded.now c.room_for.new.roots.roots)))
-                                c.requires.1.1.1.1.1.1.1.0
-                                (asks_again c.args.program.now (g.S.Store.storage c.args.store.now).index (g.S.Store.storage c.args.store.now).kept c.args.roots.now.limit c.args.roots.now.roots g.given.0 c.args.decoded.now c.args.method
-                                c.requires.1.1.0 c.requires.1.1.1.0 c.args.native c.requires.1.1.1.1.0
-                                (g.S.Store.storage c.room_for.new.store).index (g.S.Store.storage c.room_for.new.store).kept c.room_for.new.roots.roots c.in_ok-room_for.ensures.collected c.requires.1.1.1.1.1.1.0),
+                                c.requires.1.1.1.1.1.1.0
+                                (asks_again c.args.program.now (g.S.Store.storage c.args.store.now).index (g.S.Store.storage c.args.store.now).kept c.args.roots.now.limit c.args.roots.now.roots g.given.0 c.args.decoded.now c.requires.1.1.1.0.method
+                                c.requires.1.1.0 c.requires.1.1.1.0.asked c.args.native c.requires.1.1.1.0.is
+                                (g.S.Store.storage c.room_for.new.store).index (g.S.Store.storage c.room_for.new.store).kept c.room_for.new.roots.roots c.in_ok-room_for.ensures.collected c.requires.1.1.1.1.1.0),
                             (
-                              subst (λ (wants : List Want). (wants ≡ [] → ⊥) → HasRoom (g.S.Store.storage c.room_for.new.store).kept wants (g.S.Store.storage c.room_for.new.store).granted) c.requires.1.1.1.1.1.1.1.0
+                              subst (λ (wants : List Want). (wants ≡ [] → ⊥) → HasRoom (g.S.Store.storage c.room_for.new.store).kept wants (g.S.Store.storage c.room_for.new.store).granted) c.requires.1.1.1.1.1.1.0
                                   c.in_ok-room_for.ensures.room,
                               (
                                 subst (MayMake program) (sym (same_shapes c.room_for.ensures.settings)) (c.linked_makes.ensures.makes program shapes linked fits c.requires.1.0.shaped),
@@ -124,10 +124,10 @@ perform-requires g c κs within =
                                   (
                                     subst (λ allows. MayLeave program allows middle c.args.native (map (read_value (g.S.Store.storage c.room_for.new.store).index) (arguments_at program c.args.decoded.now c.room_for.new.roots.roots)))
                                         (sym (same_allows c.room_for.ensures.settings))
-                                        (may_leave_still c.args.program.now (g.S.Store.storage c.args.store.now).index (g.S.Store.storage c.args.store.now).kept c.args.roots.now.limit c.args.roots.now.roots g.given.0 c.args.decoded.now c.args.method
-                                        c.requires.1.1.0 c.requires.1.1.1.0 c.args.native c.requires.1.1.1.1.0
+                                        (may_leave_still c.args.program.now (g.S.Store.storage c.args.store.now).index (g.S.Store.storage c.args.store.now).kept c.args.roots.now.limit c.args.roots.now.roots g.given.0 c.args.decoded.now c.requires.1.1.1.0.method
+                                        c.requires.1.1.0 c.requires.1.1.1.0.asked c.args.native c.requires.1.1.1.0.is
                                         (g.S.Store.storage c.room_for.new.store).index (g.S.Store.storage c.room_for.new.store).kept c.room_for.new.roots.roots c.in_ok-room_for.ensures.collected
-                                        (g.S.Store.storage c.args.store.now).settings.allows c.in-Some.next c.in-Some.is c.requires.1.1.1.1.1.1.0 c.requires.1.0.follows),
+                                        (g.S.Store.storage c.args.store.now).settings.allows c.in-Some.next c.in-Some.is c.requires.1.1.1.1.1.0 c.requires.1.0.follows),
                                     (
                                       c.in_ok-room_for.ensures.collected.closed,
                                       (
@@ -154,11 +154,11 @@ perform-requires g c κs within =
 
 pub returns : goal.returns
 returns g c = record {
-  made = turn_so c.args.program.now (g.S.Store.storage c.args.store.now).index (g.S.Store.storage c.args.store.now).kept c.args.roots.now.limit c.args.roots.now.roots g.given.0 c.args.decoded.now c.args.method
-      c.requires.1.1.0 c.requires.1.1.1.0 c.args.native c.requires.1.1.1.1.0
+  made = turn_so c.args.program.now (g.S.Store.storage c.args.store.now).index (g.S.Store.storage c.args.store.now).kept c.args.roots.now.limit c.args.roots.now.roots g.given.0 c.args.decoded.now c.requires.1.1.1.0.method
+      c.requires.1.1.0 c.requires.1.1.1.0.asked c.args.native c.requires.1.1.1.0.is
       (g.S.Store.storage c.room_for.new.store).index (g.S.Store.storage c.room_for.new.store).kept c.room_for.new.roots.roots c.in_ok-room_for.ensures.collected g.S.Store.rules (g.S.Store.storage c.args.store.now).facts (g.S.Store.storage c.room_for.new.store).facts (g.S.Store.storage c.perform.new.store).facts
       (view_in (g.S.Store.storage c.perform.new.store) c.perform.new.roots.roots) c.args.request.now c.in-Some.next c.in-Some.is
-      c.requires.1.1.1.1.1.1.0 c.in_ok-room_for.ensures.made c.perform.ensures.left;
+      c.requires.1.1.1.1.1.0 c.in_ok-room_for.ensures.made c.perform.ensures.left;
   refused = search rules;
   counted = subst (λ (count : ℕ). CountsFaults (g.S.Store.storage c.args.store.now).faults count (IsFault (Ok tt))) (sym c.perform.ensures.faults) c.in_ok-room_for.ensures.counted;
   limit = search rules;

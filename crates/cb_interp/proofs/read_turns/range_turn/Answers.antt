@@ -25,42 +25,42 @@ use Rattle.cb_interp.proofs.read_turns.range_turn.Goals as goal
 pub arguments_on-arguments-requires-clause-few : goal.arguments_on-arguments-requires-clause-few
 arguments_on-arguments-requires-clause-few g c =
     subst (λ (count : ℕ). count ≤ 5) (sym c.argument_count-count.ensures)
-    (few_there c.args.program.now (g.S.Store.storage c.args.store.now).index (g.S.Store.storage c.args.store.now).kept c.args.roots.now.limit c.args.roots.now.roots g.outside c.args.decoded.now c.args.method
-    c.requires.1.1.1.0 c.requires.1.1.1.1.0 natives.ReadRange c.requires.1.1.1.1.1 c.requires.1.1.0.linked c.requires.1.1.0.fits c.requires.1.1.0.typed
+    (few_there c.args.program.now (g.S.Store.storage c.args.store.now).index (g.S.Store.storage c.args.store.now).kept c.args.roots.now.limit c.args.roots.now.roots g.outside c.args.decoded.now c.requires.1.1.1.1.method
+    c.requires.1.1.1.0 c.requires.1.1.1.1.asked natives.ReadRange c.requires.1.1.1.1.is c.requires.1.1.0.linked c.requires.1.1.0.fits c.requires.1.1.0.typed
     (c.linked_has_natives.ensures c.args.program.now c.requires.1.1.0.linked c.requires.1.1.0.fits))
 
 pub arguments_on-arguments-requires-clause-there : goal.arguments_on-arguments-requires-clause-there
 arguments_on-arguments-requires-clause-there g c =
     subst (λ (count : ℕ). count ≤ length (top_stack c.args.roots.now.roots)) (sym c.argument_count-count.ensures)
-    (enough c.args.program.now (g.S.Store.storage c.args.store.now).index (g.S.Store.storage c.args.store.now).kept c.args.roots.now.limit c.args.roots.now.roots g.outside c.args.decoded.now c.args.method
-    c.requires.1.1.1.0 c.requires.1.1.1.1.0)
+    (enough c.args.program.now (g.S.Store.storage c.args.store.now).index (g.S.Store.storage c.args.store.now).kept c.args.roots.now.limit c.args.roots.now.roots g.outside c.args.decoded.now c.requires.1.1.1.1.method
+    c.requires.1.1.1.0 c.requires.1.1.1.1.asked)
 
 pub slice_bounds-arguments-end : goal.slice_bounds-arguments-end
 slice_bounds-arguments-end g c =
     taken_there c.argument_count-count.result c.arguments_on-arguments.result
     (ap (λ (held : List Value). length held) (c.arguments_on-arguments.ensures ∙ ap (λ (count : ℕ). reverse (take count (top_stack c.args.roots.now.roots))) c.argument_count-count.ensures)
-    ∙ standing_size c.args.program.now (g.S.Store.storage c.args.store.now).index (g.S.Store.storage c.args.store.now).kept c.args.roots.now.limit c.args.roots.now.roots g.outside c.args.decoded.now c.args.method
-    c.requires.1.1.1.0 c.requires.1.1.1.1.0 ∙ sym c.argument_count-count.ensures)
+    ∙ standing_size c.args.program.now (g.S.Store.storage c.args.store.now).index (g.S.Store.storage c.args.store.now).kept c.args.roots.now.limit c.args.roots.now.roots g.outside c.args.decoded.now c.requires.1.1.1.1.method
+    c.requires.1.1.1.0 c.requires.1.1.1.1.asked ∙ sym c.argument_count-count.ensures)
 
 pub slice_bounds-range_to_read-end : goal.slice_bounds-range_to_read-end
 slice_bounds-range_to_read-end g c =
     sym
     (ap (λ (held : List Value). length held) (c.arguments_on-arguments.ensures ∙ ap (λ (count : ℕ). reverse (take count (top_stack c.args.roots.now.roots))) c.argument_count-count.ensures)
-    ∙ standing_size c.args.program.now (g.S.Store.storage c.args.store.now).index (g.S.Store.storage c.args.store.now).kept c.args.roots.now.limit c.args.roots.now.roots g.outside c.args.decoded.now c.args.method
-    c.requires.1.1.1.0 c.requires.1.1.1.1.0 ∙ sym c.argument_count-count.ensures)
+    ∙ standing_size c.args.program.now (g.S.Store.storage c.args.store.now).index (g.S.Store.storage c.args.store.now).kept c.args.roots.now.limit c.args.roots.now.roots g.outside c.args.decoded.now c.requires.1.1.1.1.method
+    c.requires.1.1.1.0 c.requires.1.1.1.1.asked ∙ sym c.argument_count-count.ensures)
 
 pub range_to_read-requires-clause-sorts : goal.range_to_read-requires-clause-sorts
 range_to_read-requires-clause-sorts g c =
     subst (λ (held : List Value). have_sorts (sorts_of natives.ReadRange) held ≡ true) (sym (c.arguments_on-arguments.ensures ∙ ap (λ (count : ℕ). reverse (take count (top_stack c.args.roots.now.roots))) c.argument_count-count.ensures))
-    (sorts_there c.args.program.now (g.S.Store.storage c.args.store.now).index (g.S.Store.storage c.args.store.now).kept c.args.roots.now.limit c.args.roots.now.roots g.outside c.args.decoded.now c.args.method
-    c.requires.1.1.1.0 c.requires.1.1.1.1.0 natives.ReadRange c.requires.1.1.1.1.1 c.requires.1.1.0.linked c.requires.1.1.0.fits c.requires.1.1.0.typed
+    (sorts_there c.args.program.now (g.S.Store.storage c.args.store.now).index (g.S.Store.storage c.args.store.now).kept c.args.roots.now.limit c.args.roots.now.roots g.outside c.args.decoded.now c.requires.1.1.1.1.method
+    c.requires.1.1.1.0 c.requires.1.1.1.1.asked natives.ReadRange c.requires.1.1.1.1.is c.requires.1.1.0.linked c.requires.1.1.0.fits c.requires.1.1.0.typed
     (c.linked_has_natives.ensures c.args.program.now c.requires.1.1.0.linked c.requires.1.1.0.fits))
 
 pub range_to_read-requires-clause-given : goal.range_to_read-requires-clause-given
 range_to_read-requires-clause-given g c =
     subst (λ (held : List Value). AreGiven (g.S.Store.storage c.args.store.now).kept (roles natives.ReadRange) (map (read_value (g.S.Store.storage c.args.store.now).index) held)) (sym (c.arguments_on-arguments.ensures ∙ ap (λ (count : ℕ). reverse (take count (top_stack c.args.roots.now.roots))) c.argument_count-count.ensures))
-    (given_there c.args.program.now (g.S.Store.storage c.args.store.now).index (g.S.Store.storage c.args.store.now).kept c.args.roots.now.limit c.args.roots.now.roots g.outside c.args.decoded.now c.args.method
-    c.requires.1.1.1.0 c.requires.1.1.1.1.0 natives.ReadRange c.requires.1.1.1.1.1 c.requires.1.1.0.linked c.requires.1.1.0.fits c.requires.1.1.0.typed
+    (given_there c.args.program.now (g.S.Store.storage c.args.store.now).index (g.S.Store.storage c.args.store.now).kept c.args.roots.now.limit c.args.roots.now.roots g.outside c.args.decoded.now c.requires.1.1.1.1.method
+    c.requires.1.1.1.0 c.requires.1.1.1.1.asked natives.ReadRange c.requires.1.1.1.1.is c.requires.1.1.0.linked c.requires.1.1.0.fits c.requires.1.1.0.typed
     (c.linked_has_natives.ensures c.args.program.now c.requires.1.1.0.linked c.requires.1.1.0.fits))
 
 pub in_range_turn-requires : goal.in_range_turn-requires
@@ -73,11 +73,8 @@ in_range_turn-requires g c κs within = (
       (
         c.requires.1.1.1.0,
         (
-          c.requires.1.1.1.1.0,
-          (
-            c.requires.1.1.1.1.1,
-            subst (λ (held : List Value). PlansRange (g.S.Store.storage c.args.store.now).kept (g.S.Store.storage c.args.store.now).index (map (read_value (g.S.Store.storage c.args.store.now).index) held) (Ok c.in-Ok.range)) (c.arguments_on-arguments.ensures ∙ ap (λ (count : ℕ). reverse (take count (top_stack c.args.roots.now.roots))) c.argument_count-count.ensures) c.in-Ok.ensures,
-          ),
+          c.requires.1.1.1.1,
+          subst (λ (held : List Value). PlansRange (g.S.Store.storage c.args.store.now).kept (g.S.Store.storage c.args.store.now).index (map (read_value (g.S.Store.storage c.args.store.now).index) held) (Ok c.in-Ok.range)) (c.arguments_on-arguments.ensures ∙ ap (λ (count : ℕ). reverse (take count (top_stack c.args.roots.now.roots))) c.argument_count-count.ensures) c.in-Ok.ensures,
         ),
       ),
     ),
@@ -94,8 +91,8 @@ throw_of-requires g c = λ κs lives. (
       (
         subst (λ (site : ℕ). IsThrown c.args.program.now (kind_of_site c.args.program.now site)) (sym c.site.ensures)
             (thrown_site c.args.program.now (c.linked_has_natives.ensures c.args.program.now c.requires.1.1.0.linked c.requires.1.1.0.fits) c.in-Err.exception),
-        range_throws c.args.program.now (g.S.Store.storage c.args.store.now).index (g.S.Store.storage c.args.store.now).kept c.args.roots.now.limit c.args.roots.now.roots g.outside c.args.decoded.now c.args.method
-            c.requires.1.1.1.0 c.requires.1.1.1.1.0 c.requires.1.1.1.1.1 c.in-Err.exception
+        range_throws c.args.program.now (g.S.Store.storage c.args.store.now).index (g.S.Store.storage c.args.store.now).kept c.args.roots.now.limit c.args.roots.now.roots g.outside c.args.decoded.now c.requires.1.1.1.1.method
+            c.requires.1.1.1.0 c.requires.1.1.1.1.asked c.requires.1.1.1.1.is c.in-Err.exception
             (subst (λ (held : List Value). PlansRange (g.S.Store.storage c.args.store.now).kept (g.S.Store.storage c.args.store.now).index (map (read_value (g.S.Store.storage c.args.store.now).index) held) (Err c.in-Err.exception)) (c.arguments_on-arguments.ensures ∙ ap (λ (count : ℕ). reverse (take count (top_stack c.args.roots.now.roots))) c.argument_count-count.ensures) c.in-Err.ensures)
             ∙ ap (λ (site : ℕ). Some (throws (machine_of c.args.program.now c.args.roots.now.limit) (state_of (view_in (g.S.Store.storage c.args.store.now) c.args.roots.now.roots) g.outside) site)) (sym c.site.ensures),
       ),

@@ -1,14 +1,15 @@
 use Rattle.cb_heap.specs.Storage.{view_in}
-use Rattle.std.proofs.Common.{◌∙◌, ap, rules, Some}
-use Rattle.cb_library.specs.declared.native.Native.{Native}
+use Rattle.std.proofs.Common.{rules}
 use Rattle.cb_act.specs.Turning.{machine_of, moment_of, state_of}
+use Rattle.cb_interp.proofs.NativeTurns.{asks_same}
 use Rattle.cb_interp.proofs.RunCounts.{counts_as, counts_none}
 use Rattle.cb_interp.proofs.RunReads.{fails_read, never_room}
 use Rattle.cb_interp.proofs.TurnsNativeRead.{reads_other}
 use Rattle.cb_interp.proofs.read_turns.read_turn.Goals as goal
 
 pub range_turn-requires : goal.range_turn-requires
-range_turn-requires g c κs within = (search rules, (search rules, (c.requires.1.1.0, (c.requires.1.1.1.0, (c.requires.1.1.1.1.0, c.requires.1.1.1.1.1.0 ∙ ap (λ (native : Native). Some native) (reads_other c.args.native c.requires.1.1.1.1.1.1 c.in_default.not-ReadByte))))))
+range_turn-requires g c κs within =
+    (search rules, (search rules, (c.requires.1.1.0, (c.requires.1.1.1.0, asks_same (reads_other c.args.native c.requires.1.1.1.1.1 c.in_default.not-ReadByte) c.requires.1.1.1.1.0))))
 
 pub returns-in-ReadByte-clause-stopped : goal.returns-in-ReadByte-clause-stopped
 returns-in-ReadByte-clause-stopped g c =

@@ -93,12 +93,21 @@ needed_turn-requires g c κs within =
       ),
     )
 
-pub returns-in-Ok-clause-made : goal.returns-in-Ok-clause-made
-returns-in-Ok-clause-made g c =
-    whole_advance g.S.Store.rules (machine_of c.args.program.now c.args.roots.now.limit) g.outside
-    (view_in (g.S.Store.storage c.args.store.now) c.args.roots.now.roots)
-    (view_in (g.S.Store.storage c.act_turn.new.store) c.act_turn.new.roots.roots)
-    (g.S.Store.storage c.args.store.now).facts (g.S.Store.storage c.act_turn.new.store).facts (g.O.Sink.taken c.args.out.now) g.I.Source.left g.I.Source.gave c.args.input.now c.in-Ok.ensures.made
+pub returns-in-Ok : goal.returns-in-Ok
+returns-in-Ok g c = record {
+  made = whole_advance g.S.Store.rules (machine_of c.args.program.now c.args.roots.now.limit) g.outside
+      (view_in (g.S.Store.storage c.args.store.now) c.args.roots.now.roots) (view_in (g.S.Store.storage c.act_turn.new.store) c.act_turn.new.roots.roots)
+      (g.S.Store.storage c.args.store.now).facts (g.S.Store.storage c.act_turn.new.store).facts (g.O.Sink.taken c.args.out.now) g.I.Source.left g.I.Source.gave c.args.input.now
+      c.in-Ok.ensures.made;
+  stopped = tt;
+  left = tt;
+  lost = tt;
+  counted = search rules;
+  output = search rules;
+  read = search rules;
+  limit = c.act_turn.ensures.limit;
+  settings = c.act_turn.ensures.settings;
+}
 
 pub returns-in-Err : goal.returns-in-Err
 returns-in-Err g c =

@@ -1,0 +1,2 @@
+use Rattle.std.proofs.Common.{◌∙◌, ap, refl, sym, rules}
+use Rattle.cb_interp.proofs.needed_turns.array_turn.Goals as goal

@@ -1,6 +1,0 @@
-use Rattle.cb_interp.proofs.NativesPrinting.{no_text_elsewhere}
-use Rattle.cb_interp.proofs.string_text.line_of.Goals as goal
-
-pub returns-then-class_of-ne-PRINT_STREAM-clause-other : goal.returns-then-class_of-ne-PRINT_STREAM-clause-other
-returns-then-class_of-ne-PRINT_STREAM-clause-other c =
-    no_text_elsewhere c.args.program.now c.args.method c.class_of.result c.class_of.ensures.declares c.if-class_of-ne-PRINT_STREAM.true
