@@ -17,8 +17,6 @@ mod LinkedFew
 mod LinkedFit
 mod LinkedMaking
 mod LinkedMarks
-mod MadeActions
-mod MadeNames
 mod MakingSteps
 mod NativeTurns
 mod NativesAnswered

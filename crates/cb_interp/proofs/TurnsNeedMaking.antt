@@ -50,7 +50,7 @@ use Rattle.cb_interp.specs.declared.need_sites.Making.{Making}
 use Rattle.cb_act.proofs.Laws.{now, sizes_count, sizes_so}
 use Rattle.cb_interp.proofs.MakingSteps.{array_is, makes_is}
 use Rattle.cb_interp.proofs.TurnsMaking.{room_read}
-use Rattle.cb_interp.proofs.MadeNames.{count_of}
+use Rattle.cb_safety.proofs.Laws.{count_of}
 use Rattle.cb_interp.proofs.TurnsNeedThere.{array_kinds, elements_there, method_in, next_there, object_kinds, pc_in}
 use Rattle.cb_interp.proofs.TurnsSwitched.{top_again}
 use Rattle.cb_interp.proofs.FollowHere.{room_here}

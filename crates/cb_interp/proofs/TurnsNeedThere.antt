@@ -18,7 +18,7 @@ use Rattle.cb_machine.specs.Creating.{blank_element}
 use Rattle.cb_machine.specs.Machine.{Machine, kind_of_site}
 use Rattle.cb_names.specs.Signs.{bracket}
 use Rattle.cb_plain.specs.State.{Object, Reference, Roots, State}
-use Rattle.cb_safety.proofs.Laws.{Stage, linked_sound, stage_of}
+use Rattle.cb_safety.proofs.Laws.{AreNamed, Stage, arrays_are_named, count_of, linked_sound, object_is_named, stage_of}
 use Rattle.cb_safety.specs.Linked.{IsLinked}
 use Rattle.cb_safety.specs.Making.{HasSite, is_of_arrays}
 use Rattle.cb_safety.specs.Sound.{IsSound}
@@ -31,7 +31,6 @@ use Rattle.cb_verify.specs.Typed.{IsTyped}
 use Rattle.cb_act.specs.Here.{Here}
 use Rattle.cb_interp.specs.Needing.{IsSiteOf, MakesKinds, TellsDimensions}
 use Rattle.cb_act.specs.Turning.{Outside, machine_of, state_of}
-use Rattle.cb_interp.proofs.MadeNames.{AreNamed, arrays_are_named, count_of, object_is_named}
 use Rattle.cb_interp.proofs.SuitedCalls.{goes_on_so}
 use Rattle.cb_interp.proofs.TurnsSwitched.{top_again}
 
@@ -92,13 +91,13 @@ module _ (program : Linked) (limit : ℕ) (index : ℕ → ℕ) (objects : List 
     module _ (whole : IsWhole program) where
       pub object_kinds : (number : ℕ) → decoded.action ≡ Some (actions.New number) → MakesKinds program held 1
       object_kinds number is =
-          let (name, made) = object_is_named machine state at.frame at.below at.insn sound.spelled whole at.there number (does (actions.New number) is) (stage (actions.New number) is) in
-          let low = slice_get_within (made_at program at.frame.method at.frame.pc) 0 name made in
+          let object = object_is_named machine state at.frame at.below at.insn whole at.there number (does (actions.New number) is) (stage (actions.New number) is) in
+          let low = slice_get_within (made_at program at.frame.method at.frame.pc) 0 object.named.name object.made in
           record { method = at.frame.method; pc = at.frame.pc; top = top; all = omega (arith, low) }
 
       module _ (action : Action) (is : decoded.action ≡ Some action) (arrays : is_of_arrays action ≡ true) where
         pub named : AreNamed program at.frame.method at.frame.pc (count_of action)
-        named = arrays_are_named machine state at.frame at.below at.insn sound.spelled whole at.there action (does action is) arrays (stage action is)
+        named = (arrays_are_named machine state at.frame at.below at.insn whole at.there sound.spelled action (does action is) arrays (stage action is)).named
 
         pub some_arrays : 0 < count_of action
         some_arrays = named.some

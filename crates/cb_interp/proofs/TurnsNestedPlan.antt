@@ -28,7 +28,7 @@ use Rattle.cb_plain.specs.Updates.{with_frames}
 use Rattle.cb_plain.specs.declared.shape.Shape.{Shape}
 use Rattle.cb_plain.specs.declared.value.Value.{Value}
 use Rattle.cb_plain.specs.declared.value.Value.TheVariants.{Int, Ref}
-use Rattle.cb_safety.proofs.Laws.{linked_sound}
+use Rattle.cb_safety.proofs.Laws.{AreNamed, linked_sound}
 use Rattle.cb_safety.specs.Linked.{IsLinked}
 use Rattle.cb_safety.specs.Making.{HasSite}
 use Rattle.cb_safety.specs.States.{IsTypedState}
@@ -46,7 +46,6 @@ use Rattle.cb_act.specs.Steps.{StandsBefore}
 use Rattle.cb_act.specs.Turning.{Outside, machine_of, state_of}
 use Rattle.cb_act.specs.declared.need.Need.TheVariants as needs
 use Rattle.cb_act.proofs.Laws.{now, taken_is}
-use Rattle.cb_interp.proofs.MadeNames.{AreNamed}
 use Rattle.cb_interp.proofs.TurnsNeedMaking.{array_placed, sizes_there}
 use Rattle.cb_interp.proofs.TurnsNeedThere.{array_kinds, named, next_there, some_arrays, top}
 use Rattle.cb_interp.proofs.TurnsNestedTurn.{sizes_alike}

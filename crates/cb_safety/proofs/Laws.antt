@@ -18,3 +18,4 @@ pub use Rattle.cb_safety.proofs.Given.{strings_are_given}
 pub use Rattle.cb_safety.proofs.NativeArguments.{arguments_are_given}
 pub use Rattle.cb_safety.proofs.Natively.{HasArray, HasWords, IsNumber, array_elements, builder_array, field_there, is_its_reference, is_number as is_number_of, string_array, words_there}
 pub use Rattle.cb_safety.proofs.Entering.{map_reverse}
+pub use Rattle.cb_safety.proofs.MadeNames.{AreNamed, MakesArrays, MakesObject, arrays_are_named, count_of, object_is_named}

@@ -83,6 +83,7 @@ mod Constants
 mod OwnFields
 mod Causes
 mod Unwound
+mod MadeNames
 mod Main
 mod Throws
 mod AtFirst

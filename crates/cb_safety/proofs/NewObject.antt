@@ -60,7 +60,8 @@ use Rattle.cb_safety.proofs.Enlarged.{goes_more}
 use Rattle.cb_safety.proofs.Extended.{have_types_more, is_stack_more}
 use Rattle.cb_safety.proofs.Going.{Planned, Stage, advances_by, now_at, planned_by, running, stage_of, with_stack_is}
 use Rattle.cb_safety.proofs.Growing.{kind_behind, kinds_placed}
-use Rattle.cb_safety.proofs.Makings.{IsMade, Makes, made_is, makes_of}
+use Rattle.cb_safety.proofs.MadeNames.{IsClassKind, IsNumbered, MakesObject, object_is_named}
+use Rattle.cb_safety.proofs.Makings.{IsMade, made_is}
 use Rattle.cb_safety.proofs.NewArrays.{blank_fits}
 use Rattle.cb_safety.proofs.Readied.{ready_planned}
 use Rattle.cb_safety.proofs.Sited.{has_sites}
@@ -77,7 +78,7 @@ no_component kinds [] is = refl
 no_component kinds (unit ∷ rest) is = rw is refl
 
 -- what an option that is there was made of
-pub record Came {Item : Type 0} (found : Option ℕ) (f : ℕ → Option Item) (result : Item) : Type 0 where
+record Came {Item : Type 0} (found : Option ℕ) (f : ℕ → Option Item) (result : Item) : Type 0 where
   pub number : ℕ
   pub there : found ≡ Some number
   pub is : f number ≡ Some result
@@ -110,7 +111,7 @@ module _ (program : Linked) (kind : ℕ) (name : List ℕ) (there : slice_get pr
   shape_known kinds (shapes.Fields marks) = all_mapped (IsKnownWord kinds) blank marks (blank_known kinds)
   shape_known kinds (shapes.Elements mark) = tt
 
-  pub blank_object : (kinds : Kinds) (site : ℕ) → site < length (site_kinds program) → IsObject program kinds (object_of site kind (blank_fields program kind))
+  blank_object : (kinds : Kinds) (site : ℕ) → site < length (site_kinds program) → IsObject program kinds (object_of site kind (blank_fields program kind))
   blank_object kinds site low = record {
     kind = slice_get_within program.kinds kind name there;
     site = low;
@@ -122,44 +123,6 @@ module _ (program : Linked) (kind : ℕ) (name : List ℕ) (there : slice_get pr
     words = shape_known kinds (shape program kind);
   }
 
--- ---- the kind that the instruction names
-
--- a name that is there, with its number
-pub record IsNumbered (kinds : List (List ℕ)) (found : Option (List ℕ)) (kind : ℕ) : Type 0 where
-  pub name : List ℕ
-  pub there : found ≡ Some name
-  pub is : number_of kinds name ≡ Some kind
-
-numbered_by : (kinds : List (List ℕ)) (found : Option (List ℕ)) (kind : ℕ) → option_and_then (number_of kinds) found ≡ Some kind → IsNumbered kinds found kind
-numbered_by kinds None kind is = never is
-numbered_by kinds (Some name) kind is = record { name = name; there = refl; is = is }
-
--- what may be made is of a kind that is no array's
-pub record IsClassKind (kinds : List (List ℕ)) (found : Option ℕ) : Type 0 where
-  pub kind : ℕ
-  pub there : found ≡ Some kind
-  pub no_array : is_array (or_none (slice_get kinds kind)) ≡ false
-
-abbrev is_class : List (List ℕ) → Option ℕ → Bool
-is_class kinds None = false
-is_class kinds (Some kind) = not (is_array (or_none (slice_get kinds kind)))
-
-class_kind : (kinds : List (List ℕ)) (found : Option ℕ) → is_class kinds found ≡ true → IsClassKind kinds found
-class_kind kinds None is = absurd (false≢true is)
-class_kind kinds (Some kind) is = record { kind = kind; there = refl; no_array = by (is_array (or_none (slice_get kinds kind))) is }
-  where
-    by : (test : Bool) → not test ≡ true → test ≡ false
-    by true so = absurd (false≢true so)
-    by false so = refl
-
-abbrev insn_of : ℕ → Bool → Operand → Insn
-insn_of opcode wide operand = record { opcode = opcode; wide = wide; operand = operand }
-
-object_made : (pool : List Constant) (opcode : ℕ) (wide : Bool) (operand : Operand) (index : ℕ) → Makes opcode operand (actions.New index)
-    → made_by pool (insn_of opcode wide operand) ≡ listed (class_at pool index)
-object_made pool opcode wide operand index (Makes.AnObject own is) =
-    ap (λ (opcode : ℕ). made_by pool (insn_of opcode wide (operands.Pool own))) (eqb-true opcode opcodes.NEW is)
-
 -- ---- the instruction
 
 module _ (machine : Machine) (state : State) (frame : MethodFrame) (below : List Frame) (insn : Insn) (index : ℕ) (whole : IsWhole machine.program) (sites : HasSites machine.program)
@@ -168,35 +131,23 @@ module _ (machine : Machine) (state : State) (frame : MethodFrame) (below : List
   abbrev here : Now
   here = now_at machine state frame below
 
-  own : IsMade machine.program frame.method frame.pc insn
+  abbrev own : IsMade machine.program frame.method frame.pc insn
   own = made_is machine.program frame.method frame.pc insn is_there
 
   is_method : IsOwn machine.program frame.method stage.method own.own
   is_method = is_own machine.program frame.method stage.method own.own whole stage.within own.there
 
-  -- what the rule says
-  rule : ((may_make stage.method index && not (list_any (verified.is_same (New frame.pc)) stage.types.stack)) ≡ true)
-      × (verified.with_stack stage.method.body.max_stack (verified.with_locals stage.types (verified.replaced (New frame.pc) Top stage.types.locals)) (New frame.pc ∷ stage.types.stack) ≡ Some stage.after)
-  rule = when (may_make stage.method index && not (list_any (verified.is_same (New frame.pc)) stage.types.stack))
-      (verified.with_stack stage.method.body.max_stack (verified.with_locals stage.types (verified.replaced (New frame.pc) Top stage.types.locals)) (New frame.pc ∷ stage.types.stack))
-      stage.after stage.leaves
+  object : MakesObject machine state frame below insn whole is_there index stage
+  object = object_is_named machine state frame below insn whole is_there index so stage
 
-  class : IsClassKind stage.method.program.kinds (kind_named stage.method index)
-  class = class_kind stage.method.program.kinds (kind_named stage.method index)
-      (and_parts (may_make stage.method index) (not (list_any (verified.is_same (New frame.pc)) stage.types.stack)) rule.0).0
+  abbrev class : IsClassKind stage.method.program.kinds (kind_named stage.method index)
+  class = object.class
 
-  named : IsNumbered machine.program.kinds (class_at own.own.pool index) class.kind
-  named = numbered_by machine.program.kinds (class_at own.own.pool index) class.kind
-      (sym (kind_named_is machine.program frame.method stage.method own.own index stage.own is_method) ∙ class.there)
-
-  made : slice_get (made_at machine.program frame.method frame.pc) 0 ≡ Some named.name
-  made =
-      ap (λ (names : List (List ℕ)). slice_get names 0)
-      (own.is ∙ object_made own.own.pool insn.opcode insn.wide insn.operand index (makes_of insn (actions.New index) refl so)
-      ∙ ap listed named.there)
+  abbrev named : IsNumbered machine.program.kinds (class_at own.own.pool index) class.kind
+  named = object.named
 
   site : HasSite machine.program frame.method frame.pc 0 named.name
-  site = sites frame.method frame.pc 0 named.name made
+  site = sites frame.method frame.pc 0 named.name object.made
 
   -- the site's kind is the one that the type of the new object tells
   kind_is : kind_of_site machine.program site.number ≡ class.kind
@@ -235,7 +186,7 @@ module _ (machine : Machine) (state : State) (frame : MethodFrame) (below : List
 
   made_planned : Planned machine.program (makes_at site.number)
   made_planned =
-      let same = with_stack_is stage.method.body.max_stack (verified.with_locals stage.types (verified.replaced (New frame.pc) Top stage.types.locals)) (New frame.pc ∷ stage.types.stack) stage.after rule.1 in
+      let same = with_stack_is stage.method.body.max_stack (verified.with_locals stage.types (verified.replaced (New frame.pc) Top stage.types.locals)) (New frame.pc ∷ stage.types.stack) stage.after object.fits in
       goes_more machine state frame below insn (actions.New index) stage state.roots stage.typed.roots stage.runs
       (One site.number own_kind (blank_fields machine.program own_kind) ∷ []) (length state.objects + 1 + 1) (new ∷ []) refl
       (blank_object machine.program own_kind named.name kind_there no_array grown site.number site.low, tt) refl frame.locals (values.Ref serial ∷ frame.stack)
