@@ -193,7 +193,7 @@ module _ (machine : Machine) (state : State) (frame : MethodFrame) (below : List
         (ap (λ (first : Value). load_taken (first ∷ second ∷ [], left)) number.1)
         (load_from type number.0 second rest left (machine_array (GivesType type) second (suits second had)) so is)
 
-    pub loads_next : (type index array : VerificationType) (rest : List VerificationType) → taken (sorts.Int ∷ sorts.Reference ∷ []) stage.types.stack ≡ Some (index ∷ array ∷ [], rest)
+    loads_next : (type index array : VerificationType) (rest : List VerificationType) → taken (sorts.Int ∷ sorts.Reference ∷ []) stage.types.stack ≡ Some (index ∷ array ∷ [], rest)
         → ((value : Value) → HasType stage.method kinds array value → AnArray stage.method.program kinds (GivesType type) value)
         → verified.with_stack stage.method.body.max_stack stage.types (type ∷ rest) ≡ Some stage.after → Planned machine.program (loads_element here)
     loads_next type index array rest so suits fits =
@@ -258,7 +258,7 @@ module _ (machine : Machine) (state : State) (frame : MethodFrame) (below : List
         (machine_array (IsNumber form) second (array_is stage.method kinds (IsNumber form) (are_numbers form) (number_is form) array second have suits))
         (number_typed stage.method kinds form type value has sorted) so is)
 
-    pub stores_next : (form : Elements) (type index array : VerificationType) (rest : List VerificationType)
+    stores_next : (form : Elements) (type index array : VerificationType) (rest : List VerificationType)
         → taken (sort_of_elements form ∷ sorts.Int ∷ sorts.Reference ∷ []) stage.types.stack ≡ Some (type ∷ index ∷ array ∷ [], rest)
         → is_array_of stage.method.program (are_numbers form) array ≡ true
         → verified.with_stack stage.method.body.max_stack stage.types rest ≡ Some stage.after → Planned machine.program (stores_element here form)
@@ -358,7 +358,7 @@ module _ (machine : Machine) (state : State) (frame : MethodFrame) (below : List
         (store_reference_from number.0 stored.serial second rest left
         (machine_array IsReference second (array_is stage.method kinds IsReference are_references reference_is array second have suits)) stored.known so is)
 
-    pub stores_reference_next : (type index array : VerificationType) (rest : List VerificationType)
+    stores_reference_next : (type index array : VerificationType) (rest : List VerificationType)
         → taken (sorts.Reference ∷ sorts.Int ∷ sorts.Reference ∷ []) stage.types.stack ≡ Some (type ∷ index ∷ array ∷ [], rest)
         → is_initialised type ≡ true → is_array_of stage.method.program are_references array ≡ true
         → verified.with_stack stage.method.body.max_stack stage.types rest ≡ Some stage.after → Planned machine.program (stores_reference here)
@@ -407,7 +407,7 @@ module _ (machine : Machine) (state : State) (frame : MethodFrame) (below : List
         measure_from value rest left
         (machine_array (λ (basic : Basic). Unit {0}) value (array_is stage.method kinds (λ (basic : Basic). Unit {0}) are_any any_is array value has suits)) so is
 
-    pub measures_next : (array : VerificationType) (rest : List VerificationType) → taken (sorts.Reference ∷ []) stage.types.stack ≡ Some (array ∷ [], rest)
+    measures_next : (array : VerificationType) (rest : List VerificationType) → taken (sorts.Reference ∷ []) stage.types.stack ≡ Some (array ∷ [], rest)
         → is_array_of stage.method.program are_any array ≡ true
         → verified.with_stack stage.method.body.max_stack stage.types (types.Int ∷ rest) ≡ Some stage.after → Planned machine.program (measures here)
     measures_next array rest so suits fits =

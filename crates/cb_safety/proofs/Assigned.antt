@@ -51,7 +51,7 @@ pub of_kind_assigned : (program : Linked) → KindsChain program → (kinds : Ki
     → IsOfKind program kinds kind serial → IsOfKind program kinds other serial
 of_kind_assigned program chain kinds kind other serial goes is = record { own = is.own; there = is.there; goes = chain is.own kind other is.goes goes }
 
-pub refers_assigned : (program : Linked) → KindsChain program → (kinds : Kinds) (kind other serial : ℕ) → kind_goes_to program kind other ≡ true
+refers_assigned : (program : Linked) → KindsChain program → (kinds : Kinds) (kind other serial : ℕ) → kind_goes_to program kind other ≡ true
     → Refers program kinds kind serial → Refers program kinds other serial
 refers_assigned program chain kinds kind other serial goes Refers.ToNull = Refers.ToNull
 refers_assigned program chain kinds kind other serial goes (Refers.To own is) = Refers.To own (of_kind_assigned program chain kinds kind other own goes is)
@@ -71,7 +71,7 @@ assigned method chain kinds type (New other) value goes (HasType.ANew place seri
 assigned method chain kinds type other value goes has = absurd (false≢true goes)
 
 -- local variables
-pub all_assigned : (method : Within) → KindsChain method.program → (kinds : Kinds) (types others : List VerificationType) (held : List Value)
+all_assigned : (method : Within) → KindsChain method.program → (kinds : Kinds) (types others : List VerificationType) (held : List Value)
     → pointwise (goes_to method.program) types others ≡ true → HaveTypes method kinds types held → HaveTypes method kinds others held
 all_assigned method chain kinds types [] held goes HaveTypes.NoMore = HaveTypes.NoMore
 all_assigned method chain kinds types (other ∷ others) held goes (HaveTypes.And type value more rest has have) =
@@ -129,7 +129,7 @@ upon method chain kinds type value types stack others (HasType.ALong number fits
     long_upon method chain kinds number types stack others (HasType.ALong number fits) follows goes
 upon method chain kinds type value types stack others has same follows goes = one_upon method chain kinds _ _ types stack others has same follows goes
 
-pub stack_assigned : (method : Within) → KindsChain method.program → (kinds : Kinds) (types others : List VerificationType) (stack : List Value)
+stack_assigned : (method : Within) → KindsChain method.program → (kinds : Kinds) (types others : List VerificationType) (stack : List Value)
     → stack_goes_to method.program types others ≡ true → IsStack method kinds types stack → IsStack method kinds others stack
 stack_assigned method chain kinds types [] stack goes IsStack.Empty = IsStack.Empty
 stack_assigned method chain kinds types (Long ∷ others) stack goes IsStack.Empty = absurd (false≢true goes)
@@ -148,7 +148,7 @@ frame_assigned method chain kinds one other locals stack goes have is =
     (all_assigned method chain kinds one.locals other.locals locals parts.0 have, stack_assigned method chain kinds one.stack other.stack stack parts.1 is)
 
 -- with the local variables alone, where the stack is lost
-pub locals_assigned : (method : Within) → KindsChain method.program → (kinds : Kinds) (one other : Frame) (locals : List Value)
+locals_assigned : (method : Within) → KindsChain method.program → (kinds : Kinds) (one other : Frame) (locals : List Value)
     → frame_goes_to method.program one other ≡ true → HaveTypes method kinds one.locals locals → HaveTypes method kinds other.locals locals
 locals_assigned method chain kinds one other locals goes have =
     let parts = and_parts _ _ (and_parts _ _ goes).0 in all_assigned method chain kinds one.locals other.locals locals parts.0 have

@@ -73,7 +73,7 @@ none_called : (operand : Operand) → list_all (no_call operand) (range_with_len
 none_called operands.Nothing = refl
 none_called other = refl
 
-pub record AsksCall (opcode : ℕ) (operand : Operand) (call : ℕ × ℕ) : Type 0 where
+record AsksCall (opcode : ℕ) (operand : Operand) (call : ℕ × ℕ) : Type 0 where
   pub names : index_in operand ≡ Some call.1
   pub one : opcode ≡ call.0
 
@@ -169,7 +169,7 @@ call_behind : (insn : Insn) (call : ℕ × ℕ) (low : Bool) → nat_lt insn.opc
 call_behind insn call true low found so = call_by_reference found.0 insn.wide insn.opcode insn.operand call found.2.0 (ltb-true insn.opcode opcodes.IFNULL low) found.2.2 so
 call_behind insn call false low found so = absurd (call_branch call (condition_of insn.opcode) so)
 
-pub asks_call : (insn : Insn) (action : Action) (call : ℕ × ℕ) → IsInsn insn → action_of insn ≡ Some action → call_of action ≡ Some call → AsksCall insn.opcode insn.operand call
+asks_call : (insn : Insn) (action : Action) (call : ℕ × ℕ) → IsInsn insn → action_of insn ≡ Some action → call_of action ≡ Some call → AsksCall insn.opcode insn.operand call
 asks_call insn action call found is asks = elim (cases_lt insn.opcode first_reference) [
   | inl low ↦ none_some (option_and_then call_of (action_of insn)) call
       (from_zero (λ (opcode : ℕ). no_call insn.operand opcode ≡ true) first_reference insn.opcode (all_pass (no_call insn.operand) (range_with_len 0 first_reference) (none_called insn.operand)) low) so
@@ -181,7 +181,7 @@ asks_call insn action call found is asks = elim (cases_lt insn.opcode first_refe
 
 -- ---- what is so at each of these opcodes
 
-abbrev pub IsCall : ℕ → Type 0
+abbrev IsCall : ℕ → Type 0
 IsCall opcode = (opcode ≡ opcodes.INVOKESTATIC) ⊎ ((opcode ≡ opcodes.INVOKESPECIAL) ⊎ ((opcode ≡ opcodes.INVOKEVIRTUAL) ⊎ (opcode ≡ opcodes.INVOKEINTERFACE)))
 
 at_each : (P : ℕ → Type 0) (opcode : ℕ) → P opcodes.INVOKESTATIC → P opcodes.INVOKESPECIAL → P opcodes.INVOKEVIRTUAL → P opcodes.INVOKEINTERFACE → IsCall opcode → P opcode
@@ -297,7 +297,7 @@ method_needed pool index kind all methods stands = go kind (constant_at pool ind
   go needs.InterfaceMethod (Some other) there methods is = absurd (false≢true is)
   go other (Some constant) there methods is = absurd (false≢true methods)
 
-abbrev pub member_in : (pool : List Constant) (index : ℕ) → IsMethodConstant pool index → MemberNames
+abbrev member_in : (pool : List Constant) (index : ℕ) → IsMethodConstant pool index → MemberNames
 member_in pool index constant = names_of constant.kind constant.class.name constant.name constant.descriptor
 
 pub member_names : (pool : List Constant) (index : ℕ) (constant : IsMethodConstant pool index) → member_at pool index ≡ Some (member_in pool index constant)

@@ -112,7 +112,7 @@ module _ (classes : List Class) where
         subst (λ (other : ℕ). is_subclass classes class other ≡ true) same (own_looked classes (length classes) class (ends classes acyclic low class within))
     own_or_above_under class other within (inr above) = all_looked classes (length classes) class other (ends classes acyclic low class within) above
 
-    pub all_under : (class : ℕ) → class < length classes → AllByRecursion (λ other. is_subclass classes class other ≡ true) (upwards classes class)
+    all_under : (class : ℕ) → class < length classes → AllByRecursion (λ other. is_subclass classes class other ≡ true) (upwards classes class)
     all_under class within =
         all_weaker (OwnOrAbove class) (λ (other : ℕ). is_subclass classes class other ≡ true) (λ other is. own_or_above_under class other within is) (upwards classes class)
         (all_climbed (length classes) class)
@@ -148,7 +148,7 @@ module _ (classes : List Class) where
         pub under : is_subclass classes class method.declared.class ≡ true
         pub of_objects : method.is_static ≡ false
 
-      pub record IsDeclaredBy (declaring signature number : ℕ) : Type 0 where
+      record IsDeclaredBy (declaring signature number : ℕ) : Type 0 where
         pub method : Method
         pub there : slice_get methods number ≡ Some method
         pub class_is : method.declared.class ≡ declaring
@@ -200,7 +200,7 @@ module _ (classes : List Class) where
       not_static true is = absurd (false≢true is)
       not_static false is = refl
 
-      pub chosen_upwards : (class signature : ℕ) → class < length classes → AllByRecursion (IsChosen class signature) (declared_upwards classes methods class signature)
+      chosen_upwards : (class signature : ℕ) → class < length classes → AllByRecursion (IsChosen class signature) (declared_upwards classes methods class signature)
       chosen_upwards class signature within =
           let named : List ℕ = flat_map (λ (number : ℕ). listed (method_of methods number signature)) (upwards classes class) in
           all_weaker (λ (number : ℕ). IsUnder class signature number × (method_is methods (λ (method : Method). not method.is_static) number ≡ true)) (IsChosen class signature)
@@ -221,7 +221,7 @@ module _ (classes : List Class) where
           (all_given (λ (other : ℕ). is_subclass classes class other ≡ true) (IsUnder class signature) (λ (number : ℕ). listed (method_of methods number signature)) (all_superinterfaces classes class)
           (λ other under. listed_under class other signature under) (all_under_interfaces class)))
 
-      pub chosen_above : (class signature : ℕ) → AllByRecursion (IsChosen class signature) (most_specific classes methods class signature)
+      chosen_above : (class signature : ℕ) → AllByRecursion (IsChosen class signature) (most_specific classes methods class signature)
       chosen_above class signature =
           let named : List ℕ = superinterface_methods classes methods class signature in
           all_filtered (IsChosen class signature) (method_is methods (λ (method : Method). not method.is_abstract)) (most_specific_of classes methods named)
@@ -230,12 +230,12 @@ module _ (classes : List Class) where
 
       -- ---- one of them is selected
 
-      pub found_among_all : (P : ℕ → Type 0) (numbers : List ℕ) (number : ℕ) → AllByRecursion P numbers → found_among numbers ≡ chosen.Method number → P number
+      found_among_all : (P : ℕ → Type 0) (numbers : List ℕ) (number : ℕ) → AllByRecursion P numbers → found_among numbers ≡ chosen.Method number → P number
       found_among_all P [] number all is = absurd (cc is)
       found_among_all P (first ∷ []) number all is = let same : first ≡ number = cc in subst P same all.0
       found_among_all P (first ∷ second ∷ numbers) number all is = absurd (cc is)
 
-      pub first_or_all : (P : ℕ → Type 0) (one : Option ℕ) (others : List ℕ) (number : ℕ) → IfSome one P → AllByRecursion P others → first_or methods one others ≡ chosen.Method number → P number
+      first_or_all : (P : ℕ → Type 0) (one : Option ℕ) (others : List ℕ) (number : ℕ) → IfSome one P → AllByRecursion P others → first_or methods one others ≡ chosen.Method number → P number
       first_or_all P None others number own all is = found_among_all P others number all is
       first_or_all P (Some first) others number own all is = subst P (found_is methods first number is) own
 

@@ -39,7 +39,7 @@ use Rattle.cb_safety.proofs.Lists.{all_at, all_both, all_filtered, all_given, al
 use Rattle.cb_safety.proofs.Parts.{name_twice}
 use Rattle.cb_safety.proofs.Searching.{all_pass, all_weaker}
 
-abbrev pub IsClean : List ℕ → Type 0
+abbrev IsClean : List ℕ → Type 0
 IsClean name = is_array name ≡ false → name_in name ≡ name
 
 -- ---- names of classes
@@ -236,7 +236,7 @@ all_firsts : (P : List ℕ → Type 0) (texts : List (List ℕ)) → AllByRecurs
 all_firsts P [] all = tt
 all_firsts P (text ∷ texts) all = (all.0, all_filtered P (λ other. not (same_text text other)) (firsts texts) (all_firsts P texts all.1))
 
-pub kinds_clean : (classes : List ClassFile) → AllByRecursion IsWellFormed classes → AllByRecursion IsClean (kinds classes)
+kinds_clean : (classes : List ClassFile) → AllByRecursion IsWellFormed classes → AllByRecursion IsClean (kinds classes)
 kinds_clean classes formed =
     all_firsts IsClean (named_kinds classes)
     (all_both IsClean (map name_of classes ++ flat_map class_kinds classes) (flat_map kinds_of_name fixed_kinds)

@@ -98,7 +98,7 @@ module _ (machine : Machine) (state : State) (frame : MethodFrame) (below : List
       lays_object kind_of_class placed own.good own.grows own.is leaves
   by_named other fits there leaves = never leaves
 
-  pub constant_advances : (whole : IsWhole machine.program) → AllByRecursion IsWellFormed machine.program.classes → stage.method.number ≡ frame.method
+  constant_advances : (whole : IsWhole machine.program) → AllByRecursion IsWellFormed machine.program.classes → stage.method.number ≡ frame.method
       → Planned machine.program (loads_constant here)
   constant_advances whole formed same =
       by_named (named machine.program frame.method frame.pc) (named_fits machine.program formed frame.method frame.pc) (insn_there machine.program whole frame.method frame.pc)

@@ -57,7 +57,7 @@ module _ (program : Linked) (kinds : Kinds) (kind message : ℕ) (thrown : IsThr
   }
 
 -- it becomes pending
-pub told_typed : (machine : Machine) (site message : ℕ) (plan : Plan) → IsGood machine.program plan → IsThrown machine.program (kind_of_site machine.program site)
+told_typed : (machine : Machine) (site message : ℕ) (plan : Plan) → IsGood machine.program plan → IsThrown machine.program (kind_of_site machine.program site)
     → TakesMessage machine.program (kind_of_site machine.program site) → Refers machine.program (kinds_of (objects_in plan)) kind_of_string message
     → IsTypedState machine.program (made (throwing_with machine site message 0 plan))
 told_typed machine site message plan good thrown takes refers =

@@ -94,7 +94,7 @@ reference_is other is = absurd (false≢true is)
 
 -- ---- what is read
 
-pub refers_through : (program : Linked) → HoldsThrough program → (kinds : Kinds) (kind other serial : ℕ) → holds_kind program kind other ≡ true → Refers program kinds kind serial
+refers_through : (program : Linked) → HoldsThrough program → (kinds : Kinds) (kind other serial : ℕ) → holds_kind program kind other ≡ true → Refers program kinds kind serial
     → Refers program kinds other serial
 refers_through program through kinds kind other serial goes Refers.ToNull = Refers.ToNull
 refers_through program through kinds kind other serial goes (Refers.To own is) =

@@ -39,7 +39,7 @@ use Rattle.cb_safety.proofs.Taken.{taken_sorted, taken_typed}
 -- ---- conditions on what is taken
 
 -- a condition holds or not, and where it doesn't the next instruction may be reached
-pub record Decided (condition : Condition) (held : List Value) : Type 0 where
+record Decided (condition : Condition) (held : List Value) : Type 0 where
   pub test : Bool
   pub is : holds condition held ≡ Some test
   pub falls : test ≡ false → falls_on (actions.Branch condition) ≡ true

@@ -28,7 +28,7 @@ use Rattle.cb_safety.proofs.Growing.{heap_grown, kinds_grown, kinds_placed}
 abbrev pub put : List (Option Object) → Placing → List (Option Object)
 put objects placing = objects ++ map Some (objects_of placing)
 
-abbrev pub with_frames_in : Roots → List Frame → Roots
+abbrev with_frames_in : Roots → List Frame → Roots
 with_frames_in roots frames = record {
   frames = frames;
   pending = roots.pending;
@@ -39,7 +39,7 @@ with_frames_in roots frames = record {
 }
 
 -- roots stay typed with more objects, and with frames that stand then
-pub roots_more : (program : Linked) (kinds more : Kinds) (roots : Roots) (frames : List Frame) → AreRoots program kinds roots → roots.pending ≡ 0
+roots_more : (program : Linked) (kinds more : Kinds) (roots : Roots) (frames : List Frame) → AreRoots program kinds roots → roots.pending ≡ 0
     → AreStanding program (kinds ++ more) frames → AreRoots program (kinds ++ more) (with_frames_in roots frames)
 roots_more program kinds more roots frames are zero standing = record {
   frames = subst (λ (pending : ℕ). AreFrames program (kinds ++ more) pending frames) (sym zero) (AreFrames.Running frames standing);

@@ -70,7 +70,7 @@ is_told other = true
 abbrev pub AreTold : List VerificationType → Type 0
 AreTold types = AllByRecursion (λ type. is_told type ≡ true) types
 
-pub basic_told : (basic : Basic) → is_told (type_of basic) ≡ true
+basic_told : (basic : Basic) → is_told (type_of basic) ≡ true
 basic_told (basics.Reference kind) = refl
 basic_told basics.Long = refl
 basic_told other = refl

@@ -161,7 +161,7 @@ before_first pc own placed = go (own.place == pc) where
   go true = refl
   go false = refl
 
-pub frame_first : (method : Within) (frames : Declared) (pc : ℕ) (placed : List Placed) → AllByRecursion (λ own. fits method frames own ≡ true) placed
+frame_first : (method : Within) (frames : Declared) (pc : ℕ) (placed : List Placed) → AllByRecursion (λ own. fits method frames own ≡ true) placed
     → frame_at_place pc (framed placed) ≡ first_before pc placed
 frame_first method frames pc [] all = refl
 frame_first method frames pc (own ∷ placed) all =

@@ -224,7 +224,7 @@ none_left [] few = refl
 none_left (number ∷ numbers) few = absurd (omega (arith, few))
 
 -- what stands among them
-pub record IsEntry {Item : Type 0} (test : Item → Bool) (from : ℕ) (items : List Item) (number : ℕ) : Type 0 where
+record IsEntry {Item : Type 0} (test : Item → Bool) (from : ℕ) (items : List Item) (number : ℕ) : Type 0 where
   pub place : ℕ
   pub is : number ≡ from + place
   pub item : Item
@@ -346,7 +346,7 @@ module _ (library more : List ClassFile) (are : AreLibrary library) where
   pub slot_of_throwable : (place slot number : ℕ) → RowFits place → place < 50 → slice_get (object_fields classes place) slot ≡ Some number → slice_get (own_fields fields kind_of_throwable) slot ≡ Some number
   slot_of_throwable place slot number fits low is = subst (λ (own : List ℕ). slice_get own slot ≡ Some number) (fields_of_throwable place fits low) is
 
-  pub throwable_file : IsRow IsRecordOf classes kind_of_throwable throwable_class
+  throwable_file : IsRow IsRecordOf classes kind_of_throwable throwable_class
   throwable_file = file_at kind_of_throwable throwable_class refl
 
   own_three : length (own_fields fields kind_of_throwable) ≡ 3

@@ -43,13 +43,13 @@ is_of_kind_more program kinds more kind serial is = staying.of_kind_stays kinds 
 pub refers_more : (program : Linked) (kinds more : Kinds) (kind serial : ℕ) → Refers program kinds kind serial → Refers program (kinds ++ more) kind serial
 refers_more program kinds more kind serial refers = staying.refers_stays kinds (kinds ++ more) any (grows kinds more) program kind serial (passes (unless_null serial)) refers
 
-pub is_known_more : (kinds more : Kinds) (value : Value) → IsKnown kinds value → IsKnown (kinds ++ more) value
+is_known_more : (kinds more : Kinds) (value : Value) → IsKnown kinds value → IsKnown (kinds ++ more) value
 is_known_more kinds more value known = staying.known_stays kinds (kinds ++ more) any (grows kinds more) value (passes (reference_in value)) known
 
-pub are_known_more : (kinds more : Kinds) (held : List Value) → AreKnown kinds held → AreKnown (kinds ++ more) held
+are_known_more : (kinds more : Kinds) (held : List Value) → AreKnown kinds held → AreKnown (kinds ++ more) held
 are_known_more kinds more held known = staying.all_known_stay kinds (kinds ++ more) any (grows kinds more) held (passes (references_in held)) known
 
-pub has_type_more : (method : Within) (kinds more : Kinds) (type : VerificationType) (value : Value) → HasType method kinds type value → HasType method (kinds ++ more) type value
+has_type_more : (method : Within) (kinds more : Kinds) (type : VerificationType) (value : Value) → HasType method kinds type value → HasType method (kinds ++ more) type value
 has_type_more method kinds more type value has = staying.type_stays kinds (kinds ++ more) any (grows kinds more) method type value (passes (reference_in value)) has
 
 pub have_types_more : (method : Within) (kinds more : Kinds) (types : List VerificationType) (held : List Value) → HaveTypes method kinds types held → HaveTypes method (kinds ++ more) types held
@@ -61,17 +61,17 @@ is_stack_more method kinds more types stack is = staying.stack_stays kinds (kind
 pub has_content_more : (program : Linked) (kinds more : Kinds) (basic : Basic) (content : Content) → HasContent program kinds basic content → HasContent program (kinds ++ more) basic content
 has_content_more program kinds more basic content has = staying.content_stays kinds (kinds ++ more) any (grows kinds more) program basic content (passes (reference_in_word content)) has
 
-pub has_basic_more : (program : Linked) (kinds more : Kinds) (basic : Basic) (value : Value) → HasBasic program kinds basic value → HasBasic program (kinds ++ more) basic value
+has_basic_more : (program : Linked) (kinds more : Kinds) (basic : Basic) (value : Value) → HasBasic program kinds basic value → HasBasic program (kinds ++ more) basic value
 has_basic_more program kinds more basic value has = staying.basic_stays kinds (kinds ++ more) any (grows kinds more) program basic value (passes (reference_in value)) has
 
 pub waits_more : (program : Linked) (kinds more : Kinds) (result : Option Basic) (frame : MethodFrame) → Waits program kinds result frame → Waits program (kinds ++ more) result frame
 waits_more program kinds more result frame waits =
     staying.waits_stays kinds (kinds ++ more) any (grows kinds more) program result frame (passes (frame_references (OfMethod frame))) waits
 
-pub stands_more : (program : Linked) (kinds more : Kinds) (frame : MethodFrame) → Stands program kinds frame → Stands program (kinds ++ more) frame
+stands_more : (program : Linked) (kinds more : Kinds) (frame : MethodFrame) → Stands program kinds frame → Stands program (kinds ++ more) frame
 stands_more program kinds more frame stands = staying.stands_stays kinds (kinds ++ more) any (grows kinds more) program frame (passes (frame_references (OfMethod frame))) stands
 
-pub is_covered_more : (program : Linked) (kinds more : Kinds) (frame : MethodFrame) → IsCovered program kinds frame → IsCovered program (kinds ++ more) frame
+is_covered_more : (program : Linked) (kinds more : Kinds) (frame : MethodFrame) → IsCovered program kinds frame → IsCovered program (kinds ++ more) frame
 is_covered_more program kinds more frame is = staying.covered_stays kinds (kinds ++ more) any (grows kinds more) program frame (passes (frame_references (OfMethod frame))) is
 
 pub are_below_more : (program : Linked) (kinds more : Kinds) (result : Option Basic) (frames : List Frame) → AreBelow program kinds result frames → AreBelow program (kinds ++ more) result frames

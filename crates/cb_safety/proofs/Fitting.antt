@@ -32,7 +32,7 @@ use Rattle.cb_safety.proofs.Assigned.{never}
 use Rattle.cb_safety.proofs.Declared.{declared_by}
 use Rattle.cb_safety.proofs.Lists.{all_at}
 
-abbrev pub FitsValue : Value → Type 0
+abbrev FitsValue : Value → Type 0
 FitsValue (values.Int number) = FitsSigned w32 number
 FitsValue (values.Long number) = FitsSigned w64 number
 FitsValue other = Unit {0}

@@ -168,7 +168,7 @@ module _ (classes : List ClassFile) where
       let last : first ≡ other = eqb-true first other same in
       base_holds first other rest others (ap (λ (unit : ℕ). unit == bracket) (sym last) ∙ no_array) (ap (λ (unit : ℕ). unit == letter_class) (sym last) ∙ none) ∙ same
 
-  pub instance_held : (own other : List ℕ) → is_subtype (is_instance classes) own other ≡ true → is_held_as classes own other ≡ true
+  instance_held : (own other : List ℕ) → is_subtype (is_instance classes) own other ≡ true → is_held_as classes own other ≡ true
   instance_held [] other so = absurd (false≢true so)
   instance_held (unit ∷ rest) [] so = absurd (false≢true so)
   instance_held (unit ∷ rest) (other ∷ others) so = instance_step unit other rest others (sign_of unit) (sign_of other) (instance_held rest others) so
@@ -180,7 +180,7 @@ module _ (classes : List ClassFile) where
   own_step unit rest Letter inner some = instance_same classes (name_in rest) (name_in rest) refl
   own_step unit rest (Base first no_array none) inner some = base_below (is_instance classes) first first rest rest no_array none ∙ eq-eqb first first refl
 
-  pub own_instance : (own : List ℕ) → list_any (λ unit. not (unit == bracket)) own ≡ true → is_subtype (is_instance classes) own own ≡ true
+  own_instance : (own : List ℕ) → list_any (λ unit. not (unit == bracket)) own ≡ true → is_subtype (is_instance classes) own own ≡ true
   own_instance [] some = absurd (false≢true some)
   own_instance (unit ∷ rest) some = own_step unit rest (sign_of unit) (own_instance rest) some
 

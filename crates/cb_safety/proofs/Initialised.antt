@@ -32,7 +32,7 @@ use Rattle.cb_safety.proofs.Throwing.{throws_typed}
 
 -- ---- the frames below
 
-pub record IsInitialising (program : Linked) (kinds : Kinds) (class : ℕ) (below : List Frame) : Type 0 where
+record IsInitialising (program : Linked) (kinds : Kinds) (class : ℕ) (below : List Frame) : Type 0 where
   pub low : class < length program.classes
   pub standing : AreStanding program kinds below
 
@@ -138,7 +138,7 @@ module _ (machine : Machine) (state : State) (class place : ℕ) (below : List F
   tail_planned true = own_planned (initialiser machine.program.classes class) refl
   tail_planned false = finished_planned
 
-  pub initialising_planned : Planned machine.program (initialising machine state below class place)
+  initialising_planned : Planned machine.program (initialising machine state below class place)
   initialising_planned = by (nat_lt place (length parents)) refl
     where
       parents : List ℕ

@@ -35,7 +35,7 @@ use Rattle.cb_safety.proofs.Linking.{linked_formed, linked_holds, linked_whole}
 use Rattle.cb_safety.proofs.Lists.{all_at}
 use Rattle.cb_safety.proofs.MethodNames.{HasWithin, IsFound, class_methods, gives_by, has_within, method_found, name_there, some_body, takes_by}
 
-pub initialiser_found : (program : Linked) (class method : ℕ) → initialiser program.classes class ≡ Some method → IsFound program.classes class method initialiser_texts
+initialiser_found : (program : Linked) (class method : ℕ) → initialiser program.classes class ≡ Some method → IsFound program.classes class method initialiser_texts
 initialiser_found program class method is =
     option_and_then_some (λ (signature : ℕ). method_of (ranked_methods program.classes) class signature) (number_of_pair (method_texts program.classes) initialiser_texts) method is
     (λ signature signed found. method_found program.classes class signature method initialiser_texts signed found)

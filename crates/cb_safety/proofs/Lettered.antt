@@ -50,10 +50,10 @@ all_firsts P (text ∷ texts) all = (all.0, all_filtered P (λ other. not (same_
 
 -- ---- texts
 
-abbrev pub has_letter : List ℕ → Bool
+abbrev has_letter : List ℕ → Bool
 has_letter text = list_any (λ unit. not (unit == bracket)) text
 
-abbrev pub IsLettered : List ℕ → Type 0
+abbrev IsLettered : List ℕ → Type 0
 IsLettered name = has_letter (type_of_name name) ≡ true
 
 -- a name that is no array's, or has a letter
@@ -307,7 +307,7 @@ fields_named : (pool : List Constant) (bytes : List ℕ) (fields : List Field) �
 fields_named pool bytes [] spells = tt
 fields_named pool bytes (field ∷ fields) (first, rest, spells, more, is) = (spells.named.1, fields_named pool rest fields more)
 
-pub class_kinds_lettered : (class : ClassFile) → IsWellFormed class → AllByRecursion IsLettered (class_kinds class)
+class_kinds_lettered : (class : ClassFile) → IsWellFormed class → AllByRecursion IsLettered (class_kinds class)
 class_kinds_lettered class (bytes, spelled) =
     let own : List (List ℕ) = flat_map (field_kinds class.pool) class.fields in
     let others : List (List ℕ) = flat_map (method_kinds class.pool) class.methods in
@@ -327,7 +327,7 @@ own_lettered (class ∷ classes) all = (named_lettered (name_of class) (λ array
 fixed_lettered : list_all (λ name. has_letter (type_of_name name)) (flat_map kinds_of_name fixed_kinds) ≡ true
 fixed_lettered = refl
 
-pub kinds_lettered : (classes : List ClassFile) → AllByRecursion IsWellFormed classes → AllByRecursion HasOwnName classes → AllByRecursion IsLettered (kinds classes)
+kinds_lettered : (classes : List ClassFile) → AllByRecursion IsWellFormed classes → AllByRecursion HasOwnName classes → AllByRecursion IsLettered (kinds classes)
 kinds_lettered classes formed own =
     let fixed : List (List ℕ) = flat_map kinds_of_name fixed_kinds in
     all_firsts IsLettered (named_kinds classes)

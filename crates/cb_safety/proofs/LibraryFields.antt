@@ -179,7 +179,7 @@ module _ (program : Linked) (is : IsLinked program) where
             ap (option_and_then (basic_of_field program)) (own_slot program.classes fronted whole.good extend (linked_formed program is) bare number field field_there instance) ∙ basic_wanted
 
     -- a class of one field has it at the first slot
-    pub had_first : (own : rows.Field) → row.fields ≡ own ∷ [] → HaveField program place 0 (basic_of program.kinds own.descriptor)
+    had_first : (own : rows.Field) → row.fields ≡ own ∷ [] → HaveField program place 0 (basic_of program.kinds own.descriptor)
     had_first own one = by it.slot it.says it.has where
       it : Had (basic_of program.kinds own.descriptor)
       it = had 0 own (ap (λ (fields : List rows.Field). slice_get fields 0) one)

@@ -114,7 +114,7 @@ module _ (machine : Machine) (state : State) (fits : IsTyped machine.program) (s
   has_body : body_of machine.program number ≡ Some main.method.body
   has_body = ap (option_and_then (λ (own : Numbered Method). own.member.body)) parts.is_numbered ∙ parts.body
 
-  pub main_planned : Planned machine.program (once_ready machine state machine.program.main_class (enters (body_of machine.program number)))
+  main_planned : Planned machine.program (once_ready machine state machine.program.main_class (enters (body_of machine.program number)))
   main_planned =
       ready_planned machine state typed thrown (begins_typed machine constants state typed runs thrown) machine.program.main_class whole.main (enters (body_of machine.program number))
       (planned_by machine.program (enters (body_of machine.program number)) (enters (Some main.method.body)) (ap enters has_body)

@@ -138,7 +138,7 @@ no_core_main library are number place class method is there named =
     (same_Some own.row.name main_name (sym own.is.name ∙ named))
 
 -- an item in front or behind
-pub at_either : {Item : Type 0} (one other : List Item) (place : ℕ) (item : Item) → slice_get (one ++ other) place ≡ Some item
+at_either : {Item : Type 0} (one other : List Item) (place : ℕ) (item : Item) → slice_get (one ++ other) place ≡ Some item
     → (slice_get one place ≡ Some item) ⊎ ((behind : ℕ) × (slice_get other behind ≡ Some item))
 at_either [] other place item is = inr (place, is)
 at_either (first ∷ one) other zero item is = inl is

@@ -52,7 +52,7 @@ above : (opcode bound : ℕ) (one other result : Option Action) → opcodes.GETS
 above opcode bound one other result high low is =
     ap (λ (test : Bool). if test then one else other) (le-ltb opcode bound (omega (arith, high, leb-true bound opcodes.GETSTATIC low))) ∙ is
 
-abbrev pub from_references : ℕ → Operand → Option Action
+abbrev from_references : ℕ → Operand → Option Action
 from_references opcode operand = if nat_lt opcode opcodes.IFNULL then reference opcode operand else option_map actions.Branch (condition_of opcode)
 
 pub high_done : (opcode : ℕ) (operand : Operand) → opcodes.GETSTATIC ≤ opcode → done_by opcode operand ≡ from_references opcode operand

@@ -54,7 +54,7 @@ int_answer program kinds basic number int fits method held stack own is =
     subst (λ (type : VerificationType). IsStack method kinds (type ∷ held) (values.Int number ∷ stack)) (sym int)
     (IsStack.Upon types.Int (values.Int number) held stack (HasType.AnInt number fits) refl is)
 
-pub long_answer : (program : Linked) (kinds : Kinds) (number : ℤ) → FitsSigned w64 number → Answers program kinds (Some basics.Long) (values.Long number ∷ [])
+long_answer : (program : Linked) (kinds : Kinds) (number : ℤ) → FitsSigned w64 number → Answers program kinds (Some basics.Long) (values.Long number ∷ [])
 long_answer program kinds number fits method held stack own is = IsStack.Upon types.Long (values.Long number) held stack (HasType.ALong number fits) refl is
 
 pub object_answer : (program : Linked) (kinds : Kinds) (kind serial : ℕ) → Refers program kinds kind serial → Answers program kinds (Some (basics.Reference kind)) (values.Ref serial ∷ [])

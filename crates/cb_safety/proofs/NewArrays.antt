@@ -29,7 +29,7 @@ use Rattle.cb_safety.proofs.Searching.{numbered}
 
 -- ---- lists
 
-pub all_repeated : {Item : Type 0} (P : Item → Type 0) (count : ℕ) (item : Item) → P item → AllByRecursion P (replicate count item)
+all_repeated : {Item : Type 0} (P : Item → Type 0) (count : ℕ) (item : Item) → P item → AllByRecursion P (replicate count item)
 all_repeated P zero item is = tt
 all_repeated P (suc count) item is = (is, all_repeated P count item is)
 
@@ -39,7 +39,7 @@ all_numbered P make from zero each = tt
 all_numbered P make from (suc count) each =
     (each from (omega arith), all_numbered P make (from + 1) count (λ turn low. each turn (omega (arith, low))))
 
-pub repeated_at : {Item : Type 0} (count place : ℕ) (item : Item) → place < count → slice_get (replicate count item) place ≡ Some item
+repeated_at : {Item : Type 0} (count place : ℕ) (item : Item) → place < count → slice_get (replicate count item) place ≡ Some item
 repeated_at zero place item low = absurd (omega (arith, low))
 repeated_at (suc count) zero item low = refl
 repeated_at (suc count) (suc place) item low = repeated_at count place item (omega (arith, low))
@@ -58,7 +58,7 @@ known_further (entry ∷ objects) kinds place =
     ap (slice_get (kinds_of (entry ∷ objects) ++ kinds)) (let same : length (entry ∷ objects) + place ≡ suc (length objects + place) = omega arith in same)
     ∙ known_further objects kinds place
 
-pub kind_among : (objects : List (Option Object)) (front rest : List Object) (own serial place : ℕ) → AllByRecursion (λ (object : Object). object.kind ≡ own) front
+kind_among : (objects : List (Option Object)) (front rest : List Object) (own serial place : ℕ) → AllByRecursion (λ (object : Object). object.kind ≡ own) front
     → place < length front → serial ≡ length objects + 1 + place → kind_in (kinds_of objects ++ kinds_placed (front ++ rest)) serial ≡ Some own
 kind_among objects front rest own serial place all low is =
     ap (kind_in (kinds_of objects ++ kinds_placed (front ++ rest))) (let same : serial ≡ suc (length objects + place) = omega (arith, is) in same)

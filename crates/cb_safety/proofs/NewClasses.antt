@@ -81,12 +81,12 @@ entry_there code pc insn there =
     go (Some placed) is so = (placed, is)
 
 -- its rule is met
-pub record IsMet (method : Within) (pc : ℕ) (insn : Insn) : Type 0 where
+record IsMet (method : Within) (pc : ℕ) (insn : Insn) : Type 0 where
   pub before : Frame
   pub after : Frame
   pub leaves : left method pc insn before ≡ Some after
 
-pub is_met : (program : Linked) (number pc : ℕ) (method : Within) (insn : Insn) → IsTyped program → within program number ≡ Some method → insn_in (code_at program number) pc ≡ Some insn
+is_met : (program : Linked) (number pc : ℕ) (method : Within) (insn : Insn) → IsTyped program → within program number ≡ Some method → insn_in (code_at program number) pc ≡ Some insn
     → IsMet method pc insn
 is_met program number pc method insn typed so there =
     let of : IsTypedMethod program number method = typed_method program number method typed (within_low program number method so) so in

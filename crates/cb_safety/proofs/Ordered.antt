@@ -164,7 +164,7 @@ rows_extend (row ∷ rows) (class ∷ classes) so are =
     let (here, later) = and_parts (extends row) (list_all extends rows) so in
     (row_extends row class here are.0, rows_extend rows classes later are.1)
 
-pub library_extends : (library : List ClassFile) → AreLibrary library → AllByRecursion ExtendsObject library
+library_extends : (library : List ClassFile) → AreLibrary library → AllByRecursion ExtendsObject library
 library_extends library are = rows_extend core_classes library all_extend are
 
 pub none_zipped : {Row Item : Type 0} (Is : Row → Item → Type 0) (items : List Item) → AllZip Is [] items → items ≡ []
@@ -315,7 +315,7 @@ module _ (classes : List ClassFile) (methods : List RankedMethod) (front : IsFro
     serializable = front.serializable;
   }
 
-pub has_order : (library more : List ClassFile) → AreLibrary library → AllByRecursion ExtendsObject more → AreGood (hierarchy (library ++ more)) (ranked_methods (library ++ more)) → HasOrder (library ++ more)
+has_order : (library more : List ClassFile) → AreLibrary library → AllByRecursion ExtendsObject more → AreGood (hierarchy (library ++ more)) (ranked_methods (library ++ more)) → HasOrder (library ++ more)
 has_order library more are extend good =
     ordered (library ++ more) (ranked_methods (library ++ more)) (fronted_by library more are) good (all_both ExtendsObject library more (library_extends library are) extend)
 
@@ -323,7 +323,7 @@ has_order library more are extend good =
 pub formed_extends : (class : ClassFile) → IsWellFormed class → ExtendsObject class
 formed_extends class (bytes, spelled) interface = (spelled.behind.rules.alone.as_interface (eqb-true _ _ interface)).superclass
 
-pub formed_order : (library more : List ClassFile) → AreLibrary library → AllByRecursion IsWellFormed more → AreGood (hierarchy (library ++ more)) (ranked_methods (library ++ more)) → HasOrder (library ++ more)
+formed_order : (library more : List ClassFile) → AreLibrary library → AllByRecursion IsWellFormed more → AreGood (hierarchy (library ++ more)) (ranked_methods (library ++ more)) → HasOrder (library ++ more)
 formed_order library more are formed good = has_order library more are (all_weaker IsWellFormed ExtendsObject formed_extends more formed) good
 
 -- the classes of a program

@@ -104,7 +104,7 @@ module _ (change : Numbered Field → RankedField) (test : RankedField → Bool)
 abbrev pub is_of_class : ℕ → Numbered Field → Bool
 is_of_class number own = (own.class == number) && not (has_flag acc_static own.member.flags.0)
 
-abbrev pub IsOfObject : Field → Type 0
+abbrev IsOfObject : Field → Type 0
 IsOfObject field = has_flag acc_static field.flags.0 ≡ false
 
 abbrev numbered_as : ℕ → ClassFile → ℕ × Field → Numbered Field

@@ -161,7 +161,7 @@ behind_front (first ∷ front) back place =
     ap (slice_get (first ∷ front ++ back)) (let same : suc (length front) + place ≡ suc (length front + place) = omega arith in same) ∙ behind_front front back place
 
 -- they stand together
-pub record StandTogether (number from : ℕ) (items own : List (Numbered Field)) : Type 0 where
+record StandTogether (number from : ℕ) (items own : List (Numbered Field)) : Type 0 where
   pub behind : ℕ
   pub places : places_of (is_of number) from items ≡ places_of (is_of number) (from + behind) own
   pub there : (turn : ℕ) (field : Numbered Field) → slice_get own turn ≡ Some field → slice_get items (behind + turn) ≡ Some field

@@ -62,12 +62,12 @@ no_array_in (unit ∷ more) = ap is_array (take_while-cons in_name unit more) �
 
 -- ---- names of arrays
 
-pub record IsArrayName (texts : List (List ℕ)) (name : List ℕ) (basic : Basic) : Type 0 where
+record IsArrayName (texts : List (List ℕ)) (name : List ℕ) (basic : Basic) : Type 0 where
   pub rest : List ℕ
   pub is : name ≡ bracket ∷ rest
   pub gives : basic_of texts rest ≡ basic
 
-pub array_name : (texts : List (List ℕ)) (name : List ℕ) (basic : Basic) → component_of texts name ≡ Some basic → IsArrayName texts name basic
+array_name : (texts : List (List ℕ)) (name : List ℕ) (basic : Basic) → component_of texts name ≡ Some basic → IsArrayName texts name basic
 array_name texts [] basic is = never is
 array_name texts (unit ∷ rest) basic is =
     let both = when (unit == bracket) (Some (basic_of texts rest)) basic is in

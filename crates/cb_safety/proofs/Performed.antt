@@ -48,7 +48,7 @@ pub data IsPerformed (program : Linked) (kinds : Kinds) (result : Option Basic) 
 
 -- ---- the state of its call
 
-pub performed_advances : (machine : Machine) (state : State) (frame : MethodFrame) (below : List Frame) → IsTyped machine.program → IsSpelled machine.program
+performed_advances : (machine : Machine) (state : State) (frame : MethodFrame) (below : List Frame) → IsTyped machine.program → IsSpelled machine.program
     → HoldsOn machine.program → IsTypedState machine.program state → state.roots.pending ≡ 0 → state.roots.frames ≡ OfMethod frame ∷ below
     → (calls : CallsNative machine state frame below)
     → IsPerformed machine.program (kinds_of state.objects) calls.linked.result (performed machine state calls.native calls.arguments) → Advances machine state
@@ -112,7 +112,7 @@ all_given method kinds false class parameters held (HaveTypes.And type value oth
     AreGiven.AnObject class serial (map type_of parameters) rest refers (basics_given method kinds parameters rest have)
 
 -- those of a native are of the types that it takes
-pub arguments_given : (machine : Machine) (state : State) (frame : MethodFrame) (below : List Frame) (calls : CallsNative machine state frame below) → HasNatives machine.program
+arguments_given : (machine : Machine) (state : State) (frame : MethodFrame) (below : List Frame) (calls : CallsNative machine state frame below) → HasNatives machine.program
     → AreGiven machine.program (kinds_of state.objects) (takes_of machine.program calls.native) calls.arguments
 arguments_given machine state frame below calls natives =
     let signature : HasSignature machine.program calls.native calls.linked calls.numbered =
@@ -122,7 +122,7 @@ arguments_given machine state frame below calls natives =
     (subst (λ (program : Linked). AreGiven program (kinds_of state.objects) (receiver_types (has_flag acc_static calls.numbered.member.flags.0) calls.linked.class ++ map type_of calls.linked.parameters) calls.arguments)
     calls.own given)
 
-pub result_given : (machine : Machine) (state : State) (frame : MethodFrame) (below : List Frame) (calls : CallsNative machine state frame below) → HasNatives machine.program
+result_given : (machine : Machine) (state : State) (frame : MethodFrame) (below : List Frame) (calls : CallsNative machine state frame below) → HasNatives machine.program
     → calls.linked.result ≡ gives_of machine.program calls.native
 result_given machine state frame below calls natives =
     (natives.signatures calls.number calls.native calls.linked calls.numbered calls.is_native calls.is_linked calls.is_numbered).gives

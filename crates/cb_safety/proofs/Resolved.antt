@@ -201,7 +201,7 @@ module _ (classes : List ClassFile) (front : IsFronted classes) (good : AreGood 
       ]
 
       -- an instance's class
-      pub instance_class : (other : List ℕ) → is_instance classes other name ≡ true → (own : ℕ) × ((class_number classes other ≡ Some own) × (is_subclass ranks own field.declared.class ≡ true))
+      instance_class : (other : List ℕ) → is_instance classes other name ≡ true → (own : ℕ) × ((class_number classes other ≡ Some own) × (is_subclass ranks own field.declared.class ≡ true))
       instance_class other is = elim (instance_cases classes other name is) [
         | inl same ↦ (class, (ap (class_number classes) same ∙ plain_class.1, below))
         | inr (inl object) ↦ absurd (name_no_object object)

@@ -89,7 +89,7 @@ pub within_number : (program : Linked) (number : ℕ) (method : Within) → with
 within_number program number method so =
     number_found program number method (slice_get program.methods number) (option_map (λ (own : Numbered Method). own.member) (slice_get (methods_of program.classes) number)) so
 
-pub result_there : (program : Linked) (number : ℕ) (method : Within) → within program number ≡ Some method → result_of method ≡ result_at program number
+result_there : (program : Linked) (number : ℕ) (method : Within) → within program number ≡ Some method → result_of method ≡ result_at program number
 result_there program number method so =
     ap (λ (own : Linked). result_at own method.number) (within_method program number method so).own
     ∙ ap (result_at program) (within_number program number method so)
@@ -104,7 +104,7 @@ Answers program kinds result answer =
 pub no_answer : (program : Linked) (kinds : Kinds) → Answers program kinds None []
 no_answer program kinds method types stack own is = is
 
-pub one_answer : (program : Linked) (kinds : Kinds) (from : Within) (basic : Basic) (value : Value) → from.program ≡ program → HasType from kinds (type_of basic) value
+one_answer : (program : Linked) (kinds : Kinds) (from : Within) (basic : Basic) (value : Value) → from.program ≡ program → HasType from kinds (type_of basic) value
     → Answers program kinds (Some basic) (value ∷ [])
 one_answer program kinds from basic value here has method types stack own is =
     let there : HasType method kinds (type_of basic) value = basic_elsewhere from method kinds basic value (here ∙ sym own) has in
@@ -216,7 +216,7 @@ module _ (machine : Machine) (state : State) (frame : MethodFrame) (below : List
 abbrev return_of : Within → Sort → verified.Frame → Basic → Option verified.Frame
 return_of method sort frame result = if is_of sort (type_of result) then exchanged method frame [] (type_of result ∷ []) else None
 
-pub return_advances : (machine : Machine) (state : State) (frame : MethodFrame) (below : List Frame) (insn : Insn) (sort : Option Sort)
+return_advances : (machine : Machine) (state : State) (frame : MethodFrame) (below : List Frame) (insn : Insn) (sort : Option Sort)
     → IsTyped machine.program → IsSpelled machine.program → Stage machine state frame below insn (actions.Return sort)
     → Planned machine.program (returns (now_at machine state frame below) sort)
 return_advances machine state frame below insn None typed spelled stage =

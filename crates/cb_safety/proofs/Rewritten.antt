@@ -69,7 +69,7 @@ array_is program kinds object basic contents element no_class is all few = recor
   words = words_known program kinds basic contents all;
 }
 
-pub overwritten_length : {Item : Type 0} (items new : List Item) (from : ℕ) → from + length new ≤ length items → length (take from items ++ new ++ drop (from + length new) items) ≡ length items
+overwritten_length : {Item : Type 0} (items new : List Item) (from : ℕ) → from + length new ≤ length items → length (take from items ++ new ++ drop (from + length new) items) ≡ length items
 overwritten_length items new from low =
     let one : length (take from items ++ new ++ drop (from + length new) items) ≡ length (take from items ++ new) + length (drop (from + length new) items) =
     length-append (take from items ++ new) (drop (from + length new) items) in

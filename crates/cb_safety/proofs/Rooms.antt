@@ -38,7 +38,7 @@ use Rattle.cb_safety.proofs.Taken.{stack_height, words_on}
 use Rattle.cb_safety.proofs.Variables.{same_length}
 
 -- the verifier's frame before the instruction of a frame
-pub at_sized : (program : Linked) (frame : MethodFrame) (at : Before program frame) → IsSized at.method at.types
+at_sized : (program : Linked) (frame : MethodFrame) (at : Before program frame) → IsSized at.method at.types
 at_sized program frame at = typed_sized program frame.method frame.pc at.method at.types at.within at.before
 
 -- there are no more values than words

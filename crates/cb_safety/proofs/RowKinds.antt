@@ -29,10 +29,10 @@ insn_texts (rows.OfField opcode class name descriptor) = class ∷ []
 insn_texts (rows.OfMethod opcode class name descriptor) = class ∷ []
 insn_texts other = []
 
-abbrev pub frame_texts : rows.Frame → List (List ℕ)
+abbrev frame_texts : rows.Frame → List (List ℕ)
 frame_texts frame = frame.locals
 
-abbrev pub kind_texts : rows.Kind → List (List ℕ)
+abbrev kind_texts : rows.Kind → List (List ℕ)
 kind_texts (rows.Runs body) = flat_map insn_texts body.code ++ flat_map frame_texts body.frames
 kind_texts other = []
 

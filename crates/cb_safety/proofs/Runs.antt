@@ -247,7 +247,7 @@ module _ (machine : Machine) (state : State) (frame : MethodFrame) (below : List
       runs_by (Some body) has does =
           advances_by machine state (Some (entered_upon machine state (OfMethod (with_stack frame left) ∷ below) number arguments body)) does (entered body has)
 
-      pub method_advances : plan machine state ≡ by_method here arguments left (chosen.Method number) → Advances machine state
+      method_advances : plan machine state ≡ by_method here arguments left (chosen.Method number) → Advances machine state
       method_advances does =
           runs_by own.member.body refl
           (does ∙ ap (option_and_then (λ (numbered : Numbered Method). by_body here number arguments left numbered.member.body)) may.there)

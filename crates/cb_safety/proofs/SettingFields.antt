@@ -68,7 +68,7 @@ low_kept unit low = ap pos (sym (low_bits_only 16 (pos unit) unit low (pos 0, sa
     same : (unit power : ℕ) → pos unit ≡ pos unit +ℤ pos 0 *ℤ pos power
     same unit power = omega (arith, ints)
 
-pub units_held : (program : Linked) (kinds : Kinds) (units : List ℕ) → Units units → AllByRecursion (HasContent program kinds basics.Char) (unit_contents units)
+units_held : (program : Linked) (kinds : Kinds) (units : List ℕ) → Units units → AllByRecursion (HasContent program kinds basics.Char) (unit_contents units)
 units_held program kinds [] all = tt
 units_held program kinds (unit ∷ units) all =
     let low : unit < 2 ^ 16 = all.0 in
@@ -370,7 +370,7 @@ module _ (machine : Machine) (state : State) (has : HasNatives machine.program) 
     go false few = too_long result
 
   -- on what a builder has
-  pub on_builder : (result : Option Basic) (go : ℕ → Object → List ℕ → Option Performed) (serial : ℕ) → Refer builder serial
+  on_builder : (result : Option Basic) (go : ℕ → Object → List ℕ → Option Performed) (serial : ℕ) → Refer builder serial
       → ((place : ℕ) (own : Object) (units : List ℕ) → serial ≡ suc place → IsThere builder place own → IsText units → Is result (go (suc place) own units))
       → Is result (on_object call serial (λ object. option_and_then (go serial object) (built_text state object)))
   on_builder result go zero refers follows = stops_null machine state has typed runs result

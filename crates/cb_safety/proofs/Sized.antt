@@ -41,11 +41,11 @@ pub record IsSized (method : Within) (frame : Frame) : Type 0 where
   pub locals : length frame.locals ≡ method.body.max_locals
   pub stack : height frame.stack ≤ method.body.max_stack
 
-abbrev pub SizedIf : Within → Option Frame → Type 0
+abbrev SizedIf : Within → Option Frame → Type 0
 SizedIf method None = Unit {0}
 SizedIf method (Some frame) = IsSized method frame
 
-pub sized_some : (method : Within) (found : Option Frame) (frame : Frame) → found ≡ Some frame → SizedIf method found → IsSized method frame
+sized_some : (method : Within) (found : Option Frame) (frame : Frame) → found ≡ Some frame → SizedIf method found → IsSized method frame
 sized_some method None frame so is = never so
 sized_some method (Some own) frame so is = subst (IsSized method) (same_Some own frame so) is
 
@@ -92,7 +92,7 @@ expanded_sized method values stacked = sized_by method (expanded method values s
     (λ locals had lies. option_and_then_some (frame_of method locals) (types_in method stacked) frame lies
     (λ types own so. frame_sized method locals types frame so)))
 
-abbrev pub AreSized : Within → Declared → Type 0
+abbrev AreSized : Within → Declared → Type 0
 AreSized method frames = AllByRecursion (λ (entry : ℕ × Option Frame). SizedIf method entry.1) frames
 
 abbrev entry_of : Within → ℕ → Option (List VerificationType) → List MapType → ℕ × Option Frame
@@ -106,7 +106,7 @@ behind_sized method locals_behind previous before (frame ∷ frames) = (
   behind_sized method locals_behind (Some (place_behind previous frame.delta)) (locals_behind frame before) frames,
 )
 
-pub declared_sized : (method : Within) → AreSized method (declared method)
+declared_sized : (method : Within) → AreSized method (declared method)
 declared_sized method =
     behind_sized method (λ (frame : MapFrame) (values : Option (List VerificationType)). option_and_then (fitting method) (values_in method (form_of_frame frame.kind) frame values))
     None (fitting method (start_types method)) method.body.frames

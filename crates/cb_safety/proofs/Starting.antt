@@ -56,7 +56,7 @@ module _ (machine : Machine) (input : List ℕ) (contents : List Content) (has :
   array = object_of sites.arguments array_kind contents
 
   -- the array, and the strings of so many arguments behind it
-  pub record Strung (plan : Plan) (count : ℕ) : Type 0 where
+  record Strung (plan : Plan) (count : ℕ) : Type 0 where
     pub list : List Object
     pub puts : objects_in plan ≡ map Some (array ∷ list)
     pub next : plan.next ≡ length list + 2
@@ -279,7 +279,7 @@ module _ (machine : Machine) (input : List ℕ) (contents : List Content) (has :
         (IsKnown.AnObject (plan.next + 1) in_kind second_there)
         (λ basic is. held_basic kinds in_kind (plan.next + 1) basic second_there (has.holds_in basic is))
 
-    pub ended_typed : IsTypedState machine.program (made (ended (streamed plan) plan.next (own_statics machine.program library.system)))
+    ended_typed : IsTypedState machine.program (made (ended (streamed plan) plan.next (own_statics machine.program library.system)))
     ended_typed =
         subst (λ (slots : List ℕ). IsTypedState machine.program (made (ended (streamed plan) plan.next slots))) (sym has.slots)
         (record {

@@ -188,7 +188,7 @@ module _ (machine : Machine) (state : State) (frame : MethodFrame) (below : List
     static_advances states.Busy there = runs (does ∙ static_busy here number own.class took.values took.left names.names declares there off)
     static_advances states.Done there = runs (does ∙ static_done here number own.class took.values took.left names.names declares there off)
 
-    pub static_call_advances : Advances machine state
+    static_call_advances : Advances machine state
     static_call_advances =
         static_advances (get_or state.roots.classes own.class states.Busy) (slice_get-get_or state.roots.classes own.class states.Busy low)
 

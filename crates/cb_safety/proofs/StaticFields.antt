@@ -79,7 +79,7 @@ module _ (machine : Machine) (state : State) (frame : MethodFrame) (below : List
       once_ready machine state class (option_and_then (λ (value : Value). leaves here (value ∷ frame.stack)) (slice_get state.roots.statics slot))
   gets other = None
 
-  pub gets_advances : (index : ℕ) → Stage machine state frame below insn (actions.GetStatic index) → Planned machine.program (gets_static_field here)
+  gets_advances : (index : ℕ) → Stage machine state frame below insn (actions.GetStatic index) → Planned machine.program (gets_static_field here)
   gets_advances index stage =
       planned_by machine.program (gets_static_field here)
       (once_ready machine state names.class (option_and_then (λ (value : Value). leaves here (value ∷ frame.stack)) (slice_get state.roots.statics names.slot)))
@@ -125,7 +125,7 @@ module _ (machine : Machine) (state : State) (frame : MethodFrame) (below : List
       [] (length state.objects + 1) [] (sym (append-nil state.objects)) tt refl rest left fits
       (is_stack_more stage.method (kinds_of state.objects) [] rest left is)
 
-  pub puts_advances : (index : ℕ) → Stage machine state frame below insn (actions.PutStatic index) → Planned machine.program (puts_static_field here)
+  puts_advances : (index : ℕ) → Stage machine state frame below insn (actions.PutStatic index) → Planned machine.program (puts_static_field here)
   puts_advances index stage =
       planned_by machine.program (puts_static_field here)
       (once_ready machine state names.class (option_and_then (sets_of names.slot) (static_basic machine.program names.slot)))

@@ -49,7 +49,7 @@ abbrev is_static_of : Option Action → Bool
 is_static_of None = false
 is_static_of (Some action) = is_of_statics action
 
-pub record AsksStatic (opcode : ℕ) (operand : Operand) : Type 0 where
+record AsksStatic (opcode : ℕ) (operand : Operand) : Type 0 where
   pub index : ℕ
   pub names : index_in operand ≡ Some index
   pub one : (opcode ≡ opcodes.GETSTATIC) ⊎ (opcode ≡ opcodes.PUTSTATIC)
@@ -115,7 +115,7 @@ needed opcode (inr put) = ap kind_needed put
 
 -- ---- the field that is found is static
 
-pub record IsStaticFound (classes : List ClassFile) (member : MemberNames) : Type 0 where
+record IsStaticFound (classes : List ClassFile) (member : MemberNames) : Type 0 where
   pub number : ℕ
   pub found : found_field classes member ≡ Some number
   pub field : RankedField

@@ -62,14 +62,14 @@ set_here [] slot item old is = never is
 set_here (first ∷ items) zero item old is = refl
 set_here (first ∷ items) (suc slot) item old is = set_here items slot item old is
 
-pub set_other : {Item : Type 0} (items : List Item) (slot other : ℕ) (item : Item) → ¬ (slot ≡ other) → slice_get (slice_set items slot item) other ≡ slice_get items other
+set_other : {Item : Type 0} (items : List Item) (slot other : ℕ) (item : Item) → ¬ (slot ≡ other) → slice_get (slice_set items slot item) other ≡ slice_get items other
 set_other [] slot other item apart = refl
 set_other (first ∷ items) zero zero item apart = absurd (apart refl)
 set_other (first ∷ items) zero (suc other) item apart = refl
 set_other (first ∷ items) (suc slot) zero item apart = refl
 set_other (first ∷ items) (suc slot) (suc other) item apart = set_other items slot other item (λ same. apart (ap suc same))
 
-pub statics_set : (program : Linked) (kinds : Kinds) (held : List Value) (slot : ℕ) (value : Value) → AreStatics program kinds held → IsKnown kinds value
+statics_set : (program : Linked) (kinds : Kinds) (held : List Value) (slot : ℕ) (value : Value) → AreStatics program kinds held → IsKnown kinds value
     → ((basic : Basic) → static_basic program slot ≡ Some basic → HasBasic program kinds basic value) → AreStatics program kinds (slice_set held slot value)
 statics_set program kinds held slot value are known fits =
     record { each = λ other own is. by other own is (slot == other) refl; known = all_set (IsKnown kinds) held slot value are.known known }

@@ -28,7 +28,7 @@ module _ (kinds others : Kinds) (test : ℕ → Bool)
 
   -- ---- one reference
 
-  pub kind_stays : (serial own : ℕ) → Pass (unless_null serial) → kind_in kinds serial ≡ Some own → kind_in others serial ≡ Some own
+  kind_stays : (serial own : ℕ) → Pass (unless_null serial) → kind_in kinds serial ≡ Some own → kind_in others serial ≡ Some own
   kind_stays zero own pass is = is
   kind_stays (suc place) own pass is = stays (suc place) own (and_parts (test (suc place)) true pass).0 is
 

@@ -70,7 +70,7 @@ abbrev by_exit : Roots → Option ℤ → Outcome
 by_exit roots None = by_frames roots.pending roots.argument roots.frames
 by_exit roots (Some status) = Exited status
 
-pub planned_runs : (machine : Machine) (state : State) (own : Plan) → plan machine state ≡ Some own → outcome state ≡ Running
+planned_runs : (machine : Machine) (state : State) (own : Plan) → plan machine state ≡ Some own → outcome state ≡ Running
 planned_runs machine state own is = go state.exit refl state.roots.frames refl state.roots.pending refl state.roots.argument refl where
   same : (exit : Option ℤ) → state.exit ≡ exit → (frames : List Frame) → state.roots.frames ≡ frames → (pending : ℕ) → state.roots.pending ≡ pending → (argument : ℕ)
       → state.roots.argument ≡ argument → state ≡ with_all state frames pending argument exit

@@ -111,7 +111,7 @@ module _ (classes : List ClassFile) (number above : ℕ) (class : ClassFile) (na
   within_them = omega (arith, length-map classes (ranked classes), slice_get_within classes number class there)
 
   module _ (own : class_number classes (name_of class) ≡ Some number) (good : AreGood (hierarchy classes) (ranked_methods classes)) where
-    pub assignable_above : is_assignable classes (name_of class) name ≡ true
+    assignable_above : is_assignable classes (name_of class) name ≡ true
     assignable_above =
         or_right (names_interface classes name) (is_instance classes (name_of class) name)
         (or_right (same_text (name_of class) name || is_object name) (is_below classes (name_of class) name)

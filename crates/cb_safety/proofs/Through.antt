@@ -51,7 +51,7 @@ module _ (classes : List ClassFile) (order : HasOrder classes) where
       base_holds classes unit last rest others no_array none ∙ ap (λ (last : ℕ). unit == last) (sym same)
       ∙ sym (base_holds classes unit middle rest between (ap (λ (unit : ℕ). unit == bracket) same ∙ no_array) (ap (λ (unit : ℕ). unit == letter_class) same ∙ none)) ∙ held
 
-  pub held_through : (own between other : List ℕ) → is_held_as classes own between ≡ true → is_held_as classes between other ≡ true → is_held_as classes own other ≡ true
+  held_through : (own between other : List ℕ) → is_held_as classes own between ≡ true → is_held_as classes between other ≡ true → is_held_as classes own other ≡ true
   held_through [] between other held next = absurd (false≢true held)
   held_through (unit ∷ rest) [] other held next = absurd (false≢true held)
   held_through (unit ∷ rest) (middle ∷ between) [] held next = absurd (false≢true next)

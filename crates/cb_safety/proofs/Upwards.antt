@@ -10,7 +10,7 @@ use Rattle.cb_hierarchy.specs.Orders.{in_turns, upwards, upwards_by}
 use Rattle.cb_safety.proofs.Ordered.{above_interface}
 use Rattle.cb_safety.proofs.Subclasses.{Ends, ends, stands, stands_there}
 
-pub contained : (number : ℕ) (numbers : List ℕ) → stands number numbers ≡ true → Contains numbers number
+contained : (number : ℕ) (numbers : List ℕ) → stands number numbers ≡ true → Contains numbers number
 contained number [] is = absurd (false≢true is)
 contained number (first ∷ numbers) is = go (first == number) refl is (contained number numbers) where
   go : (test : Bool) → (first == number) ≡ test → (test || stands number numbers) ≡ true → (stands number numbers ≡ true → Contains numbers number) → Contains (first ∷ numbers) number

@@ -76,7 +76,7 @@ set_typed method kinds types locals (suc local) type value fits (HaveTypes.And o
     HaveTypes.And own old (slice_set others local type) (slice_set rest local value) has (set_typed method kinds others rest local type value fits have)
 
 -- a value of the type that is there
-pub put_typed : (method : Within) (kinds : Kinds) (types : List VerificationType) (locals : List Value) (local : ℕ) (type : VerificationType) (value : Value)
+put_typed : (method : Within) (kinds : Kinds) (types : List VerificationType) (locals : List Value) (local : ℕ) (type : VerificationType) (value : Value)
     → HasType method kinds type value → slice_get types local ≡ Some type → HaveTypes method kinds types locals → HaveTypes method kinds types (slice_set locals local value)
 put_typed method kinds types locals local type value fits is HaveTypes.NoMore = HaveTypes.NoMore
 put_typed method kinds types locals zero type value fits is (HaveTypes.And own old others rest has have) =
@@ -85,7 +85,7 @@ put_typed method kinds types locals (suc local) type value fits is (HaveTypes.An
     HaveTypes.And own old others (slice_set rest local value) has (put_typed method kinds others rest local type value fits is have)
 
 -- a type that is lost
-pub lost_typed : (method : Within) (kinds : Kinds) (types : List VerificationType) (locals : List Value) (local : ℕ)
+lost_typed : (method : Within) (kinds : Kinds) (types : List VerificationType) (locals : List Value) (local : ℕ)
     → HaveTypes method kinds types locals → HaveTypes method kinds (slice_set types local Top) locals
 lost_typed method kinds types locals local HaveTypes.NoMore = HaveTypes.NoMore
 lost_typed method kinds types locals zero (HaveTypes.And own value others rest has have) =
@@ -163,13 +163,13 @@ increased_typed method kinds local frame locals type number have is fits =
 abbrev pub Keeps : Within → Kinds → (VerificationType → VerificationType) → Type 0
 Keeps method kinds change = (type : VerificationType) (value : Value) → HasType method kinds type value → HasType method kinds (change type) value
 
-pub changed_types : (method : Within) (kinds : Kinds) (change : VerificationType → VerificationType) (types : List VerificationType) (held : List Value) → Keeps method kinds change
+changed_types : (method : Within) (kinds : Kinds) (change : VerificationType → VerificationType) (types : List VerificationType) (held : List Value) → Keeps method kinds change
     → HaveTypes method kinds types held → HaveTypes method kinds (map change types) held
 changed_types method kinds change types held keeps HaveTypes.NoMore = HaveTypes.NoMore
 changed_types method kinds change types held keeps (HaveTypes.And type value others rest has have) =
     HaveTypes.And (change type) value (map change others) rest (keeps type value has) (changed_types method kinds change others rest keeps have)
 
-pub changed_stack : (method : Within) (kinds : Kinds) (change : VerificationType → VerificationType) (types : List VerificationType) (stack : List Value) → Keeps method kinds change
+changed_stack : (method : Within) (kinds : Kinds) (change : VerificationType → VerificationType) (types : List VerificationType) (stack : List Value) → Keeps method kinds change
     → change Top ≡ Top → ((type : VerificationType) → words (change type) ≡ words type) → IsStack method kinds types stack → IsStack method kinds (map change types) stack
 changed_stack method kinds change types stack keeps top same IsStack.Empty = IsStack.Empty
 changed_stack method kinds change types stack keeps top same (IsStack.Upon type value others below has fits is) =
@@ -224,7 +224,7 @@ new_words : (place kind : ℕ) (own : VerificationType) → words (in_place (New
 new_words place kind (New other) = words_if (place == other) (Object kind) (New other) refl
 new_words place kind own = refl
 
-pub this_finished : (method : Within) (kind : ℕ) (type : VerificationType) → finished method kind This ≡ Some type → Object method.class ≡ type
+this_finished : (method : Within) (kind : ℕ) (type : VerificationType) → finished method kind This ≡ Some type → Object method.class ≡ type
 this_finished method kind type is = same_Some (Object method.class) type (when _ _ type is).1
 
 pub new_finished : (method : Within) (kind place : ℕ) (type : VerificationType) → finished method kind (New place) ≡ Some type
@@ -237,12 +237,12 @@ new_finished method kind place type is = by (new_kind method place) refl
         let both = when (kind == own) (Some (Object kind)) type (rw some at is) in
         (same_Some (Object kind) type both.1, some ∙ ap Some (sym (eqb-true kind own both.0)))
 
-pub record Finished (method : Within) (kinds : Kinds) (old type : VerificationType) : Type 0 where
+record Finished (method : Within) (kinds : Kinds) (old type : VerificationType) : Type 0 where
   pub keeps : Keeps method kinds (in_place old type)
   pub top : in_place old type Top ≡ Top
   pub same : (own : VerificationType) → words (in_place old type own) ≡ words own
 
-pub finished_keeps : (method : Within) (kinds : Kinds) (kind : ℕ) (old type : VerificationType) → holds_kind method.program kind kind ≡ true
+finished_keeps : (method : Within) (kinds : Kinds) (kind : ℕ) (old type : VerificationType) → holds_kind method.program kind kind ≡ true
     → finished method kind old ≡ Some type → Finished method kinds old type
 finished_keeps method kinds kind This type goes is =
     subst (λ (own : VerificationType). Finished method kinds This own) (this_finished method kind type is)

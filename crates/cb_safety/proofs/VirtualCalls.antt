@@ -140,7 +140,7 @@ module _ (machine : Machine) (state : State) (frame : MethodFrame) (below : List
       object_takes machine state frame below insn (actions.InvokeVirtual index) linked call number rule.kind own names.declared.there by_rule other arguments on
       (λ holds. selected_suits on.object.kind other holds is)
 
-  pub virtual_advances : IsTyped machine.program → (CallsNative machine state frame below → Advances machine state)
+  virtual_advances : IsTyped machine.program → (CallsNative machine state frame below → Advances machine state)
       → plan machine state ≡ invokes_virtual (now_at machine state frame below) → Advances machine state
   virtual_advances fits natives does =
       object_advances machine state frame below insn (actions.InvokeVirtual index) linked call number rule.kind own names.declared.there by_rule fits natives
@@ -209,7 +209,7 @@ module _ (machine : Machine) (state : State) (frame : MethodFrame) (below : List
         })
         (implementing_suits (Some interface_rule.kind))
 
-    pub interface_advances : Advances machine state
+    interface_advances : Advances machine state
     interface_advances = go (method_is (ranked_methods machine.program.classes) (λ own. is_private own.visibility) resolved) refl where
       go : (test : Bool) → method_is (ranked_methods machine.program.classes) (λ own. is_private own.visibility) resolved ≡ test → Advances machine state
       go true private =
