@@ -187,7 +187,7 @@ module _ {Facts In : Type 0} (left : In → Option (List ℕ)) (gave : In → �
         subst EndsSo (sym is_end) (ending ends.OutOfMemory within (low tt, not_done rooms.OutOfMemory refused) (same_out says) lost)
     ends_at stops.InputFault end within low asks says lost is_end =
         subst EndsSo (sym is_end)
-        (ending ends.InputFault within (low tt, takes_whole rules machine before here come.past.stands (0 ∷ []) (takes_by machine (state_of view somewhere) (0 ∷ []) here.input here.printed asks)) (same_out says)
+        (ending ends.InputFault within (low tt, takes_whole rules machine before here come.past.stands (0 ∷ []) (takes_by machine (state_of view somewhere) (0 ∷ []) here.input here.printed asks.0), asks.1) (same_out says)
         (record {
           front = lost.front;
           mid = lost.mid;

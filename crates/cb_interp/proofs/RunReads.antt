@@ -23,13 +23,13 @@ module _ {Facts : Type 0} (rules : Rules Facts) (machine : Machine) (before afte
   stops_read (Ok done) is = tt
   stops_read (Err stop) is = stop_reads stop is
 
-  fail_reads : (stop : Stop) → InputFails machine before.state stop → ReadStops rules machine stop before after
-  fail_reads stops.InputFault is = is
-  fail_reads other is = absurd is
+  fail_reads : after.facts ≡ before.facts → (stop : Stop) → InputFails machine before.state stop → ReadStops rules machine stop before after
+  fail_reads known stops.InputFault is = (is, known)
+  fail_reads known other is = absurd is
 
-  pub fails_read : (result : Result (Unit {0}) Stop) → IfErr result (λ stop. InputFails machine before.state stop) → IfErr result (λ stop. ReadStops rules machine stop before after)
-  fails_read (Ok done) is = tt
-  fails_read (Err stop) is = fail_reads stop is
+  pub fails_read : after.facts ≡ before.facts → (result : Result (Unit {0}) Stop) → IfErr result (λ stop. InputFails machine before.state stop) → IfErr result (λ stop. ReadStops rules machine stop before after)
+  fails_read known (Ok done) is = tt
+  fails_read known (Err stop) is = fail_reads known stop is
 
   still : {In : Type 0} (left : In → Option (List ℕ)) (gave : In → ℕ → List ℕ → In → Type 0) (source : In) (stop : Stop) → StopsBy rules machine stop before after → LosesBy left gave machine before.state stop source source
   still left gave source stops.InputFault is = absurd is

@@ -105,7 +105,7 @@ returns-in-Ok-clause-stopped g c =
     fails_read g.S.Store.rules (machine_of c.args.program.now c.args.roots.now.limit)
     (moment_of (view_in (g.S.Store.storage c.args.store.now) c.args.roots.now.roots) g.outside (g.S.Store.storage c.args.store.now).facts)
     (moment_of (view_in (g.S.Store.storage c.in_range_turn.new.store) c.in_range_turn.new.roots.roots) g.outside (g.S.Store.storage c.in_range_turn.new.store).facts)
-    c.in_range_turn.result c.in_range_turn.ensures.fails
+    c.in_range_turn.ensures.known c.in_range_turn.result c.in_range_turn.ensures.fails
 
 pub returns-in-Ok-clause-counted : goal.returns-in-Ok-clause-counted
 returns-in-Ok-clause-counted g c =

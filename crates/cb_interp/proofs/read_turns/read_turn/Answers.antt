@@ -1,5 +1,5 @@
 use Rattle.cb_heap.specs.Storage.{view_in}
-use Rattle.std.proofs.Common.{rules}
+use Rattle.std.proofs.Common.{refl, rules}
 use Rattle.cb_act.specs.Turning.{machine_of, moment_of, state_of}
 use Rattle.cb_interp.proofs.NativeTurns.{asks_same}
 use Rattle.cb_interp.proofs.RunCounts.{counts_as, counts_none}
@@ -16,7 +16,7 @@ returns-in-ReadByte-clause-stopped g c =
     fails_read g.S.Store.rules (machine_of c.args.program.now c.args.roots.now.limit)
     (moment_of (view_in (g.S.Store.storage c.args.store.now) c.args.roots.now.roots) g.outside (g.S.Store.storage c.args.store.now).facts)
     (moment_of (view_in (g.S.Store.storage c.args.store.now) c.byte_turn.new.roots.roots) g.outside (g.S.Store.storage c.args.store.now).facts)
-    c.byte_turn.result c.byte_turn.ensures.fails
+    refl c.byte_turn.result c.byte_turn.ensures.fails
 
 pub returns-in-ReadByte-clause-counted : goal.returns-in-ReadByte-clause-counted
 returns-in-ReadByte-clause-counted g c =
