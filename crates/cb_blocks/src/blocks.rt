@@ -147,10 +147,9 @@ impl Blocks {
         let _region = &self.region;
         let there = index + count;
         let block = index / 256;
-        let other = there / 256;
-        if block == other {
+        if index % 256 + count < 256 {
             there
-        } else if self.blocks.follows(block, other - block) {
+        } else if self.blocks.follows(block, there / 256 - block) {
             there
         } else {
             self.index_far(index, count)
@@ -300,36 +299,59 @@ impl Blocks {
         let mut target = near.1;
         while done < count {
             let step = piece(from + done, to + done, count - done);
-            let moved = self.move_piece(part, from + done, to + done, step, (source, target));
+            source = self.index_near(part, from + done, source);
+            target = self.index_near(part, to + done, target);
+            self.move_piece(part, from + done, to + done, step, (source, target));
             done += step;
-            source = moved.0.wrapping_add(step);
-            target = moved.1.wrapping_add(step);
+            source = source.wrapping_add(step);
+            target = target.wrapping_add(step);
         }
         target
     }
 
-    /// The same of words that stand in one block, to places that are in one block too. Gives where the first word stood and stands.
-    fn move_piece(
-        &mut self,
-        part: u32,
-        from: u64,
-        to: u64,
-        count: u64,
-        near: (u64, u64),
-    ) -> (u64, u64)
+    /// The same, where the places in the region are told of the first word and of its target. Where the words stand in one block and go into one, no table is looked at.
+    #[inline]
+    pub fn move_at(&mut self, part: u32, from: u64, to: u64, count: u64, places: (u64, u64))
+        requires part { part < length self.old.words }
+        requires order { to ≤ from }
+        requires inside { from + count ≤ length (row self.old.words part) }
+        requires some { 0 < count }
+        requires source { IsAt self.old part from places.0 }
+        requires target { IsAt self.old part to places.1 }
+        ensures { self.new ≡ with_words self.old part (copied (row self.old.words part) from to count) }
+    {
+        if count <= 256 - from % 256 && count <= 256 - to % 256 {
+            self.move_piece(part, from, to, count, places);
+        } else {
+            self.move_far(part, from, to, count, places);
+        }
+    }
+
+    /// The same in pieces.
+    #[inline(never)]
+    fn move_far(&mut self, part: u32, from: u64, to: u64, count: u64, places: (u64, u64))
+        requires part { part < length self.old.words }
+        requires order { to ≤ from }
+        requires inside { from + count ≤ length (row self.old.words part) }
+        ensures { self.new ≡ with_words self.old part (copied (row self.old.words part) from to count) }
+    {
+        let _target = self.move_near(part, from, to, count, places);
+    }
+
+    /// The same of words that stand in one block, to places that are in one block too, where these are told.
+    fn move_piece(&mut self, part: u32, from: u64, to: u64, count: u64, places: (u64, u64))
         requires part { part < length self.old.words }
         requires order { to ≤ from }
         requires inside { from + count ≤ length (row self.old.words part) }
         requires some { 0 < count }
         requires source { from % 256 + count ≤ 256 }
         requires target { to % 256 + count ≤ 256 }
+        requires source_is { IsAt self.old part from places.0 }
+        requires target_is { IsAt self.old part to places.1 }
         ensures { self.new ≡ with_words self.old part (copied (row self.old.words part) from to count) }
     {
-        let source = self.index_near(part, from, near.0);
-        let target = self.index_near(part, to, near.1);
         self.region
-            .slide(source as usize, target as usize, count as usize);
-        (source, target)
+            .slide(places.0 as usize, places.1 as usize, count as usize);
     }
 }
 

@@ -31,6 +31,6 @@ pub use mark_stack::MarkStack;
 pub use part_heap::PartHeap;
 pub use shape::{holds, may_hold, shape_at};
 pub use words::{
-    holds_reference, mark_at, object_words, part_at, place_at, place_near, set_mark_at,
-    set_word_at, word_at,
+    holds_reference, mark_at, move_placed, object_words, part_at, place_at, place_past,
+    set_mark_at, set_word_at, word_at,
 };

@@ -1,9 +1,10 @@
 // Words of objects by their places, whatever else the words of a heap are.
-ghost use Rattle.std.specs.Prelude.{◌≡◌, ◌+◌, ◌-◌, ◌*◌, ◌/◌, ◌%◌, ◌<◌, ◌^◌, length, slice_get, slice_set, IsTrue, Some};
+ghost use Rattle.std.specs.Prelude.{◌≡◌, ◌+◌, ◌-◌, ◌*◌, ◌/◌, ◌%◌, ◌<◌, ◌≤◌, ◌^◌, length, slice_get, slice_set, IsTrue, Some};
 ghost use Rattle.cb_plain.specs.State.{words_of};
 ghost use Rattle.cb_heap.specs.Shaped.{has_size};
 ghost use Rattle.cb_blocks.specs.Parted.{IsParted, with_words};
 ghost use Rattle.cb_blocks.specs.Rows.{row};
+ghost use Rattle.cb_raw.specs.Words.{copied};
 ghost use Rattle.cb_partheap.specs.Headers.{IsHeader, IsShaped, IsWord};
 ghost use Rattle.cb_partheap.specs.Heaps.{marks_at};
 ghost use Rattle.cb_partheap.specs.Spots.{Spot, place_of, words_by};
@@ -84,6 +85,7 @@ pub fn mark_at(words: &Blocks, at: u64) -> u64
 }
 
 /// Gives an object another mark, and leaves its site.
+#[inline]
 pub fn set_mark_at(words: &mut Blocks, at: u64, mark: u64)
     requires there { (spot : Spot) × IsHeader words.old at spot }
     requires small { mark < 2 ^ 41 }
@@ -106,16 +108,48 @@ pub fn place_at(words: &Blocks, part: u32, start: u64) -> u64
     part as u64 * SPAN + words.index_of(part, start) + 1
 }
 
-/// The same, where a place is told that is the object's or lies near it, as that of one which ends where the object begins. Where both are in one block no table is
-/// looked at.
-pub fn place_near(words: &Blocks, part: u32, start: u64, near: u64) -> u64
+/// The same, where the place is told of an object in the part, and how many words behind it the other one stands. Where both are in one block no table is looked at.
+pub fn place_past(words: &Blocks, part: u32, start: u64, at: u64, count: u64) -> u64
     requires part { part < length words.now.words }
     requires few { part < 2 ^ 12 }
     requires inside { start < length (row words.now.words part) }
+    requires behind { count ≤ start }
+    requires there { at ≡ place_of words.now (record { part = part; start = start - count }) }
     ensures place { result ≡ place_of words.now (record { part = part; start = start }) }
     ensures sound { IsParted words.now }
 {
     let _sound = words.blocks_free();
-    let index = words.index_near(part, start, near.wrapping_sub(1));
-    part as u64 * SPAN + index + 1
+    let _start = start;
+    if (at - 1) % 256 + count < 256 {
+        return at + count;
+    }
+    part as u64 * SPAN + words.index_past(index_at(at), count) + 1
+}
+
+/// Copies so many words of a part, which are some, from a place to one that isn't behind it, as by way of a second list, where the places are told of the objects that begin
+/// there. Takes time in their number.
+pub fn move_placed(
+    words: &mut Blocks,
+    part: u32,
+    from: u64,
+    to: u64,
+    count: u64,
+    places: (u64, u64),
+)
+    requires part { part < length words.old.words }
+    requires order { to ≤ from }
+    requires inside { from + count ≤ length (row words.old.words part) }
+    requires some { 0 < count }
+    requires source { places.0 ≡ place_of words.old (record { part = part; start = from }) }
+    requires target { places.1 ≡ place_of words.old (record { part = part; start = to }) }
+    ensures { words.new ≡ with_words words.old part (copied (row words.old.words part) from to count) }
+{
+    let _sound = words.blocks_free();
+    words.move_at(
+        part,
+        from,
+        to,
+        count,
+        (index_at(places.0), index_at(places.1)),
+    );
 }

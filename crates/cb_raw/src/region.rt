@@ -91,7 +91,10 @@ impl Region {
         ensures touched { self.new.touched ≡ max self.old.touched (max from to + count) }
     {
         prove!(from <= self.room);
-        self.touch(from.max(to) + count);
+        let end = from.max(to) + count;
+        if self.words.len() < end {
+            self.touch(end);
+        }
         self.words
             .as_mut_slice()
             .copy_within(from..from + count, to);

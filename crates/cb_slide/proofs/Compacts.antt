@@ -90,6 +90,9 @@ module _ {given : Given} {before start : Parted} {part : ℕ} (s : SlidTo given 
           omega (arith, c.moving.inside, part_room given.heap part g.heap is.below, g.heap.parted.bound),
         )
 
+    pub blocks_now : scan < length (row given.heap.memory.words part) → 0 < length (row memory.rows part)
+    blocks_now less = omega (arith, ap (λ rows. length (row rows part)) c.only.rows, s.sound.exact part below_start, long_start, less)
+
     sound_now : IsParted memory
     sound_now = only_parted s.sound c.only (c.moving.long ∙ sym long_start)
 

@@ -2,6 +2,7 @@ mod Carried
 mod Collects
 mod Compacts
 mod Ending
+mod Ends
 mod Forwards
 mod Moves
 mod NewHeap

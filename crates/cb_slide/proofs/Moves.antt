@@ -1,7 +1,8 @@
 -- Marked objects move to the front of their part, in runs of neighbours.
-use Rattle.std.proofs.Common.{◌≡◌, ◌≢◌, ◌∙◌, ℕ, ◌+◌, ◌-◌, ◌*◌, ◌/◌, ◌%◌, ◌^◌, ◌<◌, ◌≤◌, cond, List, [], ◌++◌, length, get_or, set, take, drop, refl, sym, ap, arith, subst, inl, inr, length-append, length-drop, length-set, get_or-set_same, get_or-set_other}
+use Rattle.std.proofs.Common.{rules, slice_get, Some, ◌≡◌, ◌≢◌, ◌∙◌, ℕ, ◌+◌, ◌-◌, ◌*◌, ◌/◌, ◌%◌, ◌^◌, ◌<◌, ◌≤◌, cond, List, [], ◌++◌, length, get_or, set, take, drop, refl, sym, ap, arith, subst, inl, inr, length-append, length-drop, length-set, get_or-set_same, get_or-set_other}
 use Rattle.std.proofs.lemmas.Bool.{cases_eq, cases_lt, ne_eqb}
-use Rattle.std.proofs.lemmas.List.{get_or-append_right, get_or-drop, get_or-take, get_or_append_left, get_or_default, length-take-le, same_lists, set-get_or}
+use Rattle.std.proofs.lemmas.List.{get_or-append_right, get_or-drop, get_or-take, get_or_append_left, get_or_default, length-take-le, places, same_lists, set-get_or}
+use Rattle.std.proofs.lemmas.Option.{get_or_from_slice_get}
 use Rattle.cb_blocks.specs.Parted.{Parted, with_words}
 use Rattle.cb_blocks.specs.Rows.{row}
 use Rattle.cb_raw.specs.Words.{copied}
@@ -65,6 +66,21 @@ pub nothing_moved : (parts : Parted) (part from to count : ℕ) → to ≡ from 
 nothing_moved parts part from to count same inside =
     ap (λ words. let p : Parted = record { blocks = parts.blocks; rows = parts.rows; words = words } in p)
     (sym (ap (set parts.words part) (copied_same (row parts.words part) from to count same inside) ∙ set-get_or parts.words part []))
+
+copied_none : (words : List ℕ) (from to : ℕ) → copied words from to 0 ≡ words
+copied_none words from to = same_lists _ _ (search (rules, places)) (λ k d h. grind (arith, places))
+
+pub none_moved : (parts : Parted) (part from to count : ℕ) → count ≡ 0 → parts ≡ with_words parts part (copied (row parts.words part) from to count)
+none_moved parts part from to count none =
+    subst (λ n. parts ≡ with_words parts part (copied (row parts.words part) from to n)) (sym none)
+    (ap (λ words. let p : Parted = record { blocks = parts.blocks; rows = parts.rows; words = words } in p)
+    (sym (ap (set parts.words part) (copied_none (row parts.words part) from to) ∙ set-get_or parts.words part [])))
+
+-- a word is put where it stands
+pub same_put : (parts : Parted) (part i old new : ℕ) → slice_get (row parts.words part) i ≡ Some old → new ≡ old → parts ≡ with_words parts part (set (row parts.words part) i new)
+same_put parts part i old new read same =
+    let there : set (row parts.words part) i new ≡ row parts.words part = ap (set (row parts.words part) i) (same ∙ sym (get_or_from_slice_get (row parts.words part) i old 0 read)) ∙ set-get_or (row parts.words part) i 0 in
+    ap (λ words. let p : Parted = record { blocks = parts.blocks; rows = parts.rows; words = words } in p) (sym (ap (set parts.words part) there ∙ set-get_or parts.words part []))
 
 -- ---- one object after the other
 

@@ -1,12 +1,12 @@
 -- What holds while the parts of a set are slid.
-use Rattle.std.specs.Prelude.{◌≡◌, ◌+◌, ◌<◌, ◌≤◌, ◌⊎◌, ℕ, Bool, true, false, List, cond, length, slice_index, take, zero, suc}
+use Rattle.std.specs.Prelude.{◌≡◌, ◌+◌, ◌-◌, ◌*◌, ◌^◌, ◌<◌, ◌≤◌, ◌⊎◌, ℕ, Bool, true, false, List, cond, length, slice_index, take, zero, suc}
 use Rattle.cb_plain.specs.declared.shape.Shape.{Shape}
 use Rattle.cb_plain.specs.State.{Roots}
 use Rattle.cb_frames.specs.Entries.{entries}
 use Rattle.cb_heap.specs.Closed.{IsClosed}
 use Rattle.cb_dag.specs.Marks.{marked}
 use Rattle.cb_blocks.specs.Parted.{IsParted, Parted, index_of}
-use Rattle.cb_blocks.specs.Rows.{row}
+use Rattle.cb_blocks.specs.Rows.{place_in, row}
 use Rattle.cb_partheap.specs.Heaps.{Heap, index_in, with_memory}
 use Rattle.cb_partheap.specs.Marks.{IsClosedSet, IsMarked, MarksReached}
 use Rattle.cb_partheap.specs.Spots.{IsSpot, Spot, place_of, words_by}
@@ -151,3 +151,8 @@ pub record IsSlid (given : Given) (memory : Parted) : Type 0 where
   pub long : (other : ℕ) → IsIn given other → length (row memory.words other) ≡ slid_to (row given.heap.memory.words other) (length (row given.heap.memory.words other))
   pub carried : (spot : Spot) → IsSpot given.heap.memory spot → marked given.set spot.part ≡ true → IsMarked given.heap.memory spot →
       IsCarried given (row memory.words spot.part) (slid_to (words_by given.heap.memory spot) spot.start) spot
+
+-- the place is told of what ends at a place of a part, and how many words it has. Where the part has no block nothing is told
+pub record EndsAt (rows : List (List ℕ)) (part place at count : ℕ) : Type 0 where
+  pub behind : count ≤ place
+  pub there : 0 < length (row rows part) → at ≡ part * 2 ^ 29 + place_in 256 (row rows part) (place - count) + 1

@@ -2,8 +2,9 @@
 ghost use Rattle.std.specs.Prelude.{◌≡◌, ◌<◌, ◌+◌, ◌^◌, ◌≤◌, ℕ, length};
 ghost use Rattle.cb_slide.specs.Sliding.{ForwardedTo, Given, IsIn};
 
+use crate::first::first_place;
 use cb_blocks::Blocks;
-use cb_partheap::{mark_at, object_words, place_near, set_mark_at};
+use cb_partheap::{mark_at, object_words, place_past, set_mark_at};
 use cb_plain::{Set, Shapes};
 
 /// Gives each marked object of a set of parts its forwarding place.
@@ -26,18 +27,19 @@ fn forward_part(words: &mut Blocks, shapes: &Shapes, part: u32)
     let end = words.used(part);
     let mut free = 0;
     let mut scan = 0;
-    let mut near = 0;
-    let mut near_free = 0;
+    let mut at = first_place(words, part, end);
+    let mut size = 0;
+    let mut to = at;
+    let mut kept = 0;
     while scan < end {
-        let at = place_near(words, part, scan, near);
-        let size = object_words(words, shapes, at);
+        at = place_past(words, part, scan, at, size);
+        size = object_words(words, shapes, at);
         if mark_at(words, at) != 0 {
-            let to = place_near(words, part, free, near_free);
+            to = place_past(words, part, free, to, kept);
             set_mark_at(words, at, to);
             free += size;
-            near_free = to.wrapping_add(size);
+            kept = size;
         }
         scan += size;
-        near = at.wrapping_add(size);
     }
 }

@@ -11,6 +11,7 @@
 //! and what marking and sliding leave together (`Collected`).
 #![tactic(auto)]
 
+mod first;
 mod forwarding;
 mod law;
 mod moving;

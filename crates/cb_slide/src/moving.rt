@@ -3,10 +3,11 @@ ghost use Rattle.std.specs.Prelude.{◌≡◌, ◌<◌, ◌≤◌, ◌+◌, ◌^
 ghost use Rattle.cb_blocks.specs.Rows.{row};
 ghost use Rattle.cb_blocks.specs.Parted.{Parted, with_words};
 ghost use Rattle.cb_raw.specs.Words.{copied};
-ghost use Rattle.cb_slide.specs.Sliding.{Given, IsIn, IsRewritten, SlidTo, words_before};
+ghost use Rattle.cb_slide.specs.Sliding.{EndsAt, Given, IsIn, IsRewritten, SlidTo, words_before};
 
+use crate::first::first_place;
 use cb_blocks::Blocks;
-use cb_partheap::{mark_at, object_words, place_near, set_mark_at};
+use cb_partheap::{mark_at, move_placed, object_words, place_past, set_mark_at};
 use cb_plain::{Set, Shapes, Steps};
 use std::sync::ledger::Ledger;
 
@@ -38,49 +39,62 @@ fn compact_part<L: Ledger>(words: &mut Blocks, shapes: &Shapes, part: u32, steps
     let mut free = 0;
     let mut first = 0;
     let mut scan = 0;
-    let mut near = 0;
-    let mut run = (0, 0);
+    let mut at = first_place(words, part, end);
+    let mut size = 0;
+    let mut gap = (at, 0);
+    let mut last = (at, 0);
     while scan < end {
-        let at = place_near(words, part, scan, near);
-        let size = object_words(words, shapes, at);
-        near = at.wrapping_add(size);
+        at = place_past(words, part, scan, at, size);
+        size = object_words(words, shapes, at);
         if mark_at(words, at) != 0 {
             set_mark_at(words, at, 0);
         } else {
-            let behind = move_run(words, part, first, free, scan - first, run, steps);
+            last = move_run(words, part, first, free, scan - first, gap, last, steps);
             free += scan - first;
             first = scan + size;
-            run = (near.wrapping_sub(1), behind);
+            gap = (at, size);
         }
         scan += size;
     }
-    let _behind = move_run(words, part, first, free, scan - first, run, steps);
+    let _last = move_run(words, part, first, free, scan - first, gap, last, steps);
     words.shrink(part, free + (scan - first));
     let _sound = words.blocks_free();
 }
 
-// Moves so many words of a part, each of which is counted, where they don't stand there already. It is told places in the region that may be those of the first
-// word and of its target, and gives one that may be that behind the last target.
+// Moves so many words of a part, each of which is counted, where they don't stand there already. It is told the place and the size of what lies before the first word, and of
+// what lies before its target, and gives that of what lies behind the last target then.
+#[inline(always)]
 fn move_run<L: Ledger>(
     words: &mut Blocks,
     part: u32,
     from: u64,
     to: u64,
     count: u64,
-    near: (u64, u64),
+    gap: (u64, u64),
+    last: (u64, u64),
     steps: &mut Steps<L>,
-) -> u64
+) -> (u64, u64)
     requires part { part < length words.old.words }
+    requires few { part < 2 ^ 12 }
     requires order { to ≤ from }
     requires inside { from + count ≤ length (row words.old.words part) }
+    requires source { EndsAt words.old.rows part from gap.0 gap.1 }
+    requires target { EndsAt words.old.rows part to last.0 last.1 }
     ensures words { words.new ≡ with_words words.old part (copied (row words.old.words part) from to count) }
+    ensures behind { EndsAt words.new.rows part (to + count) result.0 result.1 }
     ensures counted { steps.new ≤ steps.old + count }
 {
-    if to == from {
-        return near.0.wrapping_add(count);
+    let _sound = words.blocks_free();
+    if count == 0 {
+        return last;
     }
-    for _word in 0..count {
-        steps.tick();
+    let target = place_past(words, part, to, last.0, last.1);
+    if to != from {
+        let source = place_past(words, part, from, gap.0, gap.1);
+        for _word in 0..count {
+            steps.tick();
+        }
+        move_placed(words, part, from, to, count, (source, target));
     }
-    words.move_near(part, from, to, count, near)
+    (target, count)
 }

@@ -1,19 +1,21 @@
 // The references of roots and of marked objects.
-ghost use Rattle.std.specs.Prelude.{◌≡◌, ◌<◌, ◌≤◌, ◌+◌, ◌^◌, ℕ, length, map, cond};
+ghost use Rattle.std.specs.Prelude.{◌≡◌, ◌<◌, ◌≤◌, ◌+◌, ◌^◌, ℕ, length, map, cond, slice_get, slice_set, Some};
+ghost use Rattle.cb_blocks.specs.Parted.{with_words};
 ghost use Rattle.cb_frames.specs.Entries.{entries, without_references};
 ghost use Rattle.cb_dag.specs.Marks.{marked};
 ghost use Rattle.cb_blocks.specs.Rows.{row};
-ghost use Rattle.cb_partheap.specs.Headers.{IsHeader};
+ghost use Rattle.cb_partheap.specs.Headers.{IsHeader, IsWord};
 ghost use Rattle.cb_partheap.specs.Spots.{Spot, words_by};
 ghost use Rattle.cb_partheap.specs.Words.{mark_at as mark_in};
 ghost use Rattle.cb_slide.specs.Slid.{place_after};
 ghost use Rattle.cb_slide.specs.Sliding.{Given, IsForwarded, IsIn, Rewrites, RewrittenTo, words_before};
 ghost use Rattle.cb_plain.specs.State.{words_of};
 
+use crate::first::first_place;
 use cb_blocks::Blocks;
 use cb_frames::Roots;
 use cb_partheap::{
-    holds, mark_at, may_hold, object_words, part_at, place_near, set_word_at, shape_at, word_at,
+    holds, mark_at, may_hold, object_words, part_at, place_past, set_word_at, shape_at, word_at,
 };
 use cb_plain::{Set, Shapes, Steps};
 use std::sync::ledger::Ledger;
@@ -87,10 +89,11 @@ fn rewrite_part<L: Ledger>(
 {
     let end = words.used(part);
     let mut scan = 0;
-    let mut near = 0;
+    let mut at = first_place(words, part, end);
+    let mut size = 0;
     while scan < end {
-        let at = place_near(words, part, scan, near);
-        let size = object_words(words, shapes, at);
+        at = place_past(words, part, scan, at, size);
+        size = object_words(words, shapes, at);
         steps.tick();
         steps.tick();
         steps.tick();
@@ -98,7 +101,6 @@ fn rewrite_part<L: Ledger>(
             rewrite_object(words, shapes, set, at, size - 3, steps);
         }
         scan += size;
-        near = at.wrapping_add(size);
     }
 }
 
@@ -124,7 +126,18 @@ fn rewrite_object<L: Ledger>(
         if holds(shape, i as u32) {
             let to = word_at(words, at, 3 + i);
             let word = new_place(words, set, to);
-            set_word_at(words, at, 3 + i, word);
+            put_place(words, at, 3 + i, to, word);
         }
+    }
+}
+
+// Puts the place that an object will have into a word, where it is another than the one that is there.
+fn put_place(words: &mut Blocks, at: u64, i: u64, old: u64, new: u64)
+    requires there { (spot : Spot) × IsWord words.old at i spot }
+    requires read { (spot : Spot) → IsWord words.old at i spot → slice_get (words_by words.old spot) (spot.start + i) ≡ Some old }
+    ensures { (spot : Spot) → IsWord words.old at i spot → words.new ≡ with_words words.old spot.part (slice_set (words_by words.old spot) (spot.start + i) new) }
+{
+    if new != old {
+        set_word_at(words, at, i, new);
     }
 }

@@ -43,8 +43,8 @@ new_place-word-requires-clause-few g c = (parts_read c.args.set.now (c.loop-i.in
 pub overflow_add-i-then-holds : goal.overflow_add-i-then-holds
 overflow_add-i-then-holds g c = omega (arith, size_small c.requires.2, c.loop-i-test.true)
 
-pub set_word_at-requires : goal.set_word_at-requires
-set_word_at-requires g c = (c.requires.1, word_there c.requires.2 c.loop-i.words c.loop-i.i (c.loop-i.invariant.so_far c.requires.0 c.requires.1 c.requires.2).forwarded c.loop-i-test.true)
+pub put_place-requires-clause-there : goal.put_place-requires-clause-there
+put_place-requires-clause-there g c = (c.requires.1, word_there c.requires.2 c.loop-i.words c.loop-i.i (c.loop-i.invariant.so_far c.requires.0 c.requires.1 c.requires.2).forwarded c.loop-i-test.true)
 
 pub loop-i-preserved : goal.loop-i-preserved
 loop-i-preserved g c = record {
@@ -56,7 +56,7 @@ loop-i-preserved g c = record {
             let word = word_read x c.loop-i.words c.loop-i.i w.word_at-to.result r c.loop-i-test.true w.word_at-to.ensures in
             let told = holds_is x c.shape_at-shape.result.now c.loop-i.i c.holds.result true is c.holds.ensures w.if-holds.true in
             subst (λ (m : Parted). RewrittenTo given m spot.part (spot.start + (3 + (c.loop-i.i + 1)))) (sym w.words-is)
-            (word_done x c.loop-i.words w.set_word_at.new.words c.loop-i.i w.word_at-to.result w.new_place-word.result r c.loop-i-test.true word told w.new_place-word.ensures.null w.new_place-word.ensures.found w.set_word_at.ensures)
+            (word_done x c.loop-i.words w.put_place.new.words c.loop-i.i w.word_at-to.result w.new_place-word.result r c.loop-i-test.true word told w.new_place-word.ensures.null w.new_place-word.ensures.found w.put_place.ensures)
         | else-holds w ↦
             subst (λ (m : Parted). RewrittenTo given m spot.part (spot.start + (3 + (c.loop-i.i + 1)))) (sym w.words-is)
             (word_passed x c.loop-i.words c.loop-i.i r c.loop-i-test.true (holds_is x c.shape_at-shape.result.now c.loop-i.i c.holds.result false is c.holds.ensures w.if-holds.false))

@@ -9,6 +9,12 @@ overflow_add-there c =
     let small = reached_small c.self.inside.region c.self.inside.blocks c.self.inside.used.items is.0 is.1 c.args.index c.args.count c.self.invariant.blocks_are is.2 in
     omega (arith, small.0, small.1)
 
+pub overflow_add-index : goal.overflow_add-index
+overflow_add-index c =
+    let is : (part : ℕ) × (i : ℕ) × IsReached (parts_of c.self.inside.region c.self.inside.blocks c.self.inside.used.items) part i c.args.index c.args.count = (subst (λ (v : Parted). (part : ℕ) × (i : ℕ) × IsReached v part i c.args.index c.args.count) (sym c.self.view_is) c.requires) in
+    let small = reached_small c.self.inside.region c.self.inside.blocks c.self.inside.used.items is.0 is.1 c.args.index c.args.count c.self.invariant.blocks_are is.2 in
+    omega (arith, small.0, small.1)
+
 pub follows-requires-clause-there : goal.follows-requires-clause-there
 follows-requires-clause-there c =
     let is : (part : ℕ) × (i : ℕ) × IsReached (parts_of c.self.inside.region c.self.inside.blocks c.self.inside.used.items) part i c.args.index c.args.count = (subst (λ (v : Parted). (part : ℕ) × (i : ℕ) × IsReached v part i c.args.index c.args.count) (sym c.self.view_is) c.requires) in
