@@ -4,8 +4,8 @@
 //! roots, and then those of the marked objects of the set, are rewritten by these; and at last the objects are moved, in runs of neighbours, and the blocks
 //! behind them given back. No reference leads into the set from outside, since edges don't, so that nothing else need be looked at. It takes no memory.
 //!
-//! Where in the region an object lies is mostly told by where the one before it ends, which `place_near` and `move_near` test: any other number would do as well, and
-//! only take more time. So no clause says which number is handed on, and a body that hands on another one is right.
+//! Where in the region an object lies is told by the place and the size of the one before it, and where a run of objects is moved by those of what lies before it
+//! and before its target: no pass looks at a table but where one block ends and another begins.
 //!
 //! `specs/` says where objects come to lie (`Slid`), what a part is whose marked objects were moved (`Compact`), what holds in each pass (`Sliding`),
 //! and what marking and sliding leave together (`Collected`).
