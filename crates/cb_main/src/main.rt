@@ -5,7 +5,7 @@ ghost use Rattle.std.specs.Prelude.{◌≡◌, ◌≢◌, ◌⊎◌, List, ℕ, 
 ghost use Rattle.std.specs.IoError.{error_kind};
 ghost use Rattle.std.specs.Process.{exit_status};
 ghost use Rattle.cb_runner.specs.Answer.{IsAnswer};
-ghost use Rattle.cb_runner.specs.Ending.{status_of};
+ghost use Rattle.cb_runner.specs.Ending.{Remains, status_of};
 ghost use Rattle.cb_runner.specs.Words.{AreFew, SaysNone, SaysRun};
 ghost use Rattle.cb_runner.specs.declared.cause.Cause.{Cause};
 
@@ -104,7 +104,8 @@ fn run_few(rt: &HostRuntime, words: &[String]) -> ExitCode
     )
 }
 
-/// Does what the words say, and gives the end of the program: the status of the cause, with the whole answer of the call.
+/// Does what the words say, and gives the end of the program: the status of the cause, with the whole answer of the call. The heap that a run
+/// leaves goes with the program.
 fn exit_code<F: Folder, S: Source, O: Sink, E: Sink>(
     alloc: Global,
     words: &[String],
@@ -114,12 +115,12 @@ fn exit_code<F: Folder, S: Source, O: Sink, E: Sink>(
     err: &mut E,
 ) -> ExitCode
     requires { AreFew (map string_bytes words.now) }
-    ensures answer { (cause : Cause) × (exit_status result ≡ status_of cause) × IsAnswer S.left S.gave (map string_bytes words.now)
+    ensures answer { (cause : Cause) × (behind : Remains) × (exit_status result ≡ status_of cause) × IsAnswer S.left S.gave (map string_bytes words.now)
         (record { files = F.files folder.old; input = input.old; out = O.taken out.old; err = E.taken err.old })
         (record { files = F.files folder.new; input = input.new; out = O.taken out.new; err = E.taken err.new })
         (record { folder = F.faults folder.old; input = S.faults input.old; out = O.faults out.old; err = E.faults err.old })
         (record { folder = F.faults folder.new; input = S.faults input.new; out = O.faults out.new; err = E.faults err.new })
-        cause }
+        cause behind }
 {
     ExitCode::from(run_command(alloc, words, folder, input, out, err).status)
 }

@@ -36,7 +36,7 @@ module _ {In : Type 0} (left : In → Option (List ℕ)) (gave : In → ℕ → 
   AsmEnds ending = (files : Option Files) → EndsIn left gave Assemble files first last ending
 
   abbrev Carried : (known taken : Option (List ℕ)) → Stop → Type 0
-  Carried known taken stop = IsCarriedOut AsmEnds (left first) (left last) known taken stop
+  Carried known taken stop = IsCarriedOut AsmEnds (left first) (left last) known taken None stop
 
   pub whole_text : (known taken : Option (List ℕ)) (text : Vec ℕ Global) (made : Result (Vec ℕ Global) Stop) (stop : Stop) (printed : List ℕ) → Reads left gave text_limit first last (Ok (Whole text))
       → Makes (AssemblesText text.items) (length text.items) made → Appends known taken printed → PrintsMade made stop printed → Carried known taken stop
@@ -130,6 +130,6 @@ module _ {In : Type 0} (left : In → Option (List ℕ)) (gave : In → ℕ → 
   cut_input known stop nothing reads = absurd reads
 
 -- which tells no cause of a run
-pub unread_tells : {In : Type 0} (left : In → Option (List ℕ)) (gave : In → ℕ → List ℕ → In → Type 0) (limit : ℕ) (first last : In) (stop : Stop) → Reads left gave limit first last (Err stop) → TellsWhole stop
+pub unread_tells : {In : Type 0} (left : In → Option (List ℕ)) (gave : In → ℕ → List ℕ → In → Type 0) (limit : ℕ) (first last : In) (stop : Stop) → Reads left gave limit first last (Err stop) → TellsWhole None stop
 unread_tells left gave limit first last (Told cause text) reads = absurd reads
 unread_tells left gave limit first last stop reads = tt

@@ -19,14 +19,19 @@ use Rattle.cb_machine.specs.Sites.{argument_characters, argument_strings, argume
 use Rattle.cb_machine.specs.Starting.{empty_state, start}
 use Rattle.cb_machine.specs.Steps.{request, step}
 use Rattle.cb_machine.specs.Strings.{with_string}
-use Rattle.cb_mapheap.specs.Room.{one_has_reached}
 use Rattle.cb_plain.specs.declared.value.Value.TheVariants.{Ref}
 use Rattle.cb_plain.specs.declared.want.Want.{Want}
-use Rattle.cb_plain.specs.Requests.{most_words}
 use Rattle.cb_plain.specs.State.{Reference, State}
 use Rattle.cb_plain.specs.Updates.{with_argument, with_input, with_static}
-use Rattle.cb_runner.specs.Running.{Begins, ComesToTold, Goes, HasRoom, Reaches, Reads}
-use Rattle.cb_runner.proofs.Reached.{step_next}
+use Rattle.cb_runner.specs.Running.{Begins, ComesToTold, Goes, Reaches, Reads}
+
+-- a step that is made leads to the next state
+abbrev or_state : State → Option State → State
+or_state state None = state
+or_state state (Some after) = after
+
+step_next : (machine : Machine) (state after : State) → step machine state ≡ Some after → next machine state ≡ after
+step_next machine state after steps = ap (or_state state) steps
 
 -- ---- the start is the same whatever the input
 
@@ -116,38 +121,25 @@ module _ (machine : Machine) (given : List (List ℕ)) (bytes : List ℕ) (unrea
         same = same;
         whole = sym input_so;
         remains = is ∙ ap (λ (bytes : List ℕ). Some bytes) (sym input_so);
-        room = λ step low. absurd (omega (arith, low));
         asks = same_room (at machine given [] 0) (there 0) same;
       }
 
-  one_more : (count : ℕ) → HasRoom machine (there count) → ((step : ℕ) → step < count → HasRoom machine (there step)) → (step : ℕ) → step < count + 1 → HasRoom machine (there step)
-  one_more count room had step low = go (cases_lt step count) where
-    go : (step < count) ⊎ (count ≤ step) → HasRoom machine (there step)
-    go (inl below) = had step below
-    go (inr above) =
-        let same : count ≡ step = omega (arith, low, above) in
-        subst (λ (step : ℕ). HasRoom machine (there step)) same room
-
-  moved : (count : ℕ) (read : List ℕ) (state behind : State) (left : Option (List ℕ)) → ((step : ℕ) → step < count → HasRoom machine (there step)) → HasRoom machine (there count)
+  moved : (count : ℕ) (read : List ℕ) (state behind : State) (left : Option (List ℕ))
       → step machine (there count) ≡ Some behind → state ≡ with_input behind [] → bytes ≡ read ++ behind.input → left ≡ Some behind.input → Told (count + 1) read state left
-  moved count read state behind left had room steps same whole remains =
+  moved count read state behind left steps same whole remains =
       let is : there (count + 1) ≡ behind = more_at machine count (there 0) ∙ step_next machine (there count) behind steps in
       let alike_there : state ≡ with_input (there (count + 1)) [] = same ∙ ap (λ (state : State). with_input state []) (sym is) in
       record {
         same = alike_there;
         whole = whole ∙ ap (λ (state : State). read ++ state.input) (sym is);
         remains = remains ∙ ap (λ (state : State). Some state.input) (sym is);
-        room = one_more count room had;
         asks = same_room state (there (count + 1)) alike_there;
       }
 
-  room_there : (one other : State) → request machine one ≡ request machine other → HasRoom machine other → HasRoom machine one
-  room_there one other same room = subst (λ (wants : List Want). IsTrue (one_has_reached most_words wants) → ⊥) (sym same) room
-
   -- a step that doesn't ask the input
-  goes : (count : ℕ) (read : List ℕ) (state behind : State) (left : Option (List ℕ)) → Told count read state left → asks_input machine.program state ≡ false → HasRoom machine state
+  goes : (count : ℕ) (read : List ℕ) (state behind : State) (left : Option (List ℕ)) → Told count read state left → asks_input machine.program state ≡ false
       → step machine state ≡ Some behind → Told (count + 1) read behind left
-  goes count read state behind left was silent room steps =
+  goes count read state behind left was silent steps =
       let law = unread state silent in
       let input : List ℕ = (there count).input in
       let printed : List ℕ = state.printed ++ law.said in
@@ -155,16 +147,16 @@ module _ (machine : Machine) (given : List (List ℕ)) (bytes : List ℕ) (unrea
       let empty : state.input ≡ [] = ap (λ (state : State). state.input) was.same in
       let own : Some behind ≡ Some (beside behind [] printed) =
       sym steps ∙ ap (λ (input : List ℕ). step machine (beside state input state.printed)) empty ∙ law.steps [] state.printed ∙ ap (option_map (λ behind. beside behind [] printed)) steps in
-      moved count read behind (beside behind input printed) left was.room (room_there (there count) state (ap (request machine) other ∙ law.requests input state.printed) room)
+      moved count read behind (beside behind input printed) left
       (ap (step machine) other ∙ law.steps input state.printed ∙ ap (option_map (λ behind. beside behind input printed)) steps) (some_same behind (beside behind [] printed) own) was.whole
       was.remains
 
   -- one that asks it
   module _ {In : Type 0} (left : In → Option (List ℕ)) (gave : In → ℕ → List ℕ → In → Type 0) where
     asking : (count : ℕ) (read more rest : List ℕ) (state behind : State) (mid last : In) → Told count read state (left mid) → asks_input machine.program state ≡ true
-        → IsGiven left gave mid last more rest → HasRoom machine (with_input state (more ++ rest)) → step machine (with_input state (more ++ rest)) ≡ Some (with_input behind rest)
+        → IsGiven left gave mid last more rest → step machine (with_input state (more ++ rest)) ≡ Some (with_input behind rest)
         → behind.input ≡ [] → Told (count + 1) (read ++ more) behind (left last)
-    asking count read more rest state behind mid last was asks is_given room steps none =
+    asking count read more rest state behind mid last was asks is_given steps none =
         let full : State = with_input state (more ++ rest) in
         let law = fronts full (alike machine.program state (more ++ rest) state.printed ∙ asks) in
         let (left_over, remains, parts) = known_rest (left mid) (left last) (there count).input more was.remains is_given.consumes in
@@ -179,16 +171,15 @@ module _ (machine : Machine) (given : List (List ℕ)) (bytes : List ℕ) (unrea
         let other : there count ≡ beside full (law.read ++ left_over) state.printed =
         ap (λ (state : State). with_input state (there count).input) (sym was.same)
         ∙ ap (λ (input : List ℕ). with_input state input) (parts ∙ ap (λ (read : List ℕ). read ++ left_over) same_read) in
-        moved count (read ++ more) behind (beside behind left_over state.printed) (left last) was.room
-        (room_there (there count) full (ap (request machine) other ∙ law.requests left_over state.printed end) room)
+        moved count (read ++ more) behind (beside behind left_over state.printed) (left last)
         (ap (step machine) other ∙ law.steps left_over state.printed end ∙ ap (option_map (λ behind. beside behind left_over state.printed)) steps)
         (ap (λ (input : List ℕ). with_input behind input) none ∙ ap (λ (printed : List ℕ). beside behind [] printed) same_printed)
         (was.whole ∙ ap (λ (rest : List ℕ). read ++ rest) parts ∙ sym (append_assoc read more left_over)) remains
 
     pub told_so : (first last : In) (count : ℕ) (read : List ℕ) (state : State) → left first ≡ Some bytes
-        → Reaches left gave (HasRoom machine) machine (at machine given [] 0) first count read state last → Told count read state (left last)
+        → Reaches left gave machine (at machine given [] 0) first count read state last → Told count read state (left last)
     told_so first last count read state is Begins = begun (left first) is
-    told_so first last count read state is (Goes before taken here behind mid came silent room steps) =
-        goes before read here state (left last) (told_so first last before read here is came) silent room steps
-    told_so first last count read state is (Reads before taken more rest here behind mid own came asks is_given room steps none) =
-        asking before taken more rest here state mid last (told_so first mid before taken here is came) asks is_given room steps none
+    told_so first last count read state is (Goes before taken here behind mid came silent steps) =
+        goes before read here state (left last) (told_so first last before read here is came) silent steps
+    told_so first last count read state is (Reads before taken more rest here behind mid own came asks is_given steps none) =
+        asking before taken more rest here state mid last (told_so first mid before taken here is came) asks is_given steps none

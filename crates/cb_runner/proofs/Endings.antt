@@ -18,8 +18,8 @@ use Rattle.cb_runner.specs.declared.cause.Cause.TheVariants as causes
 use Rattle.cb_runner.specs.declared.stop.Stop.{Stop}
 use Rattle.cb_runner.specs.declared.stop.Stop.TheVariants.{Exited, Returned, Usage, Refused, Told, FolderFault, InputFault, OutputFault, OutOfMemory}
 use Rattle.cb_runner.specs.Answer.{Answers, Ends, EndsIn, IsCutShort, MayStandAt, OfMemory, OfFolder, OfInput, OfOutput}
-use Rattle.cb_runner.specs.Ending.{Ending, out_of_memory, output_fault, refused, returned}
-use Rattle.cb_runner.specs.Inner.{IsCarriedOut, IsReady, IsRefusal, IsUnfound, ListsTo, Makes, PrintsMade, RunsTo, StopsAtOnce, StopsBy, TellsWhole, cause_of, ending_of}
+use Rattle.cb_runner.specs.Ending.{Ending, nothing, out_of_memory, output_fault, refused, returned}
+use Rattle.cb_runner.specs.Inner.{IsCarriedOut, IsReady, IsRefusal, IsUnfound, Kept, ListsTo, Makes, PrintsMade, RunsTo, StopsAtOnce, StopsBy, TellsWhole, cause_of, ending_of, ending_with}
 use Rattle.cb_runner.specs.List.{ListsFile}
 use Rattle.cb_runner.specs.Messages.{Reason}
 use Rattle.cb_runner.specs.Run.{IsRefusedRun, IsRunnable, Typed, Unrun, file_limit}
@@ -63,7 +63,7 @@ some_file files path TooLong told within = let (bytes, long) = longer file_limit
 
 -- what is refused for a reason ends so
 pub refusal_is : (reason : Reason) (text : String Global) (out : List ℕ) (read : ℕ) → IsRefusal reason (Refused text) → out ≡ [] → refused reason read ≡ ending_of (Refused text) out read
-refusal_is reason text out read is nothing = λ i. record { cause = causes.Refused; out = sym nothing i; err = sym is i; read = read }
+refusal_is reason text out read is none = λ i. record { cause = causes.Refused; out = sym none i; err = sym is i; read = read; remains = nothing }
 
 pub refused_so : (MayEnd : Ending → Type 0) (read : ℕ) (reason : Reason) (stop : Stop) → IsRefusal reason stop → MayEnd (refused reason read) → Makes MayEnd read (Err stop)
 refused_so MayEnd read reason (Refused text) is may = subst MayEnd (refusal_is reason text [] read is refl) may
@@ -114,7 +114,7 @@ pub run_at_once : {In : Type 0} (left : In → Option (List ℕ)) (gave : In →
     → StopsAtOnce (IsRefusedRun files folder run) stop → EndsIn left gave (RunIn folder run) files source source (ending_of stop [] 0)
 run_at_once left gave folder run files source (Refused text) stops = inl (Unrun stops refl)
 run_at_once left gave folder run files source FolderFault stops = inr (OfFolder, (refl, refl))
-run_at_once left gave folder run files source OutOfMemory stops = inr (OfMemory, inl (refl, refl))
+run_at_once left gave folder run files source OutOfMemory stops = inr (OfMemory, (refl, refl))
 run_at_once left gave folder run files source stop stops = absurd stops
 
 -- of which no call of input or output ended the one
@@ -149,41 +149,41 @@ module _ {In : Type 0} (left : In → Option (List ℕ)) (gave : In → ℕ → 
       subst (λ out. EndsIn left gave (ListOf path) files first last (ending_of stop out 0)) (sym nothing) (list_unfound path stop unfound)
 
   -- a run of a class whose program is run
-  pub run_ends : (folder : List ℕ) (run : Run) (program : Linked) (stop : Stop) (out : List ℕ) (read : ℕ) → IsRunnable files folder run.main program
-      → RunsTo left gave run program first last stop out read → EndsIn left gave (RunIn folder run) files first last (ending_of stop out read)
-  run_ends folder run program OutOfMemory out read runnable (inl (nothing, unread, alone)) =
-      inr (OfMemory, inl (ap (λ out. ending_of OutOfMemory out read) nothing ∙ ap (ending_of OutOfMemory []) unread, alone))
-  run_ends folder run program OutOfMemory out read runnable (inr cuts) = inr (OfMemory, inr (program, runnable, cuts))
-  run_ends folder run program InputFault out read runnable runs = inr (OfInput, (program, runnable, runs))
-  run_ends folder run program OutputFault out read runnable runs = inr (OfOutput, (program, runnable, runs))
-  run_ends folder run program Returned out read runnable runs = inl (Typed program runnable runs)
-  run_ends folder run program (Exited status) out read runnable runs = inl (Typed program runnable runs)
-  run_ends folder run program (Told cause line) out read runnable runs = inl (Typed program runnable runs)
-  run_ends folder run program stop out read runnable runs = absurd runs
+  pub run_ends : (folder : List ℕ) (run : Run) (program : Linked) (store : Kept) (stop : Stop) (out : List ℕ) (read : ℕ) → IsRunnable files folder run.main program
+      → RunsTo left gave run program first last store stop out read → EndsIn left gave (RunIn folder run) files first last (ending_with store stop out read)
+  run_ends folder run program store OutOfMemory out read runnable (no_out, unread, alone, none) =
+      inr (OfMemory, (ap (λ store. ending_with store OutOfMemory out read) none ∙ ap (λ out. ending_of OutOfMemory out read) no_out ∙ ap (ending_of OutOfMemory []) unread, alone))
+  run_ends folder run program store InputFault out read runnable runs = inr (OfInput, (program, runnable, runs))
+  run_ends folder run program store OutputFault out read runnable runs = inr (OfOutput, (program, runnable, runs))
+  run_ends folder run program store Returned out read runnable runs = inl (Typed program runnable runs)
+  run_ends folder run program store (Exited status) out read runnable runs = inl (Typed program runnable runs)
+  run_ends folder run program store (Told cause line) out read runnable runs = inl (Typed program runnable runs)
+  run_ends folder run program store stop out read runnable runs = absurd runs
 
   -- of which no call of the folder ended the one
-  pub runs_quietly : (run : Run) (program : Linked) (stop : Stop) (out : List ℕ) (read : ℕ) → RunsTo left gave run program first last stop out read → stop ≡ FolderFault → ⊥
-  runs_quietly run program stop out read runs is = subst (λ stop. RunsTo left gave run program first last stop out read) is runs
+  pub runs_quietly : (run : Run) (program : Linked) (store : Kept) (stop : Stop) (out : List ℕ) (read : ℕ) → RunsTo left gave run program first last store stop out read → stop ≡ FolderFault → ⊥
+  runs_quietly run program store stop out read runs is = subst (λ stop. RunsTo left gave run program first last store stop out read) is runs
 
   -- and its cause is one of a run that nothing cuts short
-  pub runs_tell : (run : Run) (program : Linked) (stop : Stop) (out : List ℕ) (read : ℕ) → RunsTo left gave run program first last stop out read → IsReady stop → TellsWhole stop
-  runs_tell run program (Told cause line) out read runs ready = (ends_run_whole left gave run program first last (ending_of (Told cause line) out read) runs, ready)
-  runs_tell run program stop out read runs ready = tt
+  pub runs_tell : (run : Run) (program : Linked) (store : Kept) (stop : Stop) (out : List ℕ) (read : ℕ) → RunsTo left gave run program first last store stop out read → IsReady store stop
+      → TellsWhole store stop
+  runs_tell run program store (Told cause line) out read runs ready = (ends_run_whole left gave run program first last (ending_with store (Told cause line) out read) runs, ready)
+  runs_tell run program store stop out read runs ready = tt
 
 -- what a command tells as the cause of a run is none of those that have a stop of their own
-pub refusal_tells : (reason : Reason) (stop : Stop) → IsRefusal reason stop → TellsWhole stop
+pub refusal_tells : (reason : Reason) (stop : Stop) → IsRefusal reason stop → TellsWhole None stop
 refusal_tells reason (Told cause line) refusal = absurd refusal
 refusal_tells reason stop refusal = tt
 
-pub unfound_tells : (stop : Stop) → IsUnfound stop → TellsWhole stop
+pub unfound_tells : (stop : Stop) → IsUnfound stop → TellsWhole None stop
 unfound_tells (Told cause line) unfound = absurd unfound
 unfound_tells stop unfound = tt
 
-pub stops_tell : (MayEnd : Ending → Type 0) (read : ℕ) (stop : Stop) (out : List ℕ) → StopsBy MayEnd read stop out → TellsWhole stop
+pub stops_tell : (MayEnd : Ending → Type 0) (read : ℕ) (stop : Stop) (out : List ℕ) → StopsBy MayEnd read stop out → TellsWhole None stop
 stops_tell MayEnd read (Told cause line) out stops = absurd stops
 stops_tell MayEnd read stop out stops = tt
 
-pub at_once_tells : (MayEnd : Ending → Type 0) (stop : Stop) → StopsAtOnce MayEnd stop → TellsWhole stop
+pub at_once_tells : (MayEnd : Ending → Type 0) (stop : Stop) → StopsAtOnce MayEnd stop → TellsWhole None stop
 at_once_tells MayEnd (Told cause line) stops = absurd stops
 at_once_tells MayEnd stop stops = tt
 
@@ -206,71 +206,73 @@ pub not_failed : {Given : Type 0} (given : Given) (stop : Stop) → Ok given ≡
 not_failed given stop is = cc
 
 -- a stop is one of these where its cause is
-folder_cause : (stop : Stop) → TellsWhole stop → (stop ≡ FolderFault) ↔ (cause_of stop ≡ causes.FolderFault)
-folder_cause (Told cause line) whole = (λ is. cc, λ is. absurd (false≢true (cause_whole cause causes.FolderFault is whole.0)))
-folder_cause Returned whole = (λ is. cc, λ is. cc)
-folder_cause (Exited status) whole = (λ is. cc, λ is. cc)
-folder_cause Usage whole = (λ is. cc, λ is. cc)
-folder_cause (Refused text) whole = (λ is. cc, λ is. cc)
-folder_cause FolderFault whole = (λ is. refl, λ is. refl)
-folder_cause InputFault whole = (λ is. cc, λ is. cc)
-folder_cause OutputFault whole = (λ is. cc, λ is. cc)
-folder_cause OutOfMemory whole = (λ is. cc, λ is. cc)
+folder_cause : (store : Kept) (stop : Stop) → TellsWhole store stop → (stop ≡ FolderFault) ↔ (cause_of stop ≡ causes.FolderFault)
+folder_cause store (Told cause line) whole = (λ is. cc, λ is. absurd (false≢true (cause_whole cause causes.FolderFault is whole.0)))
+folder_cause store Returned whole = (λ is. cc, λ is. cc)
+folder_cause store (Exited status) whole = (λ is. cc, λ is. cc)
+folder_cause store Usage whole = (λ is. cc, λ is. cc)
+folder_cause store (Refused text) whole = (λ is. cc, λ is. cc)
+folder_cause store FolderFault whole = (λ is. refl, λ is. refl)
+folder_cause store InputFault whole = (λ is. cc, λ is. cc)
+folder_cause store OutputFault whole = (λ is. cc, λ is. cc)
+folder_cause store OutOfMemory whole = (λ is. cc, λ is. cc)
 
-input_cause : (stop : Stop) → TellsWhole stop → (stop ≡ InputFault) ↔ (cause_of stop ≡ causes.InputFault)
-input_cause (Told cause line) whole = (λ is. cc, λ is. absurd (false≢true (cause_whole cause causes.InputFault is whole.0)))
-input_cause Returned whole = (λ is. cc, λ is. cc)
-input_cause (Exited status) whole = (λ is. cc, λ is. cc)
-input_cause Usage whole = (λ is. cc, λ is. cc)
-input_cause (Refused text) whole = (λ is. cc, λ is. cc)
-input_cause FolderFault whole = (λ is. cc, λ is. cc)
-input_cause InputFault whole = (λ is. refl, λ is. refl)
-input_cause OutputFault whole = (λ is. cc, λ is. cc)
-input_cause OutOfMemory whole = (λ is. cc, λ is. cc)
+input_cause : (store : Kept) (stop : Stop) → TellsWhole store stop → (stop ≡ InputFault) ↔ (cause_of stop ≡ causes.InputFault)
+input_cause store (Told cause line) whole = (λ is. cc, λ is. absurd (false≢true (cause_whole cause causes.InputFault is whole.0)))
+input_cause store Returned whole = (λ is. cc, λ is. cc)
+input_cause store (Exited status) whole = (λ is. cc, λ is. cc)
+input_cause store Usage whole = (λ is. cc, λ is. cc)
+input_cause store (Refused text) whole = (λ is. cc, λ is. cc)
+input_cause store FolderFault whole = (λ is. cc, λ is. cc)
+input_cause store InputFault whole = (λ is. refl, λ is. refl)
+input_cause store OutputFault whole = (λ is. cc, λ is. cc)
+input_cause store OutOfMemory whole = (λ is. cc, λ is. cc)
 
-output_cause : (stop : Stop) → TellsWhole stop → (stop ≡ OutputFault) ↔ (cause_of stop ≡ causes.OutputFault)
-output_cause (Told cause line) whole = (λ is. cc, λ is. absurd (false≢true (cause_whole cause causes.OutputFault is whole.0)))
-output_cause Returned whole = (λ is. cc, λ is. cc)
-output_cause (Exited status) whole = (λ is. cc, λ is. cc)
-output_cause Usage whole = (λ is. cc, λ is. cc)
-output_cause (Refused text) whole = (λ is. cc, λ is. cc)
-output_cause FolderFault whole = (λ is. cc, λ is. cc)
-output_cause InputFault whole = (λ is. cc, λ is. cc)
-output_cause OutputFault whole = (λ is. refl, λ is. refl)
-output_cause OutOfMemory whole = (λ is. cc, λ is. cc)
+output_cause : (store : Kept) (stop : Stop) → TellsWhole store stop → (stop ≡ OutputFault) ↔ (cause_of stop ≡ causes.OutputFault)
+output_cause store (Told cause line) whole = (λ is. cc, λ is. absurd (false≢true (cause_whole cause causes.OutputFault is whole.0)))
+output_cause store Returned whole = (λ is. cc, λ is. cc)
+output_cause store (Exited status) whole = (λ is. cc, λ is. cc)
+output_cause store Usage whole = (λ is. cc, λ is. cc)
+output_cause store (Refused text) whole = (λ is. cc, λ is. cc)
+output_cause store FolderFault whole = (λ is. cc, λ is. cc)
+output_cause store InputFault whole = (λ is. cc, λ is. cc)
+output_cause store OutputFault whole = (λ is. refl, λ is. refl)
+output_cause store OutOfMemory whole = (λ is. cc, λ is. cc)
 
 -- and none has the cause of a failed write of the last line
-pub tells_no_fault : (stop : Stop) → TellsWhole stop → cause_of stop ≡ causes.ErrFault → ⊥
-tells_no_fault (Told cause line) whole is = false≢true (cause_whole cause causes.ErrFault is whole.0)
-tells_no_fault Returned whole is = cc
-tells_no_fault (Exited status) whole is = cc
-tells_no_fault Usage whole is = cc
-tells_no_fault (Refused text) whole is = cc
-tells_no_fault FolderFault whole is = cc
-tells_no_fault InputFault whole is = cc
-tells_no_fault OutputFault whole is = cc
-tells_no_fault OutOfMemory whole is = cc
+pub tells_no_fault : (store : Kept) (stop : Stop) → TellsWhole store stop → cause_of stop ≡ causes.ErrFault → ⊥
+tells_no_fault store (Told cause line) whole is = false≢true (cause_whole cause causes.ErrFault is whole.0)
+tells_no_fault store Returned whole is = cc
+tells_no_fault store (Exited status) whole is = cc
+tells_no_fault store Usage whole is = cc
+tells_no_fault store (Refused text) whole is = cc
+tells_no_fault store FolderFault whole is = cc
+tells_no_fault store InputFault whole is = cc
+tells_no_fault store OutputFault whole is = cc
+tells_no_fault store OutOfMemory whole is = cc
 
-pub folder_counts : (stop : Stop) (before now : ℕ) → TellsWhole stop → CountsFaults before now (stop ≡ FolderFault) → CountsFaults before now (cause_of stop ≡ causes.FolderFault)
-folder_counts stop before now whole = same_count before now (folder_cause stop whole)
+pub folder_counts : (store : Kept) (stop : Stop) (before now : ℕ) → TellsWhole store stop → CountsFaults before now (stop ≡ FolderFault) → CountsFaults before now (cause_of stop ≡ causes.FolderFault)
+folder_counts store stop before now whole = same_count before now (folder_cause store stop whole)
 
-pub input_counts : (stop : Stop) (before now : ℕ) → TellsWhole stop → CountsFaults before now (stop ≡ InputFault) → CountsFaults before now (cause_of stop ≡ causes.InputFault)
-input_counts stop before now whole = same_count before now (input_cause stop whole)
+pub input_counts : (store : Kept) (stop : Stop) (before now : ℕ) → TellsWhole store stop → CountsFaults before now (stop ≡ InputFault) → CountsFaults before now (cause_of stop ≡ causes.InputFault)
+input_counts store stop before now whole = same_count before now (input_cause store stop whole)
 
-pub output_counts : (stop : Stop) (before now : ℕ) → TellsWhole stop → CountsFaults before now (stop ≡ OutputFault) → CountsFaults before now (cause_of stop ≡ causes.OutputFault)
-output_counts stop before now whole = same_count before now (output_cause stop whole)
+pub output_counts : (store : Kept) (stop : Stop) (before now : ℕ) → TellsWhole store stop → CountsFaults before now (stop ≡ OutputFault) → CountsFaults before now (cause_of stop ≡ causes.OutputFault)
+output_counts store stop before now whole = same_count before now (output_cause store stop whole)
 
 -- a command that says what it reads is carried out, and one that asks no input
 module _ {In : Type 0} (left : In → Option (List ℕ)) (gave : In → ℕ → List ℕ → In → Type 0) (words : List (List ℕ)) (files : Option Files) where
-  pub done_so : (first last : In) (known taken : Option (List ℕ)) (command : Command) (stop : Stop) → Says words command
-      → IsCarriedOut (EndsIn left gave command files first last) (left first) (left last) known taken stop → IsCarriedOut (Ends left gave words files first last) (left first) (left last) known taken stop
-  done_so first last known taken command stop says done =
+  pub done_so : (first last : In) (known taken : Option (List ℕ)) (command : Command) (store : Kept) (stop : Stop) → Says words command
+      → IsCarriedOut (EndsIn left gave command files first last) (left first) (left last) known taken store stop → IsCarriedOut (Ends left gave words files first last) (left first) (left last) known taken store stop
+  done_so first last known taken command store stop says done =
       record { printed = done.printed; read = done.read; appends = done.appends; left = done.left; ends = inr (command, says, done.ends) }
 
   pub carried : (source : In) (known taken : Option (List ℕ)) (command : Command) (stop : Stop) (printed : List ℕ) → Says words command → Appends known taken printed
-      → EndsIn left gave command files source source (ending_of stop printed 0) → IsCarriedOut (Ends left gave words files source source) (left source) (left source) known taken stop
+      → EndsIn left gave command files source source (ending_of stop printed 0)
+      → IsCarriedOut (Ends left gave words files source source) (left source) (left source) known taken None stop
   carried source known taken command stop printed says appends ends =
       record { printed = printed; read = 0; appends = appends; left = nothing_read (left source); ends = inr (command, says, ends) }
 
-  pub unsaid : (source : In) (known : Option (List ℕ)) → SaysNone words → IsCarriedOut (Ends left gave words files source source) (left source) (left source) known known Usage
+  pub unsaid : (source : In) (known : Option (List ℕ)) → SaysNone words
+      → IsCarriedOut (Ends left gave words files source source) (left source) (left source) known known None Usage
   unsaid source known none = record { printed = []; read = 0; appends = Appends-nothing known; left = nothing_read (left source); ends = inl (none, refl) }

@@ -22,15 +22,15 @@ cause_whole one other is whole = subst (λ cause. IsTrue (ends_whole cause)) is 
 
 -- a command that nothing cuts short returns or is refused, or the program that it runs ends in another way
 ends_begun_whole : {In : Type 0} (left : In → Option (List ℕ)) (gave : In → ℕ → List ℕ → In → Type 0) (run : Run) (program : Linked) (first last : In) (ending : Ending) → EndsBegun left gave run program first last ending → IsWhole ending
-ends_begun_whole left gave run program first last ending (Returns count read state within comes returns is) = whole_by ending _ is refl
-ends_begun_whole left gave run program first last ending (Exits count read state status within comes exits is) = whole_by ending _ is refl
-ends_begun_whole left gave run program first last ending (Throws count read state serial object units within comes throws there tells is) = whole_by ending _ is refl
-ends_begun_whole left gave run program first last ending (Spends read state comes runs is) = whole_by ending _ is refl
-ends_begun_whole left gave run program first last ending (Fills count read state below comes fills is) = whole_by ending _ is refl
+ends_begun_whole left gave run program first last ending (Returns count read moment state within comes returns leaves is) = whole_by ending _ is refl
+ends_begun_whole left gave run program first last ending (Exits count read moment state status within comes exits leaves is) = whole_by ending _ is refl
+ends_begun_whole left gave run program first last ending (Throws count read moment state serial object units within comes throws there tells leaves is) = whole_by ending _ is refl
+ends_begun_whole left gave run program first last ending (Spends read moment state comes runs leaves is) = whole_by ending _ is refl
+ends_begun_whole left gave run program first last ending (Fills count read moment after state live asked limit below comes refuses leaves is) = whole_by ending _ is refl
 
 pub ends_run_whole : {In : Type 0} (left : In → Option (List ℕ)) (gave : In → ℕ → List ℕ → In → Type 0) (run : Run) (program : Linked) (first last : In) (ending : Ending) → EndsRun left gave run program first last ending → IsWhole ending
-ends_run_whole left gave run program first last ending (inl (fills, alone, is)) = whole_by ending _ is refl
-ends_run_whole left gave run program first last ending (inr (begins, ends)) = ends_begun_whole left gave run program first last ending ends
+ends_run_whole left gave run program first last ending (inl (fills, alone)) = whole_by ending _ fills.is refl
+ends_run_whole left gave run program first last ending (inr ends) = ends_begun_whole left gave run program first last ending ends
 
 refused_run_whole : (files : Option Files) (folder : List ℕ) (run : Run) (ending : Ending) → IsRefusedRun files folder run ending → IsWhole ending
 refused_run_whole files folder run ending (Stopped refusal reason stops says is) = whole_by ending _ is refl
@@ -71,8 +71,7 @@ fault_cause OfOutput = OutputFault
 pub cut_cause : {In : Type 0} (left : In → Option (List ℕ)) (gave : In → ℕ → List ℕ → In → Type 0) (fault : Fault) (command : Command) (files : Option Files) (first last : In) (ending : Ending) → IsCutShort left gave fault command files first last ending
     → ending.cause ≡ fault_cause fault
 unfolding fault_cause
-cut_cause left gave OfMemory (RunIn folder run) files first last ending (inl (is, alone)) = ap (λ e. e.cause) is
-cut_cause left gave OfMemory (RunIn folder run) files first last ending (inr (program, runnable, cuts)) = ap (λ e. e.cause) cuts.is
+cut_cause left gave OfMemory (RunIn folder run) files first last ending (is, alone) = ap (λ e. e.cause) is
 cut_cause left gave OfMemory (ListOf path) files first last ending is = ap (λ e. e.cause) is
 cut_cause left gave OfMemory Assemble files first last ending (read, may, is) = ap (λ e. e.cause) is
 cut_cause left gave OfFolder (RunIn folder run) files first last ending (is, alone) = ap (λ e. e.cause) is

@@ -14,9 +14,13 @@ pub mod Listing
 pub mod Assembling
 pub mod Laws
 pub mod CopiedLists
-pub mod Roomy
 pub mod Reached
+pub mod KeptTold
 pub mod AtTold
 pub mod Executed
 pub mod Begun
 pub mod Told
+pub mod Joined
+pub mod Bounded
+pub mod Stored
+pub mod Configs

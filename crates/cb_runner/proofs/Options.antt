@@ -1,8 +1,9 @@
 -- Options at the front of words.
-use Rattle.std.proofs.Common.{◌≡◌, ◌∙◌, ◌⊎◌, ap, inl, inr, refl, sym, subst, ℕ, List, [], ◌∷◌, ◌++◌, Option, Some, None, MatchOption, append_assoc}
+use Rattle.std.proofs.Common.{◌≡◌, ◌∙◌, ap, refl, sym, subst, codes, drop, false, is_some, if◌then◌else◌, ℕ, List, ◌∷◌, ◌++◌, Option, Some, None, MatchOption}
+use Rattle.std.specs.Str.{bytes_eq}
 use Rattle.std.specs.Str.Parse.{digits_value}
-use Rattle.cb_runner.specs.Inner.{LeadsWith, TakesOption, TellsOption}
-use Rattle.cb_runner.specs.Words.{IsOption, IsOptionOf, TellsNumber}
+use Rattle.cb_runner.specs.Inner.{AddsFirst, TakesAll, TellsOption}
+use Rattle.cb_runner.specs.Words.{Adds, AddsOption, Given, IsOption, More, NoMore, OfBlocks, OfFrames, OfSteps, TellsNumber}
 use Rattle.cb_runner.proofs.FewItems.{heads, tails}
 
 -- what is said of a value or its absence says more
@@ -18,81 +19,67 @@ tells_front name most value word number behind words is (own, more, same, tells)
     let both : name ∷ own ∷ more ≡ word ∷ number ∷ behind = sym same ∙ is in
     (heads both, subst (TellsNumber most value) (heads (tails both)) tells)
 
--- it is taken, where the words behind it are these
-pub takes_told : (name : List ℕ) (most usual value : ℕ) (words rest : List (List ℕ)) → TellsOption name most value words
-    → ((number : List ℕ) (behind : List (List ℕ)) → words ≡ name ∷ number ∷ behind → rest ≡ behind) → TakesOption name most usual value words rest
-takes_told name most usual value words rest (number, behind, is, tells) rest_is = record {
-  front = name ∷ number ∷ [];
-  is = inr (number, refl, tells);
-  words_are = is ∙ ap (λ rest. name ∷ number ∷ rest) (sym (rest_is number behind is));
-  told = λ other word more same also.
-      let both : name ∷ number ∷ behind ≡ name ∷ word ∷ more = sym is ∙ same in
-      (tells.is ∙ ap (digits_value 10) (heads (tails both)) ∙ sym also.is, rest_is word more same);
+-- none stands there where none of each name does
+none_adds : (given next : Given) (name number : List ℕ) (behind words : List (List ℕ)) → ((value : ℕ) → given.steps ≡ None → TellsOption (codes "--steps") 10000000000 value words → ⊥)
+    → ((value : ℕ) → given.frames ≡ None → TellsOption (codes "--frames") 65536 value words → ⊥) → ((value : ℕ) → given.blocks ≡ None → TellsOption (codes "--blocks") 1048576 value words → ⊥)
+    → words ≡ name ∷ number ∷ behind → AddsOption given number name next → ⊥
+none_adds given next name number behind words no_steps no_frames no_blocks is (OfSteps value none tells) = no_steps value none (number, behind, is, tells)
+none_adds given next name number behind words no_steps no_frames no_blocks is (OfFrames value none tells) = no_frames value none (number, behind, is, tells)
+none_adds given next name number behind words no_steps no_frames no_blocks is (OfBlocks value none tells) = no_blocks value none (number, behind, is, tells)
+
+pub none_first : (given : Given) (words : List (List ℕ)) → ((value : ℕ) → given.steps ≡ None → TellsOption (codes "--steps") 10000000000 value words → ⊥)
+    → ((value : ℕ) → given.frames ≡ None → TellsOption (codes "--frames") 65536 value words → ⊥) → ((value : ℕ) → given.blocks ≡ None → TellsOption (codes "--blocks") 1048576 value words → ⊥)
+    → (next : Given) → AddsFirst given next words → ⊥
+none_first given words no_steps no_frames no_blocks next first =
+    none_adds given next first.name first.number first.behind words no_steps no_frames no_blocks first.words_are first.adds
+
+-- it is taken, and behind it others
+pub takes_more : (given next last : Given) (words behind rest : List (List ℕ)) → AddsFirst given next words → behind ≡ drop 2 words → TakesAll next last behind rest → TakesAll given last words rest
+takes_more given next last words behind rest first is takes = record {
+  front = first.name ∷ first.number ∷ takes.front;
+  adds = More first.name first.number takes.front first.adds takes.adds;
+  words_are = first.words_are ∙ ap (λ behind. first.name ∷ first.number ∷ behind) (sym (is ∙ ap (drop 2) first.words_are) ∙ takes.words_are);
+  stops = takes.stops;
 }
 
-pub takes_none : (name : List ℕ) (most usual : ℕ) (words : List (List ℕ)) → ((value : ℕ) → TellsOption name most value words → ⊥) → TakesOption name most usual usual words words
-takes_none name most usual words none =
-    record { front = []; is = inl (refl, refl); words_are = refl; told = λ other word more same also. absurd (none other (word, more, same, also)) }
+pub none_told : (told : Option ℕ) → is_some told ≡ false → told ≡ None
+none_told None is = refl
+none_told (Some value) is = cc
 
--- an option that stands there is what was taken, where the words behind it don't begin with its name
-takes_so : (name : List ℕ) (most usual value other : ℕ) (words rest front back : List (List ℕ)) → TakesOption name most usual value words rest
-    → IsOptionOf name most usual other front → words ≡ front ++ back → ¬ LeadsWith name back → (value ≡ other) × (rest ≡ back)
-takes_so name most usual value other words rest front back takes (inr (number, is, tells)) same apart =
-    takes.told other number back (same ∙ ap (λ front. front ++ back) is) tells
-takes_so name most usual value other words rest front back takes (inl (none, usually)) same apart =
-    only takes.front takes.is takes.words_are
-  where
-    here : words ≡ back
-    here = same ∙ ap (λ front. front ++ back) none
+-- what is told with an option by its name and its number
+abbrev told_by : Given → (name number : List ℕ) → Given
+told_by given name number =
+    if bytes_eq name (codes "--steps") then record given { steps = Some (digits_value 10 number) }
+    else (if bytes_eq name (codes "--frames") then record given { frames = Some (digits_value 10 number) }
+    else record given { blocks = Some (digits_value 10 number) })
 
-    only : (own : List (List ℕ)) → IsOptionOf name most usual value own → words ≡ own ++ rest → (value ≡ other) × (rest ≡ back)
-    only own (inl (nothing, also)) are = (also ∙ sym usually, sym (ap (λ own. own ++ rest) nothing) ∙ sym are ∙ here)
-    only own (inr (number, is, tells)) are = absurd (apart (number ∷ rest, sym here ∙ are ∙ ap (λ own. own ++ rest) is))
+next_is : (given next : Given) (name number : List ℕ) → AddsOption given number name next → next ≡ told_by given name number
+next_is given next name number (OfSteps value none tells) = ap (λ value. record given { steps = Some value }) tells.is
+next_is given next name number (OfFrames value none tells) = ap (λ value. record given { frames = Some value }) tells.is
+next_is given next name number (OfBlocks value none tells) = ap (λ value. record given { blocks = Some value }) tells.is
 
--- a word that is no option is no name of one, nor is one name another
-pub no_name : (name word : List ℕ) (behind : List (List ℕ)) → IsOption name → ¬ IsOption word → ¬ LeadsWith name (word ∷ behind)
-no_name name word behind option none (more, is) = none (subst IsOption (sym (heads is)) option)
+-- and its name is that of an option
+name_is : (given next : Given) (name number : List ℕ) → AddsOption given number name next → IsOption name
+name_is given next name number (OfSteps value none tells) = refl
+name_is given next name number (OfFrames value none tells) = refl
+name_is given next name number (OfBlocks value none tells) = refl
 
-pub leads_not : (name other : List ℕ) (most usual value : ℕ) (front behind : List (List ℕ)) (word : List ℕ) → IsOption name → ¬ (name ≡ other) → ¬ IsOption word
-    → IsOptionOf other most usual value front → ¬ LeadsWith name (front ++ word ∷ behind)
-leads_not name other most usual value front behind word option apart none (inl (nothing, usually)) (more, is) =
-    no_name name word behind option none (more, sym (ap (λ front. front ++ word ∷ behind) nothing) ∙ is)
-leads_not name other most usual value front behind word option apart none (inr (number, told, tells)) (more, is) =
-    apart (sym (heads (sym (ap (λ front. front ++ word ∷ behind) told) ∙ is)))
+one_next : (given next other : Given) (name number own more : List ℕ) → name ≡ own → number ≡ more → AddsOption given number name next → AddsOption given more own other → next ≡ other
+one_next given next other name number own more is same adds also =
+    next_is given next name number adds ∙ ap (λ name. told_by given name number) is ∙ ap (told_by given own) same ∙ sym (next_is given other own more also)
 
--- an option that the words don't begin with isn't in front
-not_in_front : (name : List ℕ) (most usual value : ℕ) (words front back : List (List ℕ)) → IsOptionOf name most usual value front → words ≡ front ++ back
-    → ¬ LeadsWith name words → front ≡ []
-not_in_front name most usual value words front back (inl (nothing, usually)) is apart = nothing
-not_in_front name most usual value words front back (inr (number, told, tells)) is apart =
-    absurd (apart (number ∷ back, is ∙ ap (λ front. front ++ back) told))
+-- options in front of words, behind which none stands that wasn't told, are those in front of a word that is none
+pub one_split : (given last other : Given) (front options rest behind : List (List ℕ)) (word : List ℕ) → Adds given front last → ((next : Given) → ¬ AddsFirst last next rest)
+    → Adds given options other → front ++ rest ≡ options ++ word ∷ behind → ¬ IsOption word → (last ≡ other) × (rest ≡ word ∷ behind)
+one_split given last other front options rest behind word NoMore stops NoMore same none = (refl, same)
+one_split given last other front options rest behind word NoMore stops (More {next = next} name number words adds more) same none =
+    absurd (stops next (record { name = name; number = number; behind = words ++ word ∷ behind; words_are = same; adds = adds }))
+one_split given last other front options rest behind word (More {next = next} name number words adds more) stops NoMore same none =
+    absurd (none (subst IsOption (heads same) (name_is given next name number adds)))
+one_split given last other front options rest behind word (More {next = next} name number words adds more) stops (More {next = again} own told others also beyond) same none =
+    let next_same : again ≡ next = sym (one_next given next again name number own told (heads same) (heads (tails same)) adds also) in
+    one_split next last other words others rest behind word more stops (subst (λ (given : Given). Adds given others other) next_same beyond) (tails (tails same)) none
 
--- two options that were taken one behind the other are those that stand there in either order
-pub both_so : (one other : List ℕ) (most usual many plenty value number first second : ℕ) (words middle rest ones others options behind : List (List ℕ)) (word : List ℕ)
-    → IsOption one → IsOption other → ¬ (one ≡ other) → TakesOption one most usual value words middle → TakesOption other many plenty number middle rest
-    → ¬ LeadsWith other words → IsOptionOf one most usual first ones → IsOptionOf other many plenty second others
-    → (options ≡ ones ++ others) ⊎ (options ≡ others ++ ones) → words ≡ options ++ word ∷ behind → ¬ IsOption word
-    → (value ≡ first) × (number ≡ second) × (rest ≡ word ∷ behind)
-both_so one other most usual many plenty value number first second words middle rest ones others options behind word option also apart takes then other_first of_one of_other order are none =
-    let (value_is, middle_is) = takes_so one most usual value first words middle ones (others ++ word ∷ behind) takes of_one in_order
-    (leads_not one other many plenty second others behind word option apart none of_other) in
-    let (number_is, rest_is) = takes_so other many plenty number second middle rest others (word ∷ behind) then of_other middle_is (no_name other word behind also none) in
-    (value_is, number_is, rest_is)
-  where
-    ordered : (options ≡ ones ++ others) ⊎ (options ≡ others ++ ones) → words ≡ ones ++ (others ++ word ∷ behind)
-    ordered (inl is) = are ∙ ap (λ options. options ++ word ∷ behind) is ∙ append_assoc ones others (word ∷ behind)
-    ordered (inr is) =
-        let here : words ≡ others ++ (ones ++ word ∷ behind) = are ∙ ap (λ options. options ++ word ∷ behind) is ∙ append_assoc others ones (word ∷ behind) in
-        let nothing = not_in_front other many plenty second words others (ones ++ word ∷ behind) of_other here other_first in
-        here ∙ ap (λ others. others ++ (ones ++ word ∷ behind)) nothing ∙ sym (ap (λ others. ones ++ (others ++ word ∷ behind)) nothing)
-
-    in_order : words ≡ ones ++ (others ++ word ∷ behind)
-    in_order = ordered order
-
--- what was taken in this order, and in the other one
-pub taken_front : (words front middle back rest : List (List ℕ)) → words ≡ front ++ middle → middle ≡ back ++ rest → words ≡ (front ++ back) ++ rest
-taken_front words front middle back rest are is = are ∙ ap (λ middle. front ++ middle) is ∙ sym (append_assoc front back rest)
-
-pub swapped : {One Other : Type 0} → One ⊎ Other → Other ⊎ One
-swapped (inl one) = inr one
-swapped (inr other) = inl other
+-- a word that is no option is none that wasn't told
+pub none_before : (given next : Given) (word : List ℕ) (behind : List (List ℕ)) → ¬ IsOption word → ¬ AddsFirst given next (word ∷ behind)
+none_before given next word behind none first = none (subst IsOption (sym (heads first.words_are)) (name_is given next first.name first.number first.adds))

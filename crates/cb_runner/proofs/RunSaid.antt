@@ -6,10 +6,10 @@ use Rattle.cb_runner.proofs.FewItems.{heads, tails}
 use Rattle.cb_runner.proofs.Plain.{few_arguments, few_behind}
 
 -- what stands behind the options of a run
-module _ (steps frames : ℕ) (words rest : List (List ℕ)) (takes : TakesOptions steps frames words rest) (own class : List ℕ) (behind : List (List ℕ)) (is : rest ≡ own ∷ class ∷ behind) where
+module _ (steps frames blocks : ℕ) (words rest : List (List ℕ)) (takes : TakesOptions steps frames blocks words rest) (own class : List ℕ) (behind : List (List ℕ)) (is : rest ≡ own ∷ class ∷ behind) where
   run_front : (folder : List ℕ) (run : Run) → (says : IsRun folder run words) → own ∷ class ∷ behind ≡ folder ∷ says.class ∷ says.behind
   run_front folder run says =
-      let (steps_are, frames_are, rest_is) = takes.told run.steps run.frames says.options folder (says.class ∷ says.behind) says.are_options says.words_are says.no_option in
+      let (told, rest_is) = takes.told says.told says.options folder (says.class ∷ says.behind) says.are_options says.words_are says.no_option in
       sym is ∙ rest_is
 
   pub no_folder : IsOption own → (folder : List ℕ) (run : Run) → IsRun folder run words → ⊥

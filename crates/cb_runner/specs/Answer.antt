@@ -10,11 +10,11 @@ use Rattle.cb_link.specs.Program.{Linked}
 use Rattle.cb_runner.specs.declared.cause.Cause.{Cause}
 use Rattle.cb_runner.specs.declared.cause.Cause.TheVariants.{BudgetSpent, ErrFault, Exited, FolderFault, HeapFull, InputFault, OutOfMemory, OutputFault, Refused, Returned, Uncaught, Usage}
 use Rattle.cb_runner.specs.Asm.{AssemblesText, ReadsBefore, ReadsBytes, ReadsText, text_limit}
-use Rattle.cb_runner.specs.Ending.{Ending, folder_fault, input_fault, out_of_memory, output_fault, usage}
+use Rattle.cb_runner.specs.Ending.{Ending, Remains, folder_fault, input_fault, out_of_memory, output_fault, usage}
 use Rattle.cb_runner.specs.List.{ListsFile}
 use Rattle.cb_runner.specs.Outside.{Content, Failures}
 use Rattle.cb_runner.specs.Run.{IsRunnable, RunsClass}
-use Rattle.cb_runner.specs.Running.{CutsInput, CutsMemory, CutsOutput}
+use Rattle.cb_runner.specs.Running.{CutsInput, CutsOutput}
 use Rattle.cb_runner.specs.Words.{Command, RunIn, ListOf, Assemble, Says, SaysNone}
 
 -- a command that nothing cuts short returns or is refused, or the program that it runs ends in another way
@@ -61,12 +61,10 @@ StopsShort left gave OfFolder command first last ending = ending ≡ folder_faul
 StopsShort left gave OfInput Assemble first last ending = (read : ℕ) × ReadsBefore left gave text_limit first last read × (ending ≡ input_fault read)
 StopsShort left gave fault command first last ending = ⊥
 
--- it is cut short so, or within what it prints. A run may be cut short before it begins, and then has left the input alone, or behind each of its
--- steps, and within one that asks the input
+-- it is cut short so, or within what it prints. A run may be cut short before it begins, and then has left the input alone; when it has begun, only by a
+-- call of the input, within a step that asks it, or one of the output, within a step that prints
 abbrev pub IsCutShort : {In : Type 0} → (In → Option (List ℕ)) → (In → ℕ → List ℕ → In → Type 0) → Fault → Command → Option Files → (first last : In) → Ending → Type 0
-IsCutShort left gave OfMemory (RunIn folder run) files first last ending =
-    ((ending ≡ out_of_memory 0) × (last ≡ first))
-    ⊎ ((program : Linked) × IsRunnable files folder run.main program × CutsMemory left gave run program first last ending)
+IsCutShort left gave OfMemory (RunIn folder run) files first last ending = (ending ≡ out_of_memory 0) × (last ≡ first)
 IsCutShort left gave OfFolder (RunIn folder run) files first last ending = (ending ≡ folder_fault) × (last ≡ first)
 IsCutShort left gave OfInput (RunIn folder run) files first last ending =
     (program : Linked) × IsRunnable files folder run.main program × CutsInput left gave run program first last ending
@@ -103,8 +101,9 @@ may_read (ListOf path) = false
 may_read other = true
 
 -- the answer of a call: an end to which the words are carried out, and what the objects hold and have counted then. What is left of an input
--- that tells bytes is told; words that list or say no command leave it alone
-pub record IsAnswer {In : Type 0} (left : In → Option (List ℕ)) (gave : In → ℕ → List ℕ → In → Type 0) (words : List (List ℕ)) (before now : Content In) (failed fails : Failures) (cause : Cause) : Type 0 where
+-- that tells bytes is told; words that list or say no command leave it alone. With it the call gives what a run leaves
+pub record IsAnswer {In : Type 0} (left : In → Option (List ℕ)) (gave : In → ℕ → List ℕ → In → Type 0) (words : List (List ℕ)) (before now : Content In) (failed fails : Failures) (cause : Cause)
+    (behind : Remains) : Type 0 where
   pub ending : Ending
   pub ends : Ends left gave words before.files before.input now.input ending
   pub files : now.files ≡ before.files
@@ -113,3 +112,4 @@ pub record IsAnswer {In : Type 0} (left : In → Option (List ℕ)) (gave : In �
   pub out : Appends before.out now.out ending.out
   pub err : IsTold ending cause before.err now.err
   pub counts : CountsEach ending cause failed fails
+  pub leaves : behind ≡ ending.remains

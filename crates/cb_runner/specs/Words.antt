@@ -1,5 +1,5 @@
 -- The words of the command line, as bytes of their UTF-8.
-use Rattle.std.specs.Prelude.{◌≡◌, ◌⊎◌, ℕ, ◌<◌, ◌≤◌, ◌^◌, Bool, true, false, not, ◌||◌, ◌==◌, if◌then◌else◌, List, [], ◌∷◌, ◌++◌, length, Some, slice_get, codes}
+use Rattle.std.specs.Prelude.{◌≡◌, ℕ, ◌<◌, ◌≤◌, ◌^◌, Bool, true, false, not, ◌||◌, ◌==◌, if◌then◌else◌, List, [], ◌∷◌, ◌++◌, length, Option, Some, None, slice_get, unwrap_or, codes}
 use Rattle.std.specs.Char.Escape.{encode_utf16}
 use Rattle.std.specs.List.{All, flat_map, list_all, slice_split}
 use Rattle.std.specs.Str.{chars}
@@ -61,25 +61,26 @@ pub record TellsNumber (most number : ℕ) (word : List ℕ) : Type 0 where
   pub least : 1 ≤ number
   pub within : number ≤ most
 
--- the words are an option with its value, or there is none, and the value is the usual one
-abbrev pub IsOptionOf : (name : List ℕ) (most usual value : ℕ) → List (List ℕ) → Type 0
-IsOptionOf name most usual value words =
-    ((words ≡ []) × (value ≡ usual)) ⊎ ((number : List ℕ) × (words ≡ name ∷ number ∷ []) × TellsNumber most value number)
+-- what options told: each at most once
+pub record Given : Type 0 where
+  pub steps : Option ℕ
+  pub frames : Option ℕ
+  pub blocks : Option ℕ
 
--- how many steps a run makes at most, and how many frames may stand
-abbrev pub IsSteps : ℕ → List (List ℕ) → Type 0
-IsSteps = IsOptionOf (codes "--steps") 10000000000 1000000000
+abbrev pub none_given : Given
+none_given = record { steps = None; frames = None; blocks = None }
 
-abbrev pub IsFrames : ℕ → List (List ℕ) → Type 0
-IsFrames = IsOptionOf (codes "--frames") 65536 4096
+-- a word is an option that wasn't told before, and the one behind it its value: how many steps a run makes at most, how many frames may stand,
+-- how many blocks a heap has at most. What is told with it
+pub data AddsOption (given : Given) (number : List ℕ) : List ℕ → Given → Type 0 where
+  OfSteps : (value : ℕ) → given.steps ≡ None → TellsNumber 10000000000 value number → AddsOption given number (codes "--steps") (record given { steps = Some value })
+  OfFrames : (value : ℕ) → given.frames ≡ None → TellsNumber 65536 value number → AddsOption given number (codes "--frames") (record given { frames = Some value })
+  OfBlocks : (value : ℕ) → given.blocks ≡ None → TellsNumber 1048576 value number → AddsOption given number (codes "--blocks") (record given { blocks = Some value })
 
--- both, in either order
-pub record AreOptions (steps frames : ℕ) (words : List (List ℕ)) : Type 0 where
-  pub one : List (List ℕ)
-  pub other : List (List ℕ)
-  pub of_steps : IsSteps steps one
-  pub of_frames : IsFrames frames other
-  pub order : (words ≡ one ++ other) ⊎ (words ≡ other ++ one)
+-- words are options in any order, each with its value behind it, of which none was told before. What is told then
+pub data Adds : Given → List (List ℕ) → Given → Type 0 where
+  NoMore : {given : Given} → Adds given [] given
+  More : {given next last : Given} (name number : List ℕ) (words : List (List ℕ)) → AddsOption given number name next → Adds next words last → Adds given (name ∷ number ∷ words) last
 
 -- a word that is kept for options: it begins with `-` and is longer
 abbrev pub IsDashed : List ℕ → Type 0
@@ -93,10 +94,12 @@ pub data AreArguments (words arguments : List (List ℕ)) : Type 0 where
   AllOf : ArePlain words → arguments ≡ words → AreArguments words arguments
   Parted : (front back : List (List ℕ)) → ArePlain front → words ≡ front ++ codes "--" ∷ back → arguments ≡ front ++ back → AreArguments words arguments
 
--- a run of the class of an internal name: how many steps it makes at most, how many frames may stand, and the words that are its arguments
+-- a run of the class of an internal name: how many steps it makes at most, how many frames may stand, how many blocks a heap has at most, and the
+-- words that are its arguments
 pub record Run : Type 0 where
   pub steps : ℕ
   pub frames : ℕ
+  pub blocks : ℕ
   pub main : List ℕ
   pub arguments : List (List ℕ)
 
@@ -105,8 +108,12 @@ pub record IsRun (folder : List ℕ) (run : Run) (words : List (List ℕ)) : Typ
   pub options : List (List ℕ)
   pub class : List ℕ
   pub behind : List (List ℕ)
+  pub told : Given
   pub words_are : words ≡ options ++ folder ∷ class ∷ behind
-  pub are_options : AreOptions run.steps run.frames options
+  pub are_options : Adds none_given options told
+  pub steps_are : run.steps ≡ unwrap_or told.steps 1000000000
+  pub frames_are : run.frames ≡ unwrap_or told.frames 4096
+  pub blocks_are : run.blocks ≡ unwrap_or told.blocks 16384
   pub no_option : ¬ IsOption folder
   pub is_main : IsMain class
   pub main_is : run.main ≡ internal_name class

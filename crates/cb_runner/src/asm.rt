@@ -1,5 +1,5 @@
 // The command `asm`.
-ghost use Rattle.std.specs.Prelude.{◌≡◌, ◌≤◌, length, Option};
+ghost use Rattle.std.specs.Prelude.{◌≡◌, ◌≤◌, length, None, Option};
 ghost use Rattle.cb_io.specs.Faults.{CountsFaults};
 ghost use Rattle.cb_io.specs.Folder.{Files};
 ghost use Rattle.cb_runner.specs.Answer.{EndsIn};
@@ -24,8 +24,8 @@ const MAX_TEXT_LENGTH: usize = 1_048_576;
 /// Prints the class file of the text that the input has.
 pub(crate) fn assemble_input<S: Source, O: Sink>(alloc: Global, input: &mut S, out: &mut O) -> Stop
     ensures ends { IsCarriedOut (λ ending. (files : Option Files) → EndsIn S.left S.gave Assemble files input.old input.new ending)
-        (S.left input.old) (S.left input.new) (O.taken out.old) (O.taken out.new) result }
-    ensures tells { TellsWhole result }
+        (S.left input.old) (S.left input.new) (O.taken out.old) (O.taken out.new) None result }
+    ensures tells { TellsWhole None result }
     ensures input_fault { CountsFaults (S.faults input.old) (S.faults input.new) (result ≡ stops.InputFault) }
     ensures output_fault { CountsFaults (O.faults out.old) (O.faults out.new) (result ≡ stops.OutputFault) }
 {

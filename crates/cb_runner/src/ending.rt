@@ -1,9 +1,11 @@
 // What is told at the end of a run.
-ghost use Rattle.std.specs.Prelude.{◌≡◌, map, ℕ, List, Option, Some};
-ghost use Rattle.cb_link.specs.Program.{Linked};
-ghost use Rattle.cb_plain.specs.State.{Object};
-ghost use Rattle.cb_interp.specs.declared.end.End.TheVariants as ends;
+ghost use Rattle.std.specs.Prelude.{◌≡◌, ℕ, Some};
+ghost use Rattle.cb_collector.specs.Held.{Held};
 ghost use Rattle.cb_heap.specs.declared.no_room.NoRoom.TheVariants as rooms;
+ghost use Rattle.cb_interp.specs.declared.end.End.TheVariants as ends;
+ghost use Rattle.cb_io.specs.declared.sure_sink.SureSink.{SureSink};
+ghost use Rattle.cb_link.specs.Program.{Linked};
+ghost use Rattle.cb_runner.specs.Executing.{MayRefuse};
 ghost use Rattle.cb_runner.specs.Inner.{IsRefusedStart, IsStopOf, MayTell, run_of};
 ghost use Rattle.cb_runner.specs.declared.cause.Cause.TheVariants as causes;
 ghost use Rattle.cb_runner.specs.declared.line.Line.TheVariants as lines;
@@ -18,24 +20,22 @@ use crate::stop::Stop;
 use cb_heap::NoRoom;
 use cb_interp::{End, exceptions_are_told};
 use cb_link::Program;
-use cb_mapheap::MapHeap;
 
-/// How a command stops whose run has ended so. A program and its store stay until an exception that found no handler is told.
-pub(crate) fn stop_of(program: Program, store: MapHeap, asked: &RunWords<'_>, end: End) -> Stop
+/// How a command stops whose run has ended so. A program stays until an exception that found no handler is told.
+pub(crate) fn stop_of(program: Program, asked: &RunWords<'_>, end: End) -> Stop
     requires linked { IsLinked program }
     requires fits { IsTyped program }
-    requires may { MayTell program (map Some store.objects) end }
     requires reported { end ≡ ends.ReportFault → ⊥ }
-    ensures { IsStopOf (run_of asked.now) program (map Some store.objects) end result }
+    requires roomy { end ≡ ends.OutOfMemory → ⊥ }
+    ensures { (store : Held SureSink) → MayTell program store.heap end → IsStopOf (run_of asked.now) program store end result }
 {
     exceptions_are_told();
     match end {
         End::Uncaught { class, at } => Stop::Told(
             Cause::Uncaught(class),
-            Line::Unhandled(Unhandled { program, store, at }),
+            Line::Unhandled(Unhandled { program, at }),
         ),
         other => {
-            drop(store);
             drop(program);
             caught(asked, other)
         }
@@ -45,8 +45,9 @@ pub(crate) fn stop_of(program: Program, store: MapHeap, asked: &RunWords<'_>, en
 /// How a command stops whose run has ended so, where that is for no exception.
 fn caught(asked: &RunWords<'_>, end: End) -> Stop
     requires reported { end ≡ ends.ReportFault → ⊥ }
+    requires roomy { end ≡ ends.OutOfMemory → ⊥ }
     requires caught { (class at : ℕ) → end ≡ ends.Uncaught class at → ⊥ }
-    ensures { (program : Linked) (objects : List (Option Object)) → IsStopOf (run_of asked.now) program objects end result }
+    ensures { (program : Linked) (store : Held SureSink) → IsStopOf (run_of asked.now) program store end result }
 {
     match end {
         End::Returned => Stop::Returned,
@@ -57,23 +58,23 @@ fn caught(asked: &RunWords<'_>, end: End) -> Stop
         End::InputFault => Stop::InputFault,
         End::OutputFault => Stop::OutputFault,
         End::ReportFault => unreachable!(),
-        End::OutOfMemory => Stop::OutOfMemory,
+        End::OutOfMemory => unreachable!(),
     }
 }
 
 /// How a command stops whose run hasn't begun for want of room.
 pub(crate) fn unbegun(reason: NoRoom) -> Stop
-    requires { reason ≡ rooms.ReportFault → ⊥ }
-    ensures { IsRefusedStart reason result }
+    requires { MayRefuse reason }
+    ensures { (store : Held SureSink) → IsRefusedStart (Some store) reason result }
 {
     match reason {
         NoRoom::Full { live, asked, limit } => full(live, asked, limit),
         NoRoom::ReportFault => unreachable!(),
-        NoRoom::OutOfMemory => Stop::OutOfMemory,
+        NoRoom::OutOfMemory => unreachable!(),
     }
 }
 
-/// Stops since there is no room, with so many words live, asked for and allowed.
+/// Stops since there is no room, with so many blocks live, asked for and allowed.
 fn full(live: u64, asked: u64, limit: u64) -> Stop
     ensures { result ≡ stops.Told causes.HeapFull (lines.Full live asked limit) }
 {

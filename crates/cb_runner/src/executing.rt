@@ -1,11 +1,10 @@
 // Running a program that is linked and typed.
-ghost use Rattle.std.specs.Prelude.{◌≡◌, map, IfErr, IfOk, Ok, Some, []};
-ghost use Rattle.cb_heap.specs.declared.no_room.NoRoom.TheVariants as rooms;
-ghost use Rattle.cb_interp.specs.Fit.{ShapesOf};
+ghost use Rattle.std.specs.Prelude.{◌≡◌, ◌<◌, ◌≤◌, ◌^◌, length, IfOk, Ok};
 ghost use Rattle.cb_interp.specs.Starting.{new_roots};
 ghost use Rattle.cb_interp.specs.declared.end.End.TheVariants as ends;
 ghost use Rattle.cb_io.specs.Faults.{CountsFaults};
-ghost use Rattle.cb_runner.specs.Executing.{ComesTo, HasBegun, IsPrepared, IsStopOver, MayStop, RunsToEnd};
+ghost use Rattle.cb_partheap.specs.Heaps.{objects_in, settings_in};
+ghost use Rattle.cb_runner.specs.Executing.{ComesTo, HasBegun, IsFirst, IsOfProgram, IsPrepared, IsStopOver, MayStop, RunsToEnd};
 ghost use Rattle.cb_runner.specs.Inner.{AreTexts, HasRunTo, run_of, words_of};
 ghost use Rattle.cb_runner.specs.Running.{texts_of as texts};
 ghost use Rattle.cb_runner.specs.Words.{AreFew};
@@ -16,14 +15,15 @@ ghost use Rattle.cb_verify.specs.Typed.{IsTyped};
 use crate::arguments::texts_of;
 use crate::ending::{stop_of, unbegun};
 use crate::run_words::RunWords;
-use crate::shapes::shapes_of;
 use crate::stop::Stop;
+use crate::stopped::Stopped;
+use crate::storing::make_store;
+use cb_collector::Collector;
 use cb_frames::Roots;
 use cb_heap::NoRoom;
 use cb_interp::{End, make_roots, run, start, starts_stand};
-use cb_io::{Sink, Source};
+use cb_io::{Sink, Source, SureSink};
 use cb_link::Program;
-use cb_mapheap::MapHeap;
 use cb_plain::{OutOfMemory, Request};
 use cb_safety::linked_has_start;
 use cb_text::{List, Units};
@@ -32,31 +32,33 @@ use std::alloc::Global;
 /// What a run begins with: a store without objects, new roots, and the arguments.
 #[derive(Drop)]
 pub(crate) struct Prepared {
-    pub store: MapHeap,
+    pub store: Collector<SureSink>,
     pub roots: Roots,
     pub given: List<Units>,
 }
 
-/// Runs a program that is linked and typed, as words say.
+/// Runs a program that is linked and typed, as words say. All memory is taken before its start.
 pub(crate) fn run_program<I: Source, O: Sink>(
     alloc: Global,
     program: Program,
     asked: &RunWords<'_>,
     input: &mut I,
     out: &mut O,
-) -> Stop
+) -> Stopped
     requires linked { IsLinked program }
     requires fits { IsTyped program }
     requires few { AreFew (words_of asked.now.arguments) }
-    ensures runs { HasRunTo I.left I.gave (run_of asked.now) program input.old input.new (O.taken out.old) (O.taken out.new) result }
-    ensures fault { CountsFaults (O.faults out.old) (O.faults out.new) (result ≡ stops.OutputFault) }
-    ensures read { CountsFaults (I.faults input.old) (I.faults input.new) (result ≡ stops.InputFault) }
+    requires steps { asked.now.steps ≤ 10000000000 }
+    requires blocks { asked.now.blocks ≤ 1048576 }
+    ensures runs { HasRunTo I.left I.gave (run_of asked.now) program input.old input.new (O.taken out.old) (O.taken out.new) result.store result.stop }
+    ensures fault { CountsFaults (O.faults out.old) (O.faults out.new) (result.stop ≡ stops.OutputFault) }
+    ensures read { CountsFaults (I.faults input.old) (I.faults input.new) (result.stop ≡ stops.InputFault) }
 {
     match prepare(alloc, &program, asked) {
         Ok(prepared) => run_prepared(program, prepared, asked, input, out),
         Err(OutOfMemory) => {
             drop(program);
-            Stop::OutOfMemory
+            Stopped::of(Stop::OutOfMemory)
         }
     }
 }
@@ -65,12 +67,12 @@ pub(crate) fn run_program<I: Source, O: Sink>(
 fn prepare(alloc: Global, program: &Program, asked: &RunWords<'_>) -> Result<Prepared, OutOfMemory>
     requires linked { IsLinked program.now }
     requires few { AreFew (words_of asked.now.arguments) }
+    requires blocks { asked.now.blocks ≤ 1048576 }
     ensures { IfOk result (IsPrepared (run_of asked.now) program.now) }
 {
     let given = texts_of(alloc, &asked.arguments)?;
-    let shapes = shapes_of(alloc, program)?;
     let roots = make_roots(alloc, program, asked.frames)?;
-    let store = MapHeap::make(alloc, shapes);
+    let store = make_store(alloc, program, asked)?;
     Ok(Prepared {
         store,
         roots,
@@ -85,13 +87,14 @@ fn run_prepared<I: Source, O: Sink>(
     asked: &RunWords<'_>,
     input: &mut I,
     out: &mut O,
-) -> Stop
+) -> Stopped
     requires linked { IsLinked program }
     requires fits { IsTyped program }
+    requires steps { asked.now.steps ≤ 10000000000 }
     requires ready { IsPrepared (run_of asked.now) program prepared }
-    ensures runs { HasRunTo I.left I.gave (run_of asked.now) program input.old input.new (O.taken out.old) (O.taken out.new) result }
-    ensures fault { CountsFaults (O.faults out.old) (O.faults out.new) (result ≡ stops.OutputFault) }
-    ensures read { CountsFaults (I.faults input.old) (I.faults input.new) (result ≡ stops.InputFault) }
+    ensures runs { HasRunTo I.left I.gave (run_of asked.now) program input.old input.new (O.taken out.old) (O.taken out.new) result.store result.stop }
+    ensures fault { CountsFaults (O.faults out.old) (O.faults out.new) (result.stop ≡ stops.OutputFault) }
+    ensures read { CountsFaults (I.faults input.old) (I.faults input.new) (result.stop ≡ stops.InputFault) }
 {
     let Prepared {
         mut store,
@@ -109,25 +112,28 @@ fn run_prepared<I: Source, O: Sink>(
     );
     drop(given);
     drop(roots);
-    stopped(program, store, asked, ended)
+    let stop = stop_over(program, &store, asked, ended);
+    Stopped {
+        stop,
+        store: Some(store),
+    }
 }
 
 /// How a command stops whose run has ended so, or hasn't begun for want of room.
-fn stopped(
+fn stop_over(
     program: Program,
-    store: MapHeap,
+    store: &Collector<SureSink>,
     asked: &RunWords<'_>,
     ended: Result<End, NoRoom>,
 ) -> Stop
     requires linked { IsLinked program }
     requires fits { IsTyped program }
-    requires may { MayStop program (map Some store.objects) ended }
-    ensures { IsStopOver (run_of asked.now) program (map Some store.objects) ended result }
+    requires may { MayStop program store.now.heap ended }
+    ensures { IsStopOver (run_of asked.now) program store.now ended result }
 {
     match ended {
-        Ok(end) => stop_of(program, store, asked, end),
+        Ok(end) => stop_of(program, asked, end),
         Err(reason) => {
-            drop(store);
             drop(program);
             unbegun(reason)
         }
@@ -137,7 +143,7 @@ fn stopped(
 /// Runs a program over a new store, with new roots. An error is that it hasn't begun for want of room.
 fn run_from<I: Source, O: Sink>(
     program: &Program,
-    store: &mut MapHeap,
+    store: &mut Collector<SureSink>,
     roots: &mut Roots,
     asked: &RunWords<'_>,
     given: &[Units],
@@ -146,14 +152,14 @@ fn run_from<I: Source, O: Sink>(
 ) -> Result<End, NoRoom>
     requires linked { IsLinked program.now }
     requires fits { IsTyped program.now }
-    requires shaped { ShapesOf program.now store.old.shapes }
-    requires empty { store.old.objects ≡ [] }
+    requires steps { asked.now.steps ≤ 10000000000 }
+    requires first { IsFirst (run_of asked.now) program.now store.old }
     requires new { roots.old.roots ≡ new_roots program.now }
     requires limit { roots.old.limit ≡ asked.now.frames }
     requires given { given.now ≡ texts (run_of asked.now) }
     requires texts { AreTexts (texts (run_of asked.now)) }
-    ensures comes { ComesTo I.left I.gave (run_of asked.now) program.now (map Some store.new.objects) input.old input.new (O.taken out.old) (O.taken out.new) result }
-    ensures may { MayStop program.now (map Some store.new.objects) result }
+    ensures comes { ComesTo I.left I.gave (run_of asked.now) program.now store.new input.old input.new (O.taken out.old) (O.taken out.new) result }
+    ensures may { MayStop program.now store.new.heap result }
     ensures fault { CountsFaults (O.faults out.old) (O.faults out.new) (result ≡ Ok ends.OutputFault) }
     ensures read { CountsFaults (I.faults input.old) (I.faults input.new) (result ≡ Ok ends.InputFault) }
 {
@@ -168,7 +174,7 @@ fn run_from<I: Source, O: Sink>(
 /// Runs a program from its start on.
 fn run_on<I: Source, O: Sink>(
     program: &Program,
-    store: &mut MapHeap,
+    store: &mut Collector<SureSink>,
     roots: &mut Roots,
     asked: &RunWords<'_>,
     input: &mut I,
@@ -176,15 +182,16 @@ fn run_on<I: Source, O: Sink>(
 ) -> End
     requires linked { IsLinked program.now }
     requires fits { IsTyped program.now }
-    requires shaped { ShapesOf program.now store.old.shapes }
+    requires steps { asked.now.steps ≤ 10000000000 }
+    requires of { IsOfProgram program.now (settings_in store.old.heap) }
     requires limit { roots.old.limit ≡ asked.now.frames }
     requires texts { AreTexts (texts (run_of asked.now)) }
-    requires begun { HasBegun (run_of asked.now) program.now store.old.objects roots.old.roots }
-    ensures comes { RunsToEnd I.left I.gave (run_of asked.now) program.now (map Some store.new.objects) input.old input.new (O.taken out.old) (O.taken out.new) result }
-    ensures may { MayStop program.now (map Some store.new.objects) (Ok result) }
+    requires begun { HasBegun (run_of asked.now) program.now store.old roots.old.roots }
+    ensures comes { RunsToEnd I.left I.gave (run_of asked.now) program.now store.new input.old input.new (O.taken out.old) (O.taken out.new) result }
+    ensures may { MayStop program.now store.new.heap (Ok result) }
     ensures fault { CountsFaults (O.faults out.old) (O.faults out.new) (result ≡ ends.OutputFault) }
     ensures read { CountsFaults (I.faults input.old) (I.faults input.new) (result ≡ ends.InputFault) }
 {
-    starts_stand::<MapHeap>();
+    starts_stand::<Collector<SureSink>>();
     run(program, store, roots, input, out, asked.steps)
 }

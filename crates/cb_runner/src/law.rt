@@ -21,7 +21,9 @@ ghost use Rattle.cb_runner.specs.Ending.{Ending, refused, returned};
 ghost use Rattle.cb_runner.specs.List.{IsListed, LeavesOut};
 ghost use Rattle.cb_runner.specs.Messages.{Reason, MissingClass, Malformed, BadVersion, Unsupported, TooLarge, BadLine};
 ghost use Rattle.cb_runner.specs.Run.{AreNoProgram, AreProgram, AreTyped, AreUntyped, IsRunnable, file_limit, reason_of_linking};
-ghost use Rattle.cb_runner.specs.Running.{ComesToTold, EndsRun, HasRoom, Reaches};
+ghost use Rattle.cb_act.specs.Turning.{Moment};
+ghost use Rattle.cb_collector.specs.Known.{Known};
+ghost use Rattle.cb_runner.specs.Running.{ComesTo, ComesToTold, EndsRun, Reaches, config_of, machine_of, start_of};
 ghost use Rattle.cb_runner.specs.Words.{Assemble, Command, ListOf, Run, RunIn, Says, SaysNone};
 ghost use Rattle.cb_runner.specs.declared.cause.Cause.TheVariants as causes;
 ghost use Rattle.cb_link.specs.declared.refusal.Quantity.TheVariants.{ClassFileBytes, AssemblyBytes};
@@ -32,7 +34,7 @@ use cb_io::Source;
 use cb_link::one_judgement;
 use cb_load::one_loading;
 
-/// Words say one command at most: one folder or path, and of a run one class, one budget, one limit of frames and one list of arguments.
+/// Words say one command at most: one folder or path, and of a run one class, one budget, one limit of frames, one number of blocks and one list of arguments.
 pub fn one_command()
     ensures { (words : List (List ℕ)) (one other : Command) → Says words one → Says words other → one ≡ other }
 {}
@@ -129,7 +131,7 @@ pub fn asm_exactly<I: Source>()
 /// for the same room, also where it asks the input.
 pub fn told_runs<I: Source>()
     ensures { (machine : Machine) (given : List (List ℕ)) (bytes : List ℕ) (first last : I) (count : ℕ) (read : List ℕ) (state : State)
-        → I.left first ≡ Some bytes → Reaches I.left I.gave (HasRoom machine) machine (at machine given [] 0) first count read state last
+        → I.left first ≡ Some bytes → Reaches I.left I.gave machine (at machine given [] 0) first count read state last
         → ComesToTold machine given bytes count read state (I.left last) }
 {
     leaves_unread();
@@ -137,3 +139,12 @@ pub fn told_runs<I: Source>()
     requests_alike();
     ends_alike();
 }
+
+/// A collecting run makes the steps of the machine that never frees, and its store stays of the blocks and the part with which it was made.
+pub fn never_frees<I: Source>()
+    ensures steps { (run : Run) (program : Linked) (first last : I) (count : ℕ) (read : List ℕ) (moment : Moment Known) (state : State)
+        → ComesTo I.left I.gave run program first count read moment state last
+        → Reaches I.left I.gave (machine_of run program) (start_of run program) first count read state last }
+    ensures config { (run : Run) (program : Linked) (first last : I) (count : ℕ) (read : List ℕ) (moment : Moment Known) (state : State)
+        → ComesTo I.left I.gave run program first count read moment state last → moment.facts.config ≡ config_of run program }
+{}

@@ -26,6 +26,7 @@ mod limits;
 mod line;
 mod linking;
 mod list;
+mod one_part;
 mod option;
 mod printing;
 mod refusal;
@@ -33,15 +34,17 @@ mod run;
 mod run_words;
 mod shapes;
 mod stop;
+mod stopped;
+mod storing;
 mod verifying;
 mod words;
 
 pub use cause::Cause;
 pub use command::run_command;
-pub use ended::{Ended, Tally};
+pub use ended::Ended;
 pub use few::are_few;
 pub use law::{
-    asm_exactly, list_exactly, one_command, refused_silently, run_exactly, told_runs,
+    asm_exactly, list_exactly, never_frees, one_command, refused_silently, run_exactly, told_runs,
     usage_exactly, whole_exactly,
 };
 pub use refusal::Refusal;

@@ -1,16 +1,16 @@
 // The last line of a program that was run.
 ghost use Rattle.std.specs.Fmt.{decimal};
-ghost use Rattle.std.specs.Prelude.{◌++◌, IsErr};
+ghost use Rattle.std.specs.Prelude.{◌++◌, IsErr, Some};
 ghost use Rattle.cb_interp.specs.Texts.{Writes};
 ghost use Rattle.cb_io.specs.Faults.{CountsFaults};
 ghost use Rattle.cb_runner.specs.Inner.{CanBeTold, IsUnhandled, line_text, unhandled_line};
 ghost use Rattle.cb_runner.specs.Running.{full_line, spent_line};
 ghost use Rattle.cb_heap.specs.declared.no_room.NoRoom.TheVariants.{Full};
 
+use cb_collector::Collector;
 use cb_interp::write_exception;
-use cb_io::{Failed, Sink, write_all};
+use cb_io::{Failed, Sink, SureSink, write_all};
 use cb_link::Program;
-use cb_mapheap::MapHeap;
 use itoa::Buffer;
 
 /// The last line of a program that was run, which takes no memory to be written.
@@ -28,21 +28,27 @@ pub(crate) enum Line {
 #[derive(Drop)]
 pub(crate) struct Unhandled {
     pub program: Program,
-    pub store: MapHeap,
     pub at: u64,
 }
 
 impl Line {
-    /// Writes it. After a failed call a proper prefix of it was taken.
-    pub(crate) fn write<E: Sink>(&self, err: &mut E) -> Result<(), Failed>
-        requires { CanBeTold self.now }
-        ensures written { Writes (E.taken err.old) (E.taken err.new) (line_text self.now) result }
+    /// Writes it, by the store of the run. After a failed call a proper prefix of it was taken.
+    pub(crate) fn write<E: Sink>(
+        &self,
+        store: &Option<Collector<SureSink>>,
+        err: &mut E,
+    ) -> Result<(), Failed>
+        requires { CanBeTold store.now self.now }
+        ensures written { Writes (E.taken err.old) (E.taken err.new) (line_text store.now self.now) result }
         ensures cause { CountsFaults (E.faults err.old) (E.faults err.new) (IsErr result) }
     {
         match self {
             Line::Spent(steps) => write_spent(*steps, err),
             Line::Full { live, asked, limit } => write_full(*live, *asked, *limit, err),
-            Line::Unhandled(exception) => write_unhandled(exception, err),
+            Line::Unhandled(exception) => match store {
+                Some(store) => write_unhandled(exception, store, err),
+                None => unreachable!(),
+            },
         }
     }
 }
@@ -78,11 +84,15 @@ fn write_number<E: Sink>(text: &[u8], number: u64, err: &mut E) -> Result<(), Fa
 }
 
 /// Writes an exception that found no handler.
-fn write_unhandled<E: Sink>(exception: &Unhandled, err: &mut E) -> Result<(), Failed>
-    requires { IsUnhandled exception.now }
-    ensures written { Writes (E.taken err.old) (E.taken err.new) (unhandled_line exception.now) result }
+fn write_unhandled<E: Sink>(
+    exception: &Unhandled,
+    store: &Collector<SureSink>,
+    err: &mut E,
+) -> Result<(), Failed>
+    requires { IsUnhandled store.now.heap exception.now }
+    ensures written { Writes (E.taken err.old) (E.taken err.new) (unhandled_line (Some store.now) exception.now) result }
     ensures cause { CountsFaults (E.faults err.old) (E.faults err.new) (IsErr result) }
 {
     write_all(err, b"Exception in thread \"main\" ")?;
-    write_exception(&exception.program, &exception.store, exception.at, err)
+    write_exception(&exception.program, store, exception.at, err)
 }

@@ -1,5 +1,5 @@
 // The command `list`.
-ghost use Rattle.std.specs.Prelude.{◌≡◌, ℕ, List, Option};
+ghost use Rattle.std.specs.Prelude.{◌≡◌, ℕ, List, None, Option};
 ghost use Rattle.std.specs.Io.KnownBytes.{Appends};
 ghost use Rattle.cb_io.specs.Faults.{CountsFaults};
 ghost use Rattle.cb_io.specs.Folder.{FindsAt};
@@ -28,7 +28,7 @@ pub(crate) fn list_file<F: Folder, O: Sink>(
     ensures ends { (printed : List ℕ) × Appends (O.taken out.old) (O.taken out.new) printed
         × ListsTo path.now (F.files folder.old) result printed }
     ensures kept { F.files folder.new ≡ F.files folder.old }
-    ensures tells { TellsWhole result }
+    ensures tells { TellsWhole None result }
     ensures folder_fault { CountsFaults (F.faults folder.old) (F.faults folder.new) (result ≡ stops.FolderFault) }
     ensures output_fault { CountsFaults (O.faults out.old) (O.faults out.new) (result ≡ stops.OutputFault) }
 {

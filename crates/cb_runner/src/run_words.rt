@@ -8,11 +8,12 @@ use crate::class_name::names_class;
 use crate::limits::limits_of;
 use crate::words::is_option;
 
-/// A run of a class in a folder: how many steps it makes at most, how many frames may stand, and its arguments.
+/// A run of a class in a folder: how many steps it makes at most, how many frames may stand, how many blocks a heap has at most, and its arguments.
 #[derive(Clone, Copy, Debug)]
 pub(crate) struct RunWords<'a> {
     pub steps: u64,
     pub frames: u32,
+    pub blocks: u32,
     pub folder: &'a str,
     pub class: &'a str,
     pub arguments: Arguments<'a>,
@@ -45,6 +46,7 @@ fn run_behind(words: &[String]) -> Option<RunWords<'_>>
         Some(arguments) => Some(RunWords {
             steps: limits.steps,
             frames: limits.frames,
+            blocks: limits.blocks,
             folder: folder.as_str(),
             class: class.as_str(),
             arguments,

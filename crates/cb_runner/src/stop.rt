@@ -3,12 +3,13 @@ ghost use Rattle.std.specs.Prelude.{◌≡◌, List, ℕ, IsErr};
 ghost use Rattle.cb_interp.specs.Texts.{Writes};
 ghost use Rattle.cb_io.specs.Faults.{CountsFaults};
 ghost use Rattle.cb_runner.specs.Answer.{IsTold};
-ghost use Rattle.cb_runner.specs.Inner.{IsKnownLine, IsRefusal, TellsWhole, cause_of, ending_of, line_of};
+ghost use Rattle.cb_runner.specs.Inner.{IsKnownLine, IsRefusal, TellsWhole, cause_of, ending_with, line_of};
 ghost use Rattle.cb_runner.specs.Messages.{MissingClass, reason_of};
 
 use crate::line::Line;
 use crate::{Cause, Refusal};
-use cb_io::{Failed, Sink, write_all};
+use cb_collector::Collector;
+use cb_io::{Failed, Sink, SureSink, write_all};
 use cb_plain::OutOfMemory;
 use std::alloc::Global;
 
@@ -68,32 +69,29 @@ impl Stop {
     }
 
     /// Writes the last line, and gives the cause that is then the call's.
-    pub(crate) fn tell<E: Sink>(self, err: &mut E) -> Cause
-        requires whole { TellsWhole self }
-        ensures told { (out : List ℕ) (read : ℕ) → IsTold (ending_of self out read) result (E.taken err.old) (E.taken err.new) }
+    pub(crate) fn tell<E: Sink>(&self, store: &Option<Collector<SureSink>>, err: &mut E) -> Cause
+        requires whole { TellsWhole store.now self.now }
+        ensures told { (out : List ℕ) (read : ℕ) → IsTold (ending_with store.now self.now out read) result (E.taken err.old) (E.taken err.new) }
         ensures fault { CountsFaults (E.faults err.old) (E.faults err.new) (result ≡ Cause.ErrFault) }
     {
-        match self.write_line(err) {
-            Ok(()) => {
-                let cause = self.cause();
-                drop(self);
-                cause
-            }
-            Err(Failed) => {
-                drop(self);
-                Cause::ErrFault
-            }
+        match self.write_line(store, err) {
+            Ok(()) => self.cause(),
+            Err(Failed) => Cause::ErrFault,
         }
     }
 
     /// Writes the last line. After a failed call a proper prefix of it was taken.
-    fn write_line<E: Sink>(&self, err: &mut E) -> Result<(), Failed>
-        requires { TellsWhole self.now }
-        ensures written { Writes (E.taken err.old) (E.taken err.new) (line_of self.now) result }
+    fn write_line<E: Sink>(
+        &self,
+        store: &Option<Collector<SureSink>>,
+        err: &mut E,
+    ) -> Result<(), Failed>
+        requires { TellsWhole store.now self.now }
+        ensures written { Writes (E.taken err.old) (E.taken err.new) (line_of store.now self.now) result }
         ensures cause { CountsFaults (E.faults err.old) (E.faults err.new) (IsErr result) }
     {
         match self {
-            Stop::Told(_, line) => line.write(err),
+            Stop::Told(_, line) => line.write(store, err),
             other => write_all(err, other.known_line().as_bytes()),
         }
     }

@@ -1,6 +1,6 @@
 use Rattle.std.proofs.Common.{◌≡◌, ◌⊎◌, inl, inr, ℤ, ℕ, List, Option, refl, sym, ◌∙◌, ap, arith}
 use Rattle.cb_runner.specs.Answer.{IsAnswer}
-use Rattle.cb_runner.specs.Ending.{status_of}
+use Rattle.cb_runner.specs.Ending.{Remains, status_of}
 use Rattle.cb_runner.specs.Outside.{Content, Failures}
 use Rattle.cb_runner.specs.Words.{SaysNone, SaysRun}
 use Rattle.cb_runner.specs.declared.cause.Cause.{Cause}
@@ -28,24 +28,24 @@ status_told status cause is (inl usage) = inl (is ∙ ap status_of usage)
 status_told status cause is (inr fault) = inr (is ∙ ap status_of fault)
 
 -- by the whole answer of the call
-none_said : {In : Type 0} (left : In → Option (List ℕ)) (gave : In → ℕ → List ℕ → In → Type 0) (words : List (List ℕ)) (before now : Content In) (failed fails : Failures) (cause : Cause) → IsAnswer left gave words before now failed fails cause → cause ≡ Usage → SaysNone words
-none_said left gave words before now failed fails cause answer is = told_none left gave words before.files before.input now.input before.err now.err answer.ending cause answer.ends answer.err is
+none_said : {In : Type 0} (left : In → Option (List ℕ)) (gave : In → ℕ → List ℕ → In → Type 0) (words : List (List ℕ)) (before now : Content In) (failed fails : Failures) (cause : Cause) (behind : Remains) → IsAnswer left gave words before now failed fails cause behind → cause ≡ Usage → SaysNone words
+none_said left gave words before now failed fails cause behind answer is = told_none left gave words before.files before.input now.input before.err now.err answer.ending cause answer.ends answer.err is
 
-said_none : {In : Type 0} (left : In → Option (List ℕ)) (gave : In → ℕ → List ℕ → In → Type 0) (words : List (List ℕ)) (before now : Content In) (failed fails : Failures) (cause : Cause) → IsAnswer left gave words before now failed fails cause → SaysNone words → (cause ≡ Usage) ⊎ (cause ≡ ErrFault)
-said_none left gave words before now failed fails cause answer none = none_told left gave words before.files before.input now.input before.err now.err answer.ending cause answer.ends answer.err none
+said_none : {In : Type 0} (left : In → Option (List ℕ)) (gave : In → ℕ → List ℕ → In → Type 0) (words : List (List ℕ)) (before now : Content In) (failed fails : Failures) (cause : Cause) (behind : Remains) → IsAnswer left gave words before now failed fails cause behind → SaysNone words → (cause ≡ Usage) ⊎ (cause ≡ ErrFault)
+said_none left gave words before now failed fails cause behind answer none = none_told left gave words before.files before.input now.input before.err now.err answer.ending cause answer.ends answer.err none
 
-said_so : {In : Type 0} (left : In → Option (List ℕ)) (gave : In → ℕ → List ℕ → In → Type 0) (words : List (List ℕ)) (before now : Content In) (failed fails : Failures) (cause : Cause) → IsAnswer left gave words before now failed fails cause
+said_so : {In : Type 0} (left : In → Option (List ℕ)) (gave : In → ℕ → List ℕ → In → Type 0) (words : List (List ℕ)) (before now : Content In) (failed fails : Failures) (cause : Cause) (behind : Remains) → IsAnswer left gave words before now failed fails cause behind
     → (cause ≡ Usage) ⊎ ((status : ℤ) × (cause ≡ Exited status)) → SaysNone words ⊎ SaysRun words
-said_so left gave words before now failed fails cause answer (inl usage) = inl (none_said left gave words before now failed fails cause answer usage)
-said_so left gave words before now failed fails cause answer (inr (status, exits)) =
+said_so left gave words before now failed fails cause behind answer (inl usage) = inl (none_said left gave words before now failed fails cause behind answer usage)
+said_so left gave words before now failed fails cause behind answer (inr (status, exits)) =
     inr (told_run left gave words before.files before.input now.input before.err now.err answer.ending cause status answer.ends answer.err exits)
 
 pub returns-clause-usage : goal.returns-clause-usage
 returns-clause-usage c = λ is.
-    let (cause, status, answer) = c.exit_code.ensures.answer in
-    said_so _ _ _ _ _ _ _ cause answer (usage_alone cause (sym status ∙ is))
+    let (cause, behind, status, answer) = c.exit_code.ensures.answer in
+    said_so _ _ _ _ _ _ _ cause behind answer (usage_alone cause (sym status ∙ is))
 
 pub returns-clause-none : goal.returns-clause-none
 returns-clause-none c = λ none.
-    let (cause, status, answer) = c.exit_code.ensures.answer in
-    status_told _ cause status (said_none _ _ _ _ _ _ _ cause answer none)
+    let (cause, behind, status, answer) = c.exit_code.ensures.answer in
+    status_told _ cause status (said_none _ _ _ _ _ _ _ cause behind answer none)

@@ -1,6 +1,9 @@
-use Rattle.std.proofs.Common.{ap, map, pred, refl, subst, sym, Some}
+use Rattle.std.proofs.Common.{◌≡◌, ap, refl, subst, sym, Some}
+use Rattle.cb_collector.specs.Held.{Held}
 use Rattle.cb_heap.specs.Reading.{serial_of}
 use Rattle.cb_interp.specs.declared.end.End.{End}
+use Rattle.cb_io.specs.declared.sure_sink.SureSink.{SureSink}
+use Rattle.cb_partheap.specs.Heaps.{index_in, objects_in}
 use Rattle.cb_runner.specs.Inner.{IsStopOf, MayTell, run_of}
 use Rattle.cb_runner.specs.Running.{exception_line}
 use Rattle.cb_runner.specs.declared.cause.Cause.TheVariants as causes
@@ -10,18 +13,17 @@ use Rattle.cb_runner.proofs.Told.{told_units}
 use Rattle.cb_runner.proofs.ending.stop_of.Goals as goal
 
 pub returns-in-Uncaught : goal.returns-in-Uncaught
-returns-in-Uncaught c =
+returns-in-Uncaught c = λ store may.
     let program = c.args.program in
-    let objects = map Some c.args.store.objects in
-    let serial = serial_of pred c.in-Uncaught.at in
-    let (heap, thrown) = subst (MayTell program objects) c.in-Uncaught.is c.requires.may in
-    let (units, tells) = c.exceptions_are_told.ensures.told program objects serial c.requires.linked c.requires.fits heap thrown in
-    subst (λ (end : End). IsStopOf (run_of c.args.asked.now) program objects end
-    (stops.Told (causes.Uncaught c.in-Uncaught.class) (lines.Unhandled (record { program = program; store = c.args.store; at = c.in-Uncaught.at })))) (sym c.in-Uncaught.is) (
+    let serial = serial_of (index_in store.heap) c.in-Uncaught.at in
+    let (heap, thrown) = subst (MayTell program store.heap) c.in-Uncaught.is may in
+    let (units, tells) = c.exceptions_are_told.ensures.told program (objects_in store.heap) serial c.requires.linked c.requires.fits heap thrown in
+    subst (λ (end : End). IsStopOf (run_of c.args.asked.now) program store end
+    (stops.Told (causes.Uncaught c.in-Uncaught.class) (lines.Unhandled (record { program = program; at = c.in-Uncaught.at })))) (sym c.in-Uncaught.is) (
       units,
       tells,
-      (refl, ap exception_line (told_units program objects serial units tells), record { linked = c.requires.linked; fits = c.requires.fits; heap = heap; thrown = thrown }),
+      (refl, ap exception_line (told_units program (objects_in store.heap) serial units tells), record { linked = c.requires.linked; fits = c.requires.fits; objects = heap; thrown = thrown }),
     )
 
 pub returns-in_default : goal.returns-in_default
-returns-in_default c = c.caught.ensures c.args.program (map Some c.args.store.objects)
+returns-in_default c = λ store may. c.caught.ensures c.args.program store

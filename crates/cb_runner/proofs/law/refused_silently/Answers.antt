@@ -33,16 +33,16 @@ full_apart : HeapFull ≡ Refused → ⊥
 full_apart is = cc
 
 begun_unrefused : {In : Type 0} (left : In → Option (List ℕ)) (gave : In → ℕ → List ℕ → In → Type 0) (run : Run) (program : Linked) (first last : In) (ending : Ending) → EndsBegun left gave run program first last ending → ending.cause ≡ Refused → ⊥
-begun_unrefused left gave run program first last ending (Returns count read state within comes returns is) refused = unrefused ending _ is refl refused
-begun_unrefused left gave run program first last ending (Exits count read state status within comes exits is) refused = exited_apart status (other_cause ending _ is refused)
-begun_unrefused left gave run program first last ending (Throws count read state serial object units within comes throws there tells is) refused =
+begun_unrefused left gave run program first last ending (Returns count read moment state within comes returns leaves is) refused = unrefused ending _ is refl refused
+begun_unrefused left gave run program first last ending (Exits count read moment state status within comes exits leaves is) refused = exited_apart status (other_cause ending _ is refused)
+begun_unrefused left gave run program first last ending (Throws count read moment state serial object units within comes throws there tells leaves is) refused =
     uncaught_apart object.kind (other_cause ending _ is refused)
-begun_unrefused left gave run program first last ending (Spends read state comes runs is) refused = spent_apart (other_cause ending _ is refused)
-begun_unrefused left gave run program first last ending (Fills count read state below comes fills is) refused = full_apart (other_cause ending _ is refused)
+begun_unrefused left gave run program first last ending (Spends read moment state comes runs leaves is) refused = spent_apart (other_cause ending _ is refused)
+begun_unrefused left gave run program first last ending (Fills count read moment after state live asked limit below comes refuses leaves is) refused = full_apart (other_cause ending _ is refused)
 
 run_unrefused : {In : Type 0} (left : In → Option (List ℕ)) (gave : In → ℕ → List ℕ → In → Type 0) (run : Run) (program : Linked) (first last : In) (ending : Ending) → EndsRun left gave run program first last ending → ending.cause ≡ Refused → ⊥
-run_unrefused left gave run program first last ending (inl (fills, alone, is)) refused = full_apart (other_cause ending _ is refused)
-run_unrefused left gave run program first last ending (inr (begins, ends)) refused = begun_unrefused left gave run program first last ending ends refused
+run_unrefused left gave run program first last ending (inl (fills, alone)) refused = full_apart (other_cause ending _ fills.is refused)
+run_unrefused left gave run program first last ending (inr ends) refused = begun_unrefused left gave run program first last ending ends refused
 
 silent_refusal : (files : Option Files) (folder : List ℕ) (run : Run) (ending : Ending) → IsRefusedRun files folder run ending → (ending.out ≡ []) × (ending.read ≡ 0)
 silent_refusal files folder run ending (Stopped refusal reason stops says is) = (ap (λ e. e.out) is, ap (λ e. e.read) is)

@@ -13,40 +13,40 @@ returns-in-Ok-clause-ends g c =
       read = done.read;
       appends = done.appends;
       left = done.remains;
-      ends = run_ends g.I.Source.left g.I.Source.gave _ c.args.input.now c.run_program.new.input _ (run_of c.args.asked.now) c.in-Ok.program c.run_program.result done.printed done.read
+      ends = run_ends g.I.Source.left g.I.Source.gave _ c.args.input.now c.run_program.new.input _ (run_of c.args.asked.now) c.in-Ok.program c.run_program.result.store c.run_program.result.stop done.printed done.read
           c.in-Ok.ensures.runnable done.runs;
     }
 
 pub returns-in-Ok-clause-tells : goal.returns-in-Ok-clause-tells
 returns-in-Ok-clause-tells g c =
     let done = c.run_program.ensures.runs in
-    runs_tell g.I.Source.left g.I.Source.gave (g.F.Folder.files c.args.folder.now) c.args.input.now c.run_program.new.input (run_of c.args.asked.now) c.in-Ok.program c.run_program.result done.printed
+    runs_tell g.I.Source.left g.I.Source.gave (g.F.Folder.files c.args.folder.now) c.args.input.now c.run_program.new.input (run_of c.args.asked.now) c.in-Ok.program c.run_program.result.store c.run_program.result.stop done.printed
     done.read done.runs done.ready
 
 pub returns-in-Ok-clause-folder_fault : goal.returns-in-Ok-clause-folder_fault
 returns-in-Ok-clause-folder_fault g c =
     let done = c.run_program.ensures.runs in
     quiet_count _ _ (not_failed c.in-Ok.program stops.FolderFault)
-    (runs_quietly g.I.Source.left g.I.Source.gave (g.F.Folder.files c.args.folder.now) c.args.input.now c.run_program.new.input (run_of c.args.asked.now) c.in-Ok.program c.run_program.result done.printed
+    (runs_quietly g.I.Source.left g.I.Source.gave (g.F.Folder.files c.args.folder.now) c.args.input.now c.run_program.new.input (run_of c.args.asked.now) c.in-Ok.program c.run_program.result.store c.run_program.result.stop done.printed
     done.read done.runs) c.in-Ok.ensures.fault
 
 pub returns-in-Err-clause-ends : goal.returns-in-Err-clause-ends
-returns-in-Err-clause-ends g c = record {
+returns-in-Err-clause-ends g c = rw (c.of.ensures.stop, c.of.ensures.store) (record {
   printed = [];
   read = 0;
   appends = Appends-nothing _;
   left = nothing_read (g.I.Source.left c.args.input.now);
   ends = run_at_once g.I.Source.left g.I.Source.gave _ (run_of c.args.asked.now) _ c.args.input.now c.in-Err.stop c.in-Err.ensures.stopped;
-}
+})
 
 pub returns-in-Err-clause-tells : goal.returns-in-Err-clause-tells
 returns-in-Err-clause-tells g c =
-    at_once_tells (IsRefusedRun (g.F.Folder.files c.args.folder.now) c.args.asked.now.folder.now (run_of c.args.asked.now)) c.in-Err.stop c.in-Err.ensures.stopped
+    rw (c.of.ensures.stop, c.of.ensures.store) (at_once_tells (IsRefusedRun (g.F.Folder.files c.args.folder.now) c.args.asked.now.folder.now (run_of c.args.asked.now)) c.in-Err.stop c.in-Err.ensures.stopped)
 
 pub returns-in-Err-clause-input_fault : goal.returns-in-Err-clause-input_fault
 returns-in-Err-clause-input_fault g c =
-    unchanged_count _ (at_once_quietly (IsRefusedRun (g.F.Folder.files c.args.folder.now) c.args.asked.now.folder.now (run_of c.args.asked.now)) c.in-Err.stop c.in-Err.ensures.stopped).0
+    rw c.of.ensures.stop (unchanged_count _ (at_once_quietly (IsRefusedRun (g.F.Folder.files c.args.folder.now) c.args.asked.now.folder.now (run_of c.args.asked.now)) c.in-Err.stop c.in-Err.ensures.stopped).0)
 
 pub returns-in-Err-clause-output_fault : goal.returns-in-Err-clause-output_fault
 returns-in-Err-clause-output_fault g c =
-    unchanged_count _ (at_once_quietly (IsRefusedRun (g.F.Folder.files c.args.folder.now) c.args.asked.now.folder.now (run_of c.args.asked.now)) c.in-Err.stop c.in-Err.ensures.stopped).1
+    rw c.of.ensures.stop (unchanged_count _ (at_once_quietly (IsRefusedRun (g.F.Folder.files c.args.folder.now) c.args.asked.now.folder.now (run_of c.args.asked.now)) c.in-Err.stop c.in-Err.ensures.stopped).1)

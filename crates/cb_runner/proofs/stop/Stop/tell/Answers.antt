@@ -4,4 +4,4 @@ use Rattle.cb_runner.proofs.stop.Stop.tell.Goals as goal
 
 pub returns-in-Ok-clause-fault : goal.returns-in-Ok-clause-fault
 returns-in-Ok-clause-fault g c =
-    quiet_count _ _ (λ failed. cc) (λ is. tells_no_fault c.args.self c.requires.whole (sym c.cause-cause.ensures ∙ is)) c.in-Ok.ensures.cause
+    quiet_count _ _ (λ failed. cc) (λ is. tells_no_fault c.args.store.now c.args.self.now c.requires.whole (sym c.cause.ensures ∙ is)) c.in-Ok.ensures.cause
