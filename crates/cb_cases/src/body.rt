@@ -4,7 +4,7 @@ use crate::content::assembled;
 use crate::setup::Setup;
 use crate::trouble::Trouble;
 use cb_runner::Cause;
-use std::alloc::Global;
+use std::alloc::{AllocError, Global};
 
 /// A method, by the words of a line.
 #[derive(Drop)]
@@ -62,35 +62,61 @@ pub(crate) fn try_body(
     line: &str,
 ) -> Result<(), Trouble> {
     let body = Body::read(line)?;
-    let mut text = String::new(alloc);
-    body.add_to(&mut text)?;
-    let mut bytes = Vec::from_slice(alloc, around)?;
-    bytes.extend_from_slice(text.as_bytes())?;
-    setup.put("F/A.class", assembled(alloc, bytes.as_slice())?)?;
+    setup.put("F/A.class", class_with(alloc, around, &body)?)?;
     add_words(setup, "run F A")?;
+    run_body(alloc, setup, report, &body, line)
+}
+
+/// The class file of a text and a method behind it.
+fn class_with(alloc: Global, around: &[u8], body: &Body) -> Result<Vec<u8>, Trouble> {
+    let mut text = String::from_utf8(Vec::from_slice(alloc, around)?).map_err(
+        |_| Trouble::NotUnderstood,
+    )?;
+    body.add_to(&mut text)?;
+    assembled(alloc, text.as_bytes())
+}
+
+/// Runs the class A, and prints what came of it before the line.
+fn run_body(
+    alloc: Global,
+    setup: &mut Setup,
+    report: &mut String,
+    body: &Body,
+    line: &str,
+) -> Result<(), Trouble> {
     let ran = run_words(alloc, setup)?;
-    print_verdict(alloc, report, &body, &ran)?;
-    writeln!(report, ": {line}")?;
+    print_verdict(alloc, report, body, &ran, line)?;
     Ok(())
 }
 
-/// Prints that the class is typed, at which place the method fails, or what else the machine said.
+/// Prints that the class is typed, at which place the method fails, or what else the machine said, and the line.
 fn print_verdict(
     alloc: Global,
     report: &mut String,
     body: &Body,
     ran: &Ran,
-) -> Result<(), Trouble> {
-    let told = str::from_utf8(ran.err.bytes()).unwrap_or("no text");
-    let failing = format!(in alloc; "cbvm: E7 not verified A {}{} ", body.name, body.descriptor)?;
-    if was_run(ran.ended.cause) {
-        report.push_str("typed")?;
-    } else if let Some(place) = told.strip_prefix(failing.as_str()) {
-        write!(report, "fails at {}", place.trim_end())?;
+    line: &str,
+) -> Result<(), AllocError> {
+    let told = str::from_utf8(ran.err.bytes())
+        .unwrap_or("no text")
+        .trim_end();
+    if was_run(ran.cause) {
+        writeln!(report, "typed: {line}")
+    } else if let Some(place) = failing_place(alloc, body, told)? {
+        writeln!(report, "fails at {place}: {line}")
     } else {
-        write!(report, "{:?} {}", ran.ended.cause, told.trim_end())?;
+        writeln!(report, "{:?} {told}: {line}", ran.cause)
     }
-    Ok(())
+}
+
+/// The place at which the method fails, where the machine said so.
+fn failing_place<'a>(
+    alloc: Global,
+    body: &Body,
+    told: &'a str,
+) -> Result<Option<&'a str>, AllocError> {
+    let failing = format!(in alloc; "cbvm: E7 not verified A {}{} ", body.name, body.descriptor)?;
+    Ok(told.strip_prefix(failing.as_str()))
 }
 
 /// Whether a program was run, which is so only where it is typed.

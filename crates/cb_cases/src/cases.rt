@@ -2,6 +2,7 @@
 use crate::body::try_body;
 use crate::command::{do_command, link_main};
 use crate::content::{Named, change};
+use crate::data_file::text_of;
 use crate::linked::LinkedProgram;
 use crate::repeat::{Repeat, filled};
 use crate::setup::Setup;
@@ -42,7 +43,9 @@ pub(crate) struct Cases {
     bytes: Vec<u8>,
     /// The lines of a repetition that has not ended.
     repeat: Option<Repeat>,
-    /// How many lines were read.
+    /// The subject whose text is read.
+    subject: String,
+    /// How many lines of it were read.
     lines: usize,
     /// How many cases have begun.
     cases: usize,
@@ -64,6 +67,7 @@ impl Cases {
             target: Target::Nothing,
             bytes: Vec::new(alloc),
             repeat: None,
+            subject: String::new(alloc),
             lines: 0,
             cases: 0,
             troubles: 0,
@@ -81,24 +85,40 @@ impl Cases {
         self.troubles > 0
     }
 
-    /// Does what a line says. Its `data` lines read files of `data_folder`.
-    pub fn read_line<F: Folder>(
+    /// Does what the lines of a subject's text say, which is a file of `data_folder`. Its `data` lines read other files there.
+    pub fn read_subject<F: Folder>(
         &mut self,
         data_folder: &mut F,
-        line: &str,
+        subject: &str,
     ) -> Result<(), AllocError> {
+        self.subject = String::from_str(self.alloc, subject)?;
+        self.lines = 0;
+        match text_of(self.alloc, data_folder, subject) {
+            Ok(text) => self.read_lines(data_folder, text.as_str()),
+            Err(trouble) => self.tell(subject, Err(trouble)),
+        }
+    }
+
+    /// Does what lines say.
+    fn read_lines<F: Folder>(&mut self, data_folder: &mut F, text: &str) -> Result<(), AllocError> {
+        for line in text.lines() {
+            self.read_line(data_folder, line.trim_start())?;
+        }
+        Ok(())
+    }
+
+    /// Does what a line says.
+    fn read_line<F: Folder>(&mut self, data_folder: &mut F, line: &str) -> Result<(), AllocError> {
         self.lines = self.lines.saturating_add(1);
-        let line = line.trim_start();
-        if line.is_empty() || line.starts_with('#') {
+        if says_nothing(line) {
             return Ok(());
         }
         let answer = self.gather(data_folder, line);
         self.tell(line, answer)
     }
 
-    /// Ends the text.
+    /// Ends the texts.
     pub fn finish(&mut self) -> Result<(), AllocError> {
-        self.lines = self.lines.saturating_add(1);
         let answer = if self.is_open {
             Err(Trouble::NothingRun)
         } else if self.repeat.is_some() {
@@ -118,7 +138,11 @@ impl Cases {
     fn tell(&mut self, line: &str, answer: Result<(), Trouble>) -> Result<(), AllocError> {
         if let Err(trouble) = answer {
             self.troubles = self.troubles.saturating_add(1);
-            writeln!(self.report, "line {} {trouble}: {line}", self.lines)?;
+            writeln!(
+                self.report,
+                "{} {} {trouble}: {line}",
+                self.subject, self.lines
+            )?;
         }
         Ok(())
     }
@@ -241,6 +265,7 @@ impl Cases {
             "input" if rest.is_empty() => self.target = Target::Input,
             "folder" | "input" | "out" | "err" => self.setup.set_calls(keyword, rest)?,
             "word" => self.setup.add_word(rest)?,
+            "tally" if rest.is_empty() => self.setup.tell_tally(),
             "link" => {
                 self.program = link_main(self.alloc, &mut self.setup, &mut self.report, rest)?;
                 self.is_open = false;
@@ -305,6 +330,11 @@ impl Cases {
         }
         Ok(())
     }
+}
+
+/// Whether a line is empty or a comment.
+pub(crate) fn says_nothing(line: &str) -> bool {
+    line.is_empty() || line.starts_with('#')
 }
 
 /// The word at the front of a line, and what stands behind the blank after it.

@@ -1,4 +1,7 @@
 // The commands of cases.
+ghost use Rattle.std.specs.Prelude.{map, string_bytes};
+ghost use Rattle.cb_runner.specs.Words.{AreFew};
+
 use crate::linked::LinkedProgram;
 use crate::number::{narrow, number_of};
 use crate::printing::push_bytes;
@@ -7,11 +10,12 @@ use crate::setup::Setup;
 use crate::trouble::Trouble;
 use cb_asm::list;
 use cb_classfile::{ClassFile, unsupported};
+use cb_collector::Tally;
 use cb_core::core_classes;
-use cb_io::{MemSink, MemSource};
+use cb_io::{MemFolder, MemSink, MemSource};
 use cb_link::Program;
 use cb_load::link;
-use cb_runner::{Ended, are_few, run_command};
+use cb_runner::{Cause, are_few, run_command};
 use cb_writer::well_formed;
 use std::alloc::{AllocError, Global};
 
@@ -44,10 +48,12 @@ pub(crate) fn add_words(setup: &mut Setup, line: &str) -> Result<(), Trouble> {
     Ok(())
 }
 
-/// How a command ended, and what is left of the objects.
+/// How a command ended, what its collections came to, and what is left of the objects.
 #[derive(Drop)]
 pub(crate) struct Ran {
-    pub ended: Ended,
+    pub status: u8,
+    pub cause: Cause,
+    pub tally: Tally,
     pub input: MemSource,
     pub out: MemSink,
     pub err: MemSink,
@@ -59,34 +65,60 @@ pub(crate) fn run_words(alloc: Global, setup: &mut Setup) -> Result<Ran, Trouble
     if !are_few(words.as_slice()) {
         return Err(Trouble::TooManyWords);
     }
-    let mut folder = setup.take_folder()?;
-    let mut input = setup.take_input()?;
-    let mut out = setup.take_out();
-    let mut err = setup.take_err();
-    let ended = run_command(
-        alloc,
-        words.as_slice(),
-        &mut folder,
-        &mut input,
-        &mut out,
-        &mut err,
-    );
-    Ok(Ran {
-        ended,
+    let folder = setup.take_folder()?;
+    let input = setup.take_input()?;
+    let out = setup.take_out();
+    let err = setup.take_err();
+    Ok(run_over(alloc, words.as_slice(), folder, input, out, err))
+}
+
+/// Does what few words say.
+fn run_over(
+    alloc: Global,
+    words: &[String],
+    mut folder: MemFolder,
+    mut input: MemSource,
+    mut out: MemSink,
+    mut err: MemSink,
+) -> Ran
+    requires { AreFew (map string_bytes words.now) }
+{
+    let ended = run_command(alloc, words, &mut folder, &mut input, &mut out, &mut err);
+    Ran {
+        status: ended.status,
+        cause: ended.cause,
+        tally: ended.tally,
         input,
         out,
         err,
-    })
+    }
 }
 
 /// Does what the words say, and prints what came of it.
 fn run(alloc: Global, setup: &mut Setup, report: &mut String) -> Result<(), Trouble> {
     let ran = run_words(alloc, setup)?;
-    writeln!(report, "status {} {:?}", ran.ended.status, ran.ended.cause)?;
+    print_ran(report, &ran, setup.tells_tally())?;
+    Ok(())
+}
+
+/// Prints what came of a command, and its tally where that is asked for.
+fn print_ran(report: &mut String, ran: &Ran, tells_tally: bool) -> Result<(), AllocError> {
+    writeln!(report, "status {} {:?}", ran.status, ran.cause)?;
+    if tells_tally {
+        print_tally(report, ran.tally)?;
+    }
     push_bytes(report, "out", ran.out.bytes())?;
     push_bytes(report, "err", ran.err.bytes())?;
-    writeln!(report, "left {}", ran.input.remaining().len())?;
-    Ok(())
+    writeln!(report, "left {}", ran.input.remaining().len())
+}
+
+/// Prints how many collections there were, and how many words stayed and went.
+fn print_tally(report: &mut String, tally: Tally) -> Result<(), AllocError> {
+    writeln!(
+        report,
+        "tally {} {} {} {}",
+        tally.partials, tally.fulls, tally.visited, tally.freed
+    )
 }
 
 /// Links the main class of a folder.

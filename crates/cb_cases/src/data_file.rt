@@ -18,3 +18,13 @@ pub(crate) fn data_of<F: Folder>(
         Err(FolderError::OutOfMemory) => Err(Trouble::OutOfMemory),
     }
 }
+
+/// The text of a file beside the program.
+pub(crate) fn text_of<F: Folder>(
+    alloc: Global,
+    data_folder: &mut F,
+    name: &str,
+) -> Result<String, Trouble> {
+    let bytes = data_of(alloc, data_folder, name)?;
+    String::from_utf8(bytes).map_err(|_| Trouble::NotUnderstood)
+}

@@ -1,7 +1,7 @@
-//! The program `cb_cases`: runs the cases of the text that it reads, over objects in memory, and prints what came of each.
+//! The program `cb_cases`: runs the cases of texts, over objects in memory, and prints what came of each.
 //!
-//! The text says by its first lines how it is written. Nothing is promised of what is printed, which the gate compares with
-//! the file beside the text.
+//! It reads the names of the texts, which are files of the folder data/. The first lines beside these names say how the texts are
+//! written. Nothing is promised of what is printed, which the gate compares with the file `stdout`.
 #![tactic(auto)]
 
 mod asked_classes;
@@ -33,10 +33,10 @@ use std::io;
 use std::process::ExitCode;
 
 fn main(rt: HostRuntime) -> io::Result<ExitCode> {
-    let text = io::read_to_string(rt.alloc(), rt.stdin())?;
+    let subjects = io::read_to_string(rt.alloc(), rt.stdin())?;
     let mut data_folder = DirFolder::new(&rt);
     let mut cases = Cases::new(rt.alloc());
-    read_text(&mut cases, &mut data_folder, text.as_str())?;
+    read_subjects(&mut cases, &mut data_folder, subjects.as_str())?;
     print!(rt; "{}", cases.printed())?;
     Ok(if cases.had_trouble() {
         ExitCode::FAILURE
@@ -45,14 +45,16 @@ fn main(rt: HostRuntime) -> io::Result<ExitCode> {
     })
 }
 
-/// Does what the lines of a text say, the last of them too.
-fn read_text<F: Folder>(
+/// Reads the text of each subject, which a line names.
+fn read_subjects<F: Folder>(
     cases: &mut Cases,
     data_folder: &mut F,
-    text: &str,
+    subjects: &str,
 ) -> Result<(), AllocError> {
-    for line in text.lines() {
-        cases.read_line(data_folder, line)?;
+    for line in subjects.lines() {
+        if !cases::says_nothing(line) {
+            cases.read_subject(data_folder, line)?;
+        }
     }
     cases.finish()
 }

@@ -15,6 +15,7 @@ pub(crate) struct Setup {
     input: Vec<u8>,
     calls: Calls,
     words: Vec<String>,
+    tells_tally: bool,
 }
 
 impl Setup {
@@ -26,6 +27,7 @@ impl Setup {
             input: Vec::new(alloc),
             calls: Calls::new(alloc),
             words: Vec::new(alloc),
+            tells_tally: false,
         }
     }
 
@@ -33,6 +35,17 @@ impl Setup {
     pub fn begin_again(&mut self) {
         self.calls = Calls::new(self.alloc);
         self.words = Vec::new(self.alloc);
+        self.tells_tally = false;
+    }
+
+    /// Has what the collections come to printed.
+    pub fn tell_tally(&mut self) {
+        self.tells_tally = true;
+    }
+
+    /// Whether what the collections come to is printed.
+    pub fn tells_tally(&self) -> bool {
+        self.tells_tally
     }
 
     /// Puts a file into the folder, in the place of one that is there.
