@@ -1,4 +1,4 @@
--- A store without objects, and roots that name none.
+-- Roots that name no object, and a store without objects, or one whose objects name none that went.
 use Rattle.std.proofs.Common.{◌≡◌, ◌∙◌, ap, pred, refl, true, List, [], ◌∷◌, map, Some, IsTrue}
 use Rattle.std.specs.List.{AllByRecursion, list_all}
 use Rattle.cb_plain.specs.declared.want.Want.{Want}
@@ -14,6 +14,14 @@ closed_empty objects roots is none =
     record {
       roots = ap (λ held. list_all (is_held (map Some objects)) (root_references held)) (roots_are roots) ∙ ap (list_all (is_held (map Some objects))) none;
       objects = ap (λ held. list_all (is_held (map Some held)) (references_in (map Some held))) is;
+    }
+
+pub closed_with : (objects : List Object) (roots : Roots) → IsTrue (list_all (is_held (map Some objects)) (references_in (map Some objects))) → root_references roots ≡ []
+    → IsClosed (seen pred (map Some objects) roots)
+closed_with objects roots held none =
+    record {
+      roots = ap (λ held. list_all (is_held (map Some objects)) (root_references held)) (roots_are roots) ∙ ap (list_all (is_held (map Some objects))) none;
+      objects = held;
     }
 
 -- every request is for sites that it knows

@@ -1,5 +1,8 @@
 // The store that never lets an object go, with ample memory.
-ghost use Rattle.std.specs.Prelude.{◌≡◌, ◌+◌, ◌*◌, ◌≤◌, ◌<◌, ◌^◌, [], ◌∷◌, IfOk, Some, map};
+ghost use Rattle.std.specs.Prelude.{◌≡◌, ◌+◌, ◌*◌, ◌≤◌, ◌<◌, ◌^◌, [], ◌∷◌, IfOk, IsTrue, Some, map};
+ghost use Rattle.std.specs.List.{list_all};
+ghost use Rattle.cb_heap.specs.Closed.{references_in};
+ghost use Rattle.cb_heap.specs.Kept.{is_held};
 ghost use Rattle.cb_plain.specs.Requests.{spent, words_at};
 ghost use Rattle.cb_store_tests.specs.Cells.{HasArray, cells, two_kinds};
 
@@ -117,9 +120,32 @@ pub(crate) fn tell(alloc: Global, told: &mut String) -> Result<(), Stop> {
     Ok(write!(told, "{objects} {}", is_array(&heap, array, COUNT))?)
 }
 
-/// Tells what is answered to a request for so many words, and to a collection.
-pub(crate) fn tell_full(alloc: Global, told: &mut String, words: u64) -> Result<(), Stop> {
+/// Places an array of six references that are null.
+fn place_nulls(heap: &mut MapHeap)
+    requires shapes { heap.old.shapes ≡ two_kinds }
+    requires objects { heap.old.objects ≡ [] }
+    requires room { heap.old.granted ≡ record { site = 7; words = 9 } ∷ [] }
+    ensures { IsTrue (list_all (is_held (map Some heap.new.objects)) (references_in (map Some heap.new.objects))) }
+{
+    heap.place(7, 1, 6);
+}
+
+/// A store with an array of six references that are null, which are nine words.
+fn with_array(alloc: Global) -> Result<MapHeap, Stop>
+    ensures { IfOk result (λ heap. IsTrue (list_all (is_held (map Some heap.objects)) (references_in (map Some heap.objects)))) }
+{
     let mut heap = store(alloc)?;
+    let mut roots = no_roots(alloc)?;
+    let mut request = Request::new();
+    request.add(7, 9);
+    heap.make_room(&request, &mut roots)?;
+    place_nulls(&mut heap);
+    Ok(heap)
+}
+
+/// Tells what is answered to a request for so many words where nine words stand, and to a collection.
+pub(crate) fn tell_full(alloc: Global, told: &mut String, words: u64) -> Result<(), Stop> {
+    let mut heap = with_array(alloc)?;
     let mut roots = no_roots(alloc)?;
     let mut request = Request::new();
     request.add(3, words);
