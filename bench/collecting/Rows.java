@@ -3,11 +3,11 @@ public class Rows {
     public static void main(String[] args) {
         int[][] rows = new int[2000][100];
         long sum = 0;
-        for (int turn = 0; turn < 40; turn++) {
+        for (int turn = 0; turn < 400; turn++) {
             for (int row = 0; row < rows.length; row++) {
                 int[] fresh = new int[100];
-                fresh[turn] = row;
-                sum += rows[row][turn > 0 ? turn - 1 : 0];
+                fresh[turn % 100] = row;
+                sum += rows[row][(turn + 99) % 100];
                 rows[row] = fresh;
             }
         }
