@@ -4,7 +4,7 @@
     fewest.py CB_CASES [--write]
 
 CB_CASES is the program `cb_cases`. The texts are those of crates/cb_cases/data, in the order of crates/cb_cases/stdin. A case counts that runs a
-program without `--blocks`, outside of a repetition. In one block less the heap is full, which is tried too. Without `--write` the numbers are
+program without `--blocks`, outside of a repetition, and isn't followed by such a case yet. In one block less the heap is full, which is tried too. Without `--write` the numbers are
 printed alone; with it the texts get the cases, and `stdout` what those before them print, behind each. What was written before stays.
 """
 
@@ -16,7 +16,7 @@ import tempfile
 
 CRATE = pathlib.Path(__file__).resolve().parents[2] / "crates" / "cb_cases"
 TITLE = "the same in "
-ENDED = re.compile(r"status \d+ (Returned|Exited|Uncaught|BudgetSpent)")
+ENDED = re.compile(r"status \d+ (Returned|Exited|Uncaught|BudgetSpent|InputFault|OutputFault|ErrFault)")
 MOST = 16384
 
 
@@ -63,7 +63,8 @@ def runs_of(lines, begun):
             given.append(line)
         elif keyword == "command" and not within:
             words = [it.partition(" ")[2] for it in given if it.split()[0] == "word"] + rest.split()
-            if words[:1] == ["run"] and "--blocks" not in words:
+            is_there = any(it.startswith(f"again {TITLE}") for it in lines[place + 1 : place + 3])
+            if words[:1] == ["run"] and "--blocks" not in words and not is_there:
                 found.append(Run(place + 1, begun, given, rest))
     return found, begun
 
