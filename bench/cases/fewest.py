@@ -93,9 +93,8 @@ def tried(program, wanted):
             shift += len(more)
             order.append(run)
         changed[name] = lines
-    told = [it for it in printed(program, changed)]
     answers, last = [], None
-    for case in told:
+    for case in printed(program, changed):
         title, _, rest = case.partition("\n")
         rest = "\n".join(it for it in rest.strip().splitlines() if not it.startswith("tally") and not re.fullmatch(r"\d+ cases|\d+ lines in trouble|\w+\.txt \d+ .*", it)).strip()
         if title == "probe":
@@ -128,7 +127,6 @@ def main():
     if "--write" not in sys.argv:
         return
     by_number = {run.number: run for run in runs}
-    out = ["case " + told[0]]
     out = []
     for number, case in enumerate(told, 1):
         case = "case " + case.rstrip("\n")
